@@ -1,0 +1,1 @@
+// What acceptance of a file gives, as laws in proofs/. No functions.

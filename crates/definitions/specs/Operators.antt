@@ -1,0 +1,46 @@
+-- The operators (document 01, "Operators on signed 32 bits").
+use Prim.Native.Nat.{ℕ, zero, suc, _-_, _%_, _^_}
+use mathlib.Core.Bool.{Bool, true, false, cond, not, _&&_}
+use lib.IntN.{ℤ, pos, negsuc, _+ℤ_, _-ℤ_, _*ℤ_}
+use lib.Signed.{ltZ, quotZ}
+use lib.Dec.{eqb}
+use mir.Syntax.{Width, w32}
+use mir.Val.{bits, toZ}
+use Rattle.definitions.specs.Numbers.{zeroDivisor}
+
+-- what an operator gives: a number, or a run fault
+pub data Computed : Type 0 where
+  gives : ℤ → Computed
+  faults : ℕ → Computed
+
+-- the remainder of a number modulo 2 ^ w, and "reduced modulo 2^32 into the range", at any width
+unfoldable pub residue : Width → ℤ → ℕ
+residue w (pos n) = n % 2 ^ bits w
+residue w (negsuc n) = 2 ^ bits w - suc (n % 2 ^ bits w)
+
+unfoldable pub reduced : Width → ℤ → ℤ
+reduced w z = toZ w (residue w z)
+
+-- whether a number is zero; whether two are equal: neither is less
+unfoldable pub isZero : ℤ → Bool
+isZero (pos n) = eqb n 0
+isZero (negsuc n) = false
+
+unfoldable pub equal : ℤ → ℤ → Bool
+equal x y = not (ltZ x y) && not (ltZ y x)
+
+unfoldable pub truth : Bool → ℤ
+truth t = pos (cond t 1 0)
+
+-- "3 divide, towards zero, and -2,147,483,648 by -1 gives itself"
+unfoldable pub quotient : Width → ℤ → ℤ → Computed
+quotient w x y = cond (isZero y) (faults zeroDivisor) (gives (reduced w (quotZ x y)))
+
+-- the codes: 0 add, 1 subtract, 2 multiply, 3 divide, 4 less, 5 equal
+unfoldable pub computed : ℕ → ℤ → ℤ → Computed
+computed code x y =
+    cond (eqb code 0) (gives (reduced w32 (x +ℤ y)))
+    (cond (eqb code 1) (gives (reduced w32 (x -ℤ y)))
+    (cond (eqb code 2) (gives (reduced w32 (x *ℤ y)))
+    (cond (eqb code 3) (quotient w32 x y)
+    (cond (eqb code 4) (gives (truth (ltZ x y))) (gives (truth (equal x y)))))))

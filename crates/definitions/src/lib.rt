@@ -1,0 +1,13 @@
+// The types that the definitions in specs/ and the code share. The definitions are in specs/.
+
+// Which of the two files of document 01: a sheet or a translation.
+pub enum Layout {
+    Sheet,
+    Translation,
+}
+
+// What a reader says of a file: accepted, or the refusal's number and its place.
+pub enum Verdict {
+    Accepted,
+    Refused { number: u16, place: usize },
+}

@@ -1,0 +1,4 @@
+pub mod Indices
+pub mod Walking
+pub mod RunTables
+pub mod Readings

@@ -1,0 +1,26 @@
+-- `format::kinds::least` meets its contract: antt computes that the table is the rows' least lengths.
+use Rattle.laws.proofs.Lists.{table-entry}
+use Rattle.definitions.specs.Kinds.{row, rows, rowIn, rowOf}
+use Rattle.definitions.specs.Lists.{listed}
+use mathlib.Core.Path.{refl}
+use borrow.Author.Needs.{needs}
+use Rattle.format.proofs.kinds.least.Statement.{statement}
+use Rattle.format.proofs.kinds.least.Tie as tie
+use Rattle.format.proofs.kinds.least.Reads as reads
+use Rattle.format.proofs.kinds.least.Lts as lts
+
+-- src/kinds.rt:28:5
+mul-result : tie.Need-mul-result
+mul-result c = search needs
+
+-- src/kinds.rt:28:5
+array-read-result : tie.Need-array-read-result
+array-read-result c = search needs
+
+-- src/kinds.rt:24:1
+returns : tie.Need-returns
+unfolding listed row rows rowIn rowOf
+returns c = table-entry 57 _ (λ k. rowOf k .least) (c .args .kind) refl (c .pre)
+
+pub least-spec : {M : Type 1} → statement M
+least-spec = tie.close (tie.spec mul-result array-read-result returns)

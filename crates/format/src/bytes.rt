@@ -1,0 +1,49 @@
+// Little-endian fields. A read is total: a byte past the end is 0.
+ghost use mathlib.Core.Path.{_≡_};
+ghost use Prim.Native.Nat.{_<_};
+ghost use lib.ListN.{getD};
+ghost use Rattle.definitions.specs.Bytes.{word, word32, signed};
+
+// The byte at a place.
+fn byte(b: &[u8], at: usize) -> u16
+    ensures { λ r. ⌜ (r ≡ getD (now (b .entry)) at 0) × (r < 256) ⌝ }
+{
+    if at < b.len() { b[at] as u16 } else { 0 }
+}
+
+// The field of two bytes at a place.
+pub fn word(b: &[u8], at: usize) -> u16
+    ensures { λ r. ⌜ r ≡ word (now (b .entry)) at ⌝ }
+{
+    if at < b.len() {
+        byte(b, at) + 256 * byte(b, at + 1)
+    } else {
+        0
+    }
+}
+
+// The field of four bytes at a place.
+pub fn word32(b: &[u8], at: usize) -> u32
+    ensures { λ r. ⌜ r ≡ word32 (now (b .entry)) at ⌝ }
+{
+    let low = word(b, at) as u32;
+    if at < b.len() {
+        if at + 1 < b.len() {
+            let high = word(b, at + 2) as u32;
+            return low + 65536 * high;
+        }
+    }
+    low
+}
+
+// The signed 32-bit field at a place.
+pub fn signed(b: &[u8], at: usize) -> i32
+    ensures { λ r. ⌜ r ≡ signed (now (b .entry)) at ⌝ }
+{
+    let n = word32(b, at);
+    if n < 0x8000_0000 {
+        n as i32
+    } else {
+        (n as i64 - 0x1_0000_0000) as i32
+    }
+}

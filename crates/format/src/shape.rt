@@ -1,0 +1,230 @@
+// The checks of both files up to the left-over bytes, in one walk that also fills the index.
+ghost use mathlib.Core.Path.{_≡_};
+ghost use Prim.Native.Nat.{_+_, _≤_};
+ghost use lib.ListN.{length};
+ghost use Rattle.definitions.specs.Lists.{sumOf};
+ghost use Rattle.definitions.specs.Layouts.{functions, firstFunction, nodeCount, due};
+ghost use Rattle.definitions.specs.Shape.{fileLimit, headCounts, runCounts, counts, operatorCode, shapeAt};
+ghost use Rattle.format.specs.Index.{Indexed, Walked};
+use crate::bytes::word;
+use crate::kinds::allows;
+use crate::layout::count_field;
+use crate::layout::due;
+use crate::layout::file_limit;
+use crate::layout::first_function;
+use crate::layout::functions;
+use crate::layout::is_due;
+use crate::layout::item_limit;
+use crate::layout::items;
+use crate::layout::nodes;
+use crate::layout::readings;
+use crate::records::field;
+use crate::records::indexed;
+use crate::records::kind;
+use crate::records::record_at;
+use definitions::Layout;
+use definitions::Verdict;
+
+// The verdict on a file's shape, and where its records start; of a refused file only the verdict counts.
+pub struct Shaped {
+    pub verdict: Verdict,
+    pub starts: [u16; 1601],
+}
+
+// The head's counts are in their ranges.
+fn head_counts(y: Layout, b: &[u8]) -> bool
+    ensures { λ t. ⌜ t ≡ headCounts y (now (b .entry)) ⌝ }
+{
+    if 32 < readings(b) {
+        return false;
+    }
+    if item_limit(y) < items(b) {
+        return false;
+    }
+    let f = functions(b);
+    if f < 1 {
+        return false;
+    }
+    if 64 < f {
+        return false;
+    }
+    let n = nodes(b);
+    if n < 1 {
+        return false;
+    }
+    n <= 1024
+}
+
+// The sum of the functions' node counts.
+fn run_total(y: Layout, b: &[u8], starts: &[u16; 1601]) -> usize
+    requires { ⌜ Indexed (now b) (now starts) (firstFunction y (now b) + functions (now b)) ⌝ }
+    ensures { λ r. ⌜ r ≡ sumOf (functions (now (b .entry))) (nodeCount y (now (b .entry))) ⌝ }
+{
+    let first = first_function(y, b);
+    let count = functions(b) as usize;
+    let j = count_field(y);
+    let mut total: usize = 0;
+    let mut f: usize = 0;
+    while f < count {
+        total += field(indexed(b, starts, first + f), j) as usize;
+        f += 1;
+    }
+    total
+}
+
+// A function's counts: its own node count, and at the last function the sum.
+fn run_counts(y: Layout, b: &[u8], starts: &[u16; 1601], r: usize, rec: &[u8]) -> bool
+    requires { ⌜ Indexed (now b) (now starts) (r + 1) ⌝ }
+    ensures { λ t. ⌜ t ≡ runCounts y (now (b .entry)) r (now (rec .entry)) ⌝ }
+{
+    if field(rec, count_field(y)) < 1 {
+        return false;
+    }
+    if r + 1 == first_function(y, b) + functions(b) as usize {
+        return run_total(y, b, starts) == nodes(b) as usize;
+    }
+    true
+}
+
+// The counts of record `r`.
+fn counts(y: Layout, b: &[u8], starts: &[u16; 1601], r: usize, rec: &[u8]) -> bool
+    requires { ⌜ Indexed (now b) (now starts) (r + 1) ⌝ }
+    ensures { λ t. ⌜ t ≡ counts y (now (b .entry)) r (now (rec .entry)) ⌝ }
+{
+    if r == 0 {
+        return head_counts(y, b);
+    }
+    let k = kind(rec);
+    if k == 2 {
+        return field(rec, 0) <= 8;
+    }
+    if k == 3 {
+        if 8 < field(rec, 0) {
+            return false;
+        }
+        return run_counts(y, b, starts, r, rec);
+    }
+    if k == 34 {
+        return run_counts(y, b, starts, r, rec);
+    }
+    true
+}
+
+// The operator code is at most 5, in a record that has one.
+fn operator_code(rec: &[u8]) -> bool
+    ensures { λ t. ⌜ t ≡ operatorCode (now (rec .entry)) ⌝ }
+{
+    let k = kind(rec);
+    if k == 20 {
+        return field(rec, 0) <= 5;
+    }
+    if k == 52 {
+        return field(rec, 0) <= 5;
+    }
+    true
+}
+
+// The checks of record `r`, which starts at `at`.
+fn shape_at(y: Layout, b: &[u8], starts: &[u16; 1601], r: usize, at: usize) -> Verdict
+    requires { ⌜ (Indexed (now b) (now starts) (r + 1)) × (at ≤ length (now b)) ⌝ }
+    ensures { λ v. ⌜ v ≡ shapeAt y (now (b .entry)) r at ⌝ }
+{
+    let left = b.len() - at;
+    if left < 4 {
+        return Verdict::Refused {
+            number: 1,
+            place: r,
+        };
+    }
+    let k = word(b, at + 2);
+    let n = word(b, at);
+    if !is_due(y, b, r, k) {
+        return Verdict::Refused {
+            number: 3,
+            place: r,
+        };
+    }
+    if !allows(k, n) {
+        return Verdict::Refused {
+            number: 3,
+            place: r,
+        };
+    }
+    if left < n as usize {
+        return Verdict::Refused {
+            number: 1,
+            place: r,
+        };
+    }
+    let rec = record_at(b, at);
+    if !operator_code(rec) {
+        return Verdict::Refused {
+            number: 3,
+            place: r,
+        };
+    }
+    if !counts(y, b, starts, r, rec) {
+        return Verdict::Refused {
+            number: 4,
+            place: r,
+        };
+    }
+    Verdict::Accepted
+}
+
+// One walk by lengths: the checks of every record due, then of bytes left over; the places go into the index.
+fn walk(y: Layout, b: &[u8]) -> Shaped
+    requires { ⌜ length (now b) ≤ fileLimit y ⌝ }
+    ensures { λ w. ⌜ Walked y (now (b .entry)) (w .verdict) (w .starts) ⌝ }
+{
+    let mut starts = [0u16; 1601];
+    let head = shape_at(y, b, &starts, 0, 0);
+    let Verdict::Accepted = head else {
+        return Shaped {
+            verdict: head,
+            starts,
+        };
+    };
+    let count = due(b);
+    let mut at: usize = word(b, 0) as usize;
+    let mut r: usize = 1;
+    while r < count {
+        starts[r] = at as u16;
+        let v = shape_at(y, b, &starts, r, at);
+        let Verdict::Accepted = v else {
+            return Shaped { verdict: v, starts };
+        };
+        at += word(b, at) as usize;
+        r += 1;
+    }
+    if at == b.len() {
+        Shaped {
+            verdict: Verdict::Accepted,
+            starts,
+        }
+    } else {
+        Shaped {
+            verdict: Verdict::Refused {
+                number: 3,
+                place: count,
+            },
+            starts,
+        }
+    }
+}
+
+// The checks of a file up to the left-over bytes, and the index of its records.
+pub fn file_shape(y: Layout, b: &[u8]) -> Shaped
+    ensures { λ w. ⌜ Walked y (now (b .entry)) (w .verdict) (w .starts) ⌝ }
+{
+    if file_limit(y) < b.len() {
+        return Shaped {
+            verdict: Verdict::Refused {
+                number: 2,
+                place: 0,
+            },
+            starts: [0u16; 1601],
+        };
+    }
+    walk(y, b)
+}

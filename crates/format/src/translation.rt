@@ -1,0 +1,108 @@
+// The reader of translations.
+ghost use mathlib.Core.Path.{_≡_};
+ghost use Prim.Native.Nat.{_≤_, _<_};
+ghost use Rattle.definitions.specs.Records.{kindOf};
+ghost use Rattle.definitions.specs.Layouts.{due};
+ghost use Rattle.definitions.specs.References.{namesInRange, references};
+ghost use Rattle.definitions.specs.Verdicts.{firstOf};
+ghost use Rattle.definitions.specs.declared.Layout.the-variants.{Translation};
+ghost use Rattle.format.specs.Index.{Opened, ReadTranslation};
+use crate::layout::due;
+use crate::layout::functions;
+use crate::layout::items;
+use crate::layout::nodes;
+use crate::layout::readings;
+use crate::records::field;
+use crate::records::indexed;
+use crate::records::kind;
+use crate::references::children_below;
+use crate::runs::run_ends;
+use crate::shape::file_shape;
+use definitions::Layout;
+use definitions::Verdict;
+
+// What reading a translation gives: the verdict, where its records start, and where the runs of its functions end. Of a
+// refused file only the verdict counts.
+pub struct TranslationRead {
+    pub verdict: Verdict,
+    pub starts: [u16; 1601],
+    pub ends: [u16; 64],
+}
+
+// Whether what a record names besides nodes is there.
+fn names_in_range(b: &[u8], r: usize, rec: &[u8]) -> bool
+    requires { ⌜ 33 ≤ kindOf (now rec) ⌝ }
+    ensures { λ t. ⌜ t ≡ namesInRange (now (b .entry)) r (now (rec .entry)) ⌝ }
+{
+    let k = kind(rec);
+    if k == 49 {
+        return field(rec, 0) < readings(b);
+    }
+    if k == 54 {
+        return field(rec, 1) < functions(b);
+    }
+    if k == 50 {
+        return field(rec, 0) < items(b);
+    }
+    true
+}
+
+// The check 5 of record `r`.
+fn references_at(b: &[u8], starts: &[u16; 1601], r: usize) -> Verdict
+    requires { ⌜ Opened Translation (now b) (now starts) × (r < due (now b)) ⌝ }
+    ensures { λ v. ⌜ v ≡ references (now (b .entry)) r ⌝ }
+{
+    let rec = indexed(b, starts, r);
+    if !children_below(rec, nodes(b) as usize) {
+        return Verdict::Refused {
+            number: 5,
+            place: r,
+        };
+    }
+    if !names_in_range(b, r, rec) {
+        return Verdict::Refused {
+            number: 5,
+            place: r,
+        };
+    }
+    Verdict::Accepted
+}
+
+// The check 5 of every record.
+fn references(b: &[u8], starts: &[u16; 1601]) -> Verdict
+    requires { ⌜ Opened Translation (now b) (now starts) ⌝ }
+    ensures { λ v. ⌜ v ≡ firstOf (due (now (b .entry))) (references (now (b .entry))) ⌝ }
+{
+    let count = due(b);
+    let mut r: usize = 0;
+    while r < count {
+        let v = references_at(b, starts, r);
+        let Verdict::Accepted = v else {
+            return v;
+        };
+        r += 1;
+    }
+    Verdict::Accepted
+}
+
+// Reads a translation.
+pub fn read_translation(b: &[u8]) -> TranslationRead
+    ensures { λ r. ⌜ ReadTranslation (now (b .entry)) (r .verdict) (r .starts) (r .ends) ⌝ }
+{
+    let w = file_shape(Layout::Translation, b);
+    let v = w.verdict;
+    let starts = w.starts;
+    let Verdict::Accepted = v else {
+        return TranslationRead {
+            verdict: v,
+            starts,
+            ends: [0u16; 64],
+        };
+    };
+    let ends = run_ends(Layout::Translation, b, &starts);
+    TranslationRead {
+        verdict: references(b, &starts),
+        starts,
+        ends,
+    }
+}

@@ -1,0 +1,11 @@
+pub mod Bytes
+pub mod Records
+pub mod Lists
+pub mod Verdicts
+pub mod KindRows
+pub mod Shape
+pub mod Runs
+pub mod Tests
+pub mod References
+pub mod Names
+pub mod Walk

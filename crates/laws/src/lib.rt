@@ -1,0 +1,1 @@
+// Laws of the definitions, for the crates above: proofs/.

@@ -1,0 +1,3 @@
+pub mod Opened
+pub mod Observed
+pub mod Starred

@@ -1,0 +1,63 @@
+-- The definitions that a trial computes with, opened together: `unfolding opened` opens them all.
+use Rattle.definitions.specs.Bytes
+use Rattle.definitions.specs.Lists
+use Rattle.definitions.specs.Records
+use Rattle.definitions.specs.Layouts
+use Rattle.definitions.specs.Kinds
+use Rattle.definitions.specs.Verdicts
+use Rattle.definitions.specs.Shape
+use Rattle.definitions.specs.References
+use Rattle.definitions.specs.Checks
+use Rattle.definitions.specs.NodeFields
+use Rattle.definitions.specs.Operators
+use Rattle.definitions.specs.Outcomes
+use Rattle.definitions.specs.SheetNodes
+use Rattle.definitions.specs.Meaning
+use Rattle.definitions.specs.Translate
+use Rattle.definitions.specs.TranslationNodes
+use Rattle.definitions.specs.Rule
+use Rattle.definitions.specs.Cells
+use Rattle.definitions.specs.Run
+use Rattle.meaning.specs.Evaluator
+use Rattle.sheets.specs.Sheets
+use Rattle.sheets.specs.Starred
+
+unfoldable pub opened : Unit {0}
+unfolding
+    Bytes.word Bytes.word32 Bytes.signed Bytes.wordBytes Bytes.words32 Bytes.bytesOf
+    Lists.joined Lists.listed Lists.sumOf Lists.countOf Lists.allOf Lists.lastOf
+    Records.whole Records.next Records.startOf Records.recordAt Records.recordOf Records.fieldCount
+    Layouts.sectionKind Layouts.isDue Layouts.runEnd Layouts.bodyOf Layouts.ownerOf
+    Kinds.row Kinds.rows Kinds.rowIn Kinds.rowOf Kinds.allows
+    Verdicts._andThen_ Verdicts.require Verdicts.firstOf
+    Shape.within Shape.headCounts Shape.runCounts Shape.counts Shape.operatorCode Shape.shapeAt Shape.shape
+    Shape.fileShape
+    References.fromFirst References.fromSecond References.everyOther References.childCount References.childField
+    References.children References.child References.clauses References.clauseConstructor References.namesInRange
+    References.inRange References.references
+    Checks.argumentsMatch Checks.arguments Checks.timesChild Checks.isBody Checks.childrenRight Checks.clausesRise
+    Checks.treeRight Checks.tree Checks.parentOf Checks.clauseOf Checks.clauseWithin Checks.belowArity
+    Checks.patternRight Checks.pattern Checks.sheetVerdict Checks.translationVerdict
+    NodeFields.fieldsFrom NodeFields.clauseList NodeFields.chosen
+    Operators.residue Operators.reduced Operators.isZero Operators.equal Operators.truth Operators.quotient
+    Operators.computed
+    Outcomes.numberOutcome Outcomes.constructorOutcome Outcomes.endOutcome
+    SheetNodes.sheetNode SheetNodes.sheetNodeOf
+    Meaning.closureAt Meaning.argumentOf Meaning.heldField Meaning.endOf Meaning.outcomeOf
+    Translate.recordWords Translate.calls Translate.labelOf Translate.formalOf Translate.formals Translate.actuals
+    Translate.scrutineeOf Translate.clauseWords Translate.translated Translate.headWords Translate.functionWords
+    Translate.formalWords Translate.nodeWords Translate.translationWords Translate.translation
+    TranslationNodes.translationNode TranslationNodes.translationNodeOf TranslationNodes.actual TranslationNodes.tagOf
+    TranslationNodes.tupleFields
+    Rule.reach Rule.withStep Rule.numberDue Rule.constructorDue Rule.nodeDue Rule.resultOf Rule.selected
+    Rule.evaluated Rule.visited
+    Cells.cellOf Cells.underTail Cells.formalByCells Cells.withCell Cells.whereCell Cells.callByCells Cells.byCells
+    Cells.evaluation Cells.cellWords Cells.cellBytes
+    Run.endingOutcome Run.endingNode Run.endingContext Run.answerOf Run.refusal Run.runVerdict Run.answerAfter
+    Run.runAnswer Run.cellsOver Run.bytesAfter Run.runCells
+    Evaluator.numberDue Evaluator.constructorDue Evaluator.clauseDue Evaluator.closureDue Evaluator.endBy
+    Evaluator.endWithin Evaluator.ownWithin
+    Sheets.S Sheets.unusedDivision Sheets.divisionByZero Sheets.headOfOnes Sheets.negativeDivision Sheets.overflow
+    Sheets.loop Sheets.nestedCalls Sheets.boxes Sheets.bytesOfS Sheets.translationOfS
+    Starred.answering Starred.trial Starred.starred
+opened = tt

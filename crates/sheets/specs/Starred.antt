@@ -1,0 +1,96 @@
+-- The starred lines of document 01, "Sheets to try", as a list of trials, and the statement over the list.
+use mathlib.Core.Path.{_≡_}
+use Prim.Native.Nat.{ℕ, suc, _*_}
+use mathlib.Core.List.{List, [], _∷_, List·Memᴰ}
+use mathlib.Core.Option.{Option, none, some}
+use lib.IntN.{pos, negsuc}
+use lib.ListN.{length, replicate}
+use Rattle.definitions.specs.Numbers.{noStep, noNesting, noCell, zeroDivisor}
+use Rattle.definitions.specs.Layouts.{itemRecord}
+use Rattle.definitions.specs.NodeFields.{fieldsFrom}
+use Rattle.definitions.specs.Outcomes.{Outcome, numberOutcome, endOutcome}
+use Rattle.definitions.specs.Translate.{translation}
+use Rattle.definitions.specs.Run.{Answer}
+use Rattle.definitions.specs.declared.Layout.the-variants.{Translation}
+use Rattle.sheets.specs.Sheets.{S, unusedDivision, divisionByZero, headOfOnes, negativeDivision, overflow, loop, nestedCalls, boxes, bytesOfS, translationOfS}
+use Rattle.sheets.specs.Trial.{Trial, Holds}
+
+-- an outcome with its value after a number of steps, with a number of cells made; it is no constructor
+unfoldable pub answering : Outcome → ℕ → ℕ → Answer
+answering o steps cells =
+    record { outcome = o .outcome; value = o .value; steps = steps; node = 0; context = 0; cells = cells }
+
+-- a trial without readings, with steps, nesting and cells allowed; lent are four bytes for each cell and four more, all 170
+unfoldable pub trial : List ℕ → ℕ → ℕ → ℕ → Answer → List ℕ → Option Outcome → Trial
+trial sheet steps nesting cells answer made own =
+    record {
+      sheet = sheet;
+      readings = [];
+      steps = steps;
+      nesting = nesting;
+      cells = cells;
+      before = replicate (4 * suc cells) 170;
+      answer = answer;
+      made = made;
+      own = own;
+    }
+
+-- the starred lines in the document's order, with its words above each; the last three are more than it asks for
+unfoldable pub starred : List Trial
+starred =
+    -- S: 10, 13 steps, 2 cells
+    trial S 1000 100 100
+    (answering (numberOutcome (pos 10)) 13 2) (0 ∷ 0 ∷ 0 ∷ 0 ∷ 1 ∷ 0 ∷ 0 ∷ 0 ∷ []) (some (numberOutcome (pos 10)))
+    -- S with 12 steps: 11
+    ∷ trial S 12 100 100
+    (answering (endOutcome noStep) 12 2) (0 ∷ 0 ∷ 0 ∷ 0 ∷ 1 ∷ 0 ∷ 0 ∷ 0 ∷ []) (some (numberOutcome (pos 10)))
+    -- S with nesting 4: 12 after 4 steps, 1 cell
+    ∷ trial S 1000 4 100
+    (answering (endOutcome noNesting) 4 1) (0 ∷ 0 ∷ 0 ∷ 0 ∷ []) (some (numberOutcome (pos 10)))
+    -- nesting 5 answers
+    ∷ trial S 1000 5 100
+    (answering (numberOutcome (pos 10)) 13 2) (0 ∷ 0 ∷ 0 ∷ 0 ∷ 1 ∷ 0 ∷ 0 ∷ 0 ∷ []) (some (numberOutcome (pos 10)))
+    -- S with one cell: 13 after 8 steps
+    ∷ trial S 1000 100 1
+    (answering (endOutcome noCell) 8 1) (0 ∷ 0 ∷ 0 ∷ 0 ∷ []) (some (numberOutcome (pos 10)))
+    -- k(1, 1/0): 1
+    ∷ trial unusedDivision 1000 100 100
+    (answering (numberOutcome (pos 1)) 3 1) (0 ∷ 0 ∷ 0 ∷ 0 ∷ []) (some (numberOutcome (pos 1)))
+    -- 1/0: 17
+    ∷ trial divisionByZero 1000 100 100
+    (answering (endOutcome zeroDivisor) 3 0) [] (some (endOutcome zeroDivisor))
+    -- head(ones): 1, 10 steps, 3 cells
+    ∷ trial headOfOnes 1000 100 100
+    (answering (numberOutcome (pos 1)) 10 3) (replicate 12 0) (some (numberOutcome (pos 1)))
+    -- -7 / 2 = -3
+    ∷ trial negativeDivision 1000 100 100
+    (answering (numberOutcome (negsuc 2)) 3 0) [] (some (numberOutcome (negsuc 2)))
+    -- 2,147,483,647 + 1 = -2,147,483,648
+    ∷ trial overflow 1000 100 100
+    (answering (numberOutcome (negsuc 2147483647)) 3 0) [] (some (numberOutcome (negsuc 2147483647)))
+    -- loop with 3 steps, nesting 9, 9 cells: 11
+    ∷ trial loop 3 9 9
+    (answering (endOutcome noStep) 3 3) (0 ∷ 0 ∷ 0 ∷ 0 ∷ 1 ∷ 0 ∷ 1 ∷ 0 ∷ 1 ∷ 0 ∷ 2 ∷ 0 ∷ []) none
+    -- loop with nesting 1: 12 after 1 step, 1 cell
+    ∷ trial loop 3 1 9
+    (answering (endOutcome noNesting) 1 1) (0 ∷ 0 ∷ 0 ∷ 0 ∷ []) none
+    -- f(h(2), 7): -12
+    ∷ trial nestedCalls 1000 100 100
+    (answering (numberOutcome (negsuc 11)) 19 4)
+    (0 ∷ 0 ∷ 0 ∷ 0 ∷ 0 ∷ 0 ∷ 0 ∷ 0 ∷ 2 ∷ 0 ∷ 2 ∷ 0 ∷ 1 ∷ 0 ∷ 2 ∷ 0 ∷ []) (some (numberOutcome (negsuc 11)))
+    -- open(wrap(9)) - open(wrap(4)): 5
+    ∷ trial boxes 1000 100 100
+    (answering (numberOutcome (pos 5)) 23 6)
+    (0 ∷ 0 ∷ 0 ∷ 0 ∷ 1 ∷ 0 ∷ 0 ∷ 0 ∷ 1 ∷ 0 ∷ 0 ∷ 0 ∷ 1 ∷ 0 ∷ 0 ∷ 0 ∷ 0 ∷ 0 ∷ 0 ∷ 0 ∷ 0 ∷ 0 ∷ 0 ∷ 0 ∷ [])
+    (some (numberOutcome (pos 5)))
+    ∷ []
+
+-- "The starred sheets are to be proved of the rules by one statement over a list"; "S: .. 92 bytes; 96 translated; the formal
+-- lists nodes 0, 2"
+pub record Starred : Type 0 where
+  pub hold : (t : Trial) → List·Memᴰ t starred → Holds t
+  pub bytes : S ≡ bytesOfS
+  pub byteCount : length S ≡ 92
+  pub translated : translation S ≡ translationOfS
+  pub translatedCount : length (translation S) ≡ 96
+  pub formal : fieldsFrom (itemRecord Translation (translation S) 0) 0 ≡ 0 ∷ 2 ∷ []
