@@ -1,5 +1,5 @@
 -- The checks that an accepted sheet and an accepted translation have passed, each by itself.
-use mathlib.Core.Path.{_≡_, refl}
+use mathlib.Core.Path.{_≡_}
 use Prim.Native.Nat.{ℕ, _+_, _<_}
 use mathlib.Core.List.{List}
 use mathlib.Core.Bool.{true}
@@ -11,7 +11,6 @@ use Rattle.definitions.specs.Shape.{fileShape}
 use Rattle.definitions.specs.References.{inRange, references}
 use Rattle.definitions.specs.Checks.{argumentsMatch, arguments, treeRight, tree, patternRight, pattern, sheetVerdict, translationVerdict}
 use Rattle.definitions.specs.declared.Layout.the-variants.{Sheet, Translation}
-use Rattle.definitions.specs.declared.Verdict.{Verdict}
 use Rattle.definitions.specs.declared.Verdict.the-variants.{Accepted}
 use Rattle.laws.proofs.Verdicts.{both-accepted, required, first-each}
 
@@ -25,10 +24,9 @@ pub record SheetChecks (b : List ℕ) : Type 0 where
 sheet-checks : (b : List ℕ) → sheetVerdict b ≡ Accepted → SheetChecks b
 unfolding sheetVerdict
 sheet-checks b e =
-    let names = firstOf (due b) (λ r. references b r andThen arguments b r) in
-    let p = both-accepted (fileShape Sheet b andThen names andThen firstOf (nodes b) (tree b)) (firstOf (nodes b) (pattern b)) e in
-    let q = both-accepted (fileShape Sheet b andThen names) (firstOf (nodes b) (tree b)) (p .0) in
-    let s = both-accepted (fileShape Sheet b) names (q .0) in
+    let p = both-accepted _ _ e in
+    let q = both-accepted _ _ (p .0) in
+    let s = both-accepted _ _ (q .0) in
     record { shape = s .0; names = s .1; trees = q .1; patterns = p .1 }
 
 module _ (b : List ℕ) (accepted : sheetVerdict b ≡ Accepted) where

@@ -6,7 +6,6 @@ use native.Mathlib.Omega.{arith}
 use native.Mathlib.Nat.{not-suc-le-zero, zero-add, suc-add}
 use native.Mathlib.Decide.{ℕ-discrete, decLt}
 use Rattle.definitions.specs.Lists.{countOf, lastOf}
-use Rattle.laws.proofs.Lists.{below-suc}
 use Rattle.accepted.proofs.Sums.{Below, one-more}
 
 count-step : (t : Bool) (n : ℕ) → n ≤ cond t (suc n) n
@@ -84,7 +83,8 @@ none-from zero i test e = rw zero-add refl
 none-from (suc k) i test e =
     rw (suc-add, e (k + i) (omega arith) (omega arith), none-from k i test (λ j l h. e j l (omega arith))) refl
 
-pub count-none-from : (i n : ℕ) (test : ℕ → Bool) → i ≤ n → ((j : ℕ) → i ≤ j → j < n → test j ≡ false) → countOf n test ≡ countOf i test
+pub count-none-from : (i n : ℕ) (test : ℕ → Bool) → i ≤ n → ((j : ℕ) → i ≤ j → j < n → test j ≡ false)
+    → countOf n test ≡ countOf i test
 count-none-from i n test h e =
     let k : n - i + i ≡ n = omega arith in
     rw k at (none-from (n - i) i test (λ j l m. e j l (omega arith)))

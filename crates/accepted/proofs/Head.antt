@@ -1,17 +1,18 @@
 -- The ranges of the head's counts in a file whose shape is accepted, and how many records are due at most.
-use mathlib.Core.Path.{_≡_, refl}
-use Prim.Native.Nat.{ℕ, suc, _+_, _≤_, _<_}
+use mathlib.Core.Path.{_≡_}
+use Prim.Native.Nat.{ℕ, _+_, _≤_}
 use mathlib.Core.List.{List}
-use mathlib.Core.Bool.{true, _&&_, and-eq-true-iff}
+use mathlib.Core.Bool.{true, and-eq-true-iff}
 use native.Mathlib.Omega.{arith}
 use lib.Dec.{leb}
 use borrow.Author.Tests.{leb-true, eqb-true}
 use Rattle.definitions.specs.Records.{recordOf, kindOf}
 use Rattle.definitions.specs.Layouts.{readings, items, functions, nodes, due, headKind, isDue}
-use Rattle.definitions.specs.Shape.{itemLimit, within, headCounts, counts, fileShape}
+use Rattle.definitions.specs.Shape.{itemLimit, within, fileShape}
 use Rattle.definitions.specs.declared.Layout.{Layout}
 use Rattle.definitions.specs.declared.Layout.the-variants.{Sheet, Translation}
 use Rattle.definitions.specs.declared.Verdict.the-variants.{Accepted}
+use Rattle.laws.proofs.Walk.{HeadRanges, head-ranges}
 use Rattle.accepted.proofs.Records.{kind-due, counts-right}
 
 -- a number in a range
@@ -25,60 +26,36 @@ within-by l g n e =
     let p = and-eq-true-iff (leb l n) (leb n g) .0 e in
     record { least = leb-true l n (p .0); greatest = leb-true n g (p .1) }
 
--- the four counts
-pub record HeadCounts (y : Layout) (b : List ℕ) : Type 0 where
-  pub readings-range : Within 0 32 (readings b)
-  pub items-range : Within 0 (itemLimit y) (items b)
-  pub functions-range : Within 1 64 (functions b)
-  pub nodes-range : Within 1 1024 (nodes b)
-
-counts-by : (y : Layout) (b : List ℕ) → headCounts y b ≡ true → HeadCounts y b
-unfolding headCounts
-counts-by y b e =
-    let i = within 0 32 (readings b) in
-    let m = within 0 (itemLimit y) (items b) in
-    let f = within 1 64 (functions b) in
-    let p = and-eq-true-iff (i && m && f) (within 1 1024 (nodes b)) .0 e in
-    let q = and-eq-true-iff (i && m) f .0 (p .0) in
-    let s = and-eq-true-iff i m .0 (q .0) in
-    record {
-      readings-range = within-by 0 32 (readings b) (s .0);
-      items-range = within-by 0 (itemLimit y) (items b) (s .1);
-      functions-range = within-by 1 64 (functions b) (q .1);
-      nodes-range = within-by 1 1024 (nodes b) (p .1);
-    }
-
 module _ (y : Layout) (b : List ℕ) (accepted : fileShape y b ≡ Accepted) where
   -- the head is the first record
   pub head-kind : kindOf (recordOf b 0) ≡ headKind y
   unfolding isDue
   head-kind = eqb-true (kindOf (recordOf b 0)) (headKind y) (kind-due y b accepted 0 (omega arith))
 
-  pub head-counts : HeadCounts y b
-  unfolding counts
-  head-counts = counts-by y b (counts-right y b accepted 0 (omega arith))
+  ranges : HeadRanges y b
+  ranges = head-ranges y b (recordOf b 0) (counts-right y b accepted 0 (omega arith))
 
   -- "readings I 0..32"
   pub readings-limit : readings b ≤ 32
-  readings-limit = head-counts .readings-range .greatest
+  readings-limit = ranges .readings
 
   -- "constructors K 0..64", "formals P 0..512"
   pub items-limit : items b ≤ itemLimit y
-  items-limit = head-counts .items-range .greatest
+  items-limit = ranges .items
 
   -- "functions F 1..64"
   pub functions-least : 1 ≤ functions b
-  functions-least = head-counts .functions-range .least
+  functions-least = ranges .function
 
   pub functions-limit : functions b ≤ 64
-  functions-limit = head-counts .functions-range .greatest
+  functions-limit = ranges .functions
 
   -- "nodes N 1..1,024"
   pub nodes-least : 1 ≤ nodes b
-  nodes-least = head-counts .nodes-range .least
+  nodes-least = ranges .node
 
   pub nodes-limit : nodes b ≤ 1024
-  nodes-limit = head-counts .nodes-range .greatest
+  nodes-limit = ranges .nodes
 
   pub due-limit : due b ≤ 1089 + itemLimit y
   due-limit = omega (arith, items-limit, functions-limit, nodes-limit)

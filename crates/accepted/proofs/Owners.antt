@@ -1,20 +1,19 @@
 -- The runs of nodes that functions own, in a file whose shape is accepted: the runs follow each other and fill the nodes, a
 -- body is the last node of its run, and each node has one owner.
-use mathlib.Core.Path.{_≡_, refl, sym}
-use Prim.Native.Nat.{ℕ, zero, suc, pred, _+_, _-_, _≤_, _<_}
+use mathlib.Core.Path.{_≡_, refl}
+use Prim.Native.Nat.{ℕ, zero, suc, _+_, _-_, _≤_, _<_}
 use mathlib.Core.List.{List}
-use mathlib.Core.Bool.{Bool, true, false}
 use native.Mathlib.Omega.{arith}
 use native.Mathlib.Nat.{suc-pred-eq-of-pos}
 use native.Mathlib.Decide.{decLe, decLt}
 use lib.Dec.{leb}
-use borrow.Author.Tests.{leb-true, leb-false, le-leb, lt-leb}
-use Rattle.definitions.specs.Lists.{sumOf, countOf}
+use borrow.Author.Tests.{le-leb, lt-leb}
+use Rattle.definitions.specs.Lists.{sumOf}
 use Rattle.definitions.specs.Layouts.{functions, nodes, nodeCount, runEnd, bodyOf, ownerOf}
 use Rattle.definitions.specs.Shape.{fileShape}
 use Rattle.definitions.specs.declared.Layout.{Layout}
 use Rattle.definitions.specs.declared.Verdict.the-variants.{Accepted}
-use Rattle.accepted.proofs.Sums.{sum-rises, sum-term}
+use Rattle.accepted.proofs.Sums.{sum-rises}
 use Rattle.accepted.proofs.Counts.{count-rises, count-limit, count-all, count-none-from}
 use Rattle.accepted.proofs.Head.{functions-least}
 use Rattle.accepted.proofs.Sections.{node-count-least, node-counts-sum}

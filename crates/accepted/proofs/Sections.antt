@@ -1,17 +1,17 @@
 -- The sections of a file whose shape is accepted: the kinds of its constructors or formals, of its functions and of its
 -- nodes, and the counts that a function's and a constructor's record hold.
 use mathlib.Core.Path.{_≡_, refl, _∙_}
-use Prim.Native.Nat.{ℕ, zero, suc, _+_, _-_, _≤_, _<_}
+use Prim.Native.Nat.{ℕ, suc, _+_, _-_, _≤_, _<_}
 use mathlib.Core.List.{List}
-use mathlib.Core.Bool.{Bool, true, cond, _&&_, and-eq-true-iff}
+use mathlib.Core.Bool.{true, cond, _&&_, and-eq-true-iff}
 use native.Mathlib.Omega.{arith}
-use lib.Dec.{leb, ltb, eqb}
+use lib.Dec.{leb, eqb}
 use borrow.Author.Tests.{leb-true, eqb-true, le-leb, lt-leb, le-ltb, lt-ltb, eq-eqb, ne-eqb}
-use Rattle.definitions.specs.Records.{recordOf, kindOf, field}
+use Rattle.definitions.specs.Records.{kindOf}
 use Rattle.definitions.specs.SheetKinds
 use Rattle.definitions.specs.TranslationKinds
 use Rattle.definitions.specs.Lists.{sumOf}
-use Rattle.definitions.specs.Layouts.{items, functions, nodes, firstItem, firstFunction, firstNode, due, sectionKind, nodeKind, isDue, itemRecord, functionRecord, nodeRecord, countField, nodeCount}
+use Rattle.definitions.specs.Layouts.{items, functions, nodes, firstFunction, firstNode, sectionKind, nodeKind, isDue, itemRecord, functionRecord, nodeRecord, nodeCount}
 use Rattle.definitions.specs.References.{parameters, arity}
 use Rattle.definitions.specs.Shape.{within, runCounts, counts, fileShape}
 use Rattle.definitions.specs.declared.Layout.{Layout}
@@ -39,7 +39,8 @@ node-kind-by y b r k l h e =
     let p = and-eq-true-iff (leb (nodeKind y) k) (leb k (nodeKind y + 8)) .0 u in
     record { least = leb-true (nodeKind y) k (p .0); greatest = leb-true k (nodeKind y + 8) (p .1) }
 
-pub node-kind : (y : Layout) (b : List ℕ) → fileShape y b ≡ Accepted → (k : ℕ) → k < nodes b → NodeKind y (kindOf (nodeRecord b k))
+pub node-kind : (y : Layout) (b : List ℕ) → fileShape y b ≡ Accepted → (k : ℕ) → k < nodes b
+    → NodeKind y (kindOf (nodeRecord b k))
 node-kind y b e k h =
     node-kind-by y b (firstNode b + k) (kindOf (nodeRecord b k)) (omega arith) (omega arith) (kind-due y b e (firstNode b + k) (omega arith))
 
@@ -48,13 +49,13 @@ module _ (b : List ℕ) (accepted : fileShape Sheet b ≡ Accepted) where
   pub constructor-kind : (c : ℕ) → c < items b → kindOf (itemRecord Sheet b c) ≡ SheetKinds.constructor
   unfolding sectionKind
   constructor-kind c h =
-      section-kind Sheet b (1 + c) (kindOf (itemRecord Sheet b c)) (omega arith) (omega arith) (kind-due Sheet b accepted (1 + c) (omega arith))
+      section-kind Sheet b (1 + c) _ (omega arith) (omega arith) (kind-due Sheet b accepted (1 + c) (omega arith))
       ∙ rw (le-leb (1 + c) (items b) (omega arith)) refl
 
   pub sheet-function-kind : (f : ℕ) → f < functions b → kindOf (functionRecord Sheet b f) ≡ SheetKinds.function
   unfolding sectionKind
   sheet-function-kind f h =
-      section-kind Sheet b (1 + items b + f) (kindOf (functionRecord Sheet b f)) (omega arith) (omega arith) (kind-due Sheet b accepted (1 + items b + f) (omega arith))
+      section-kind Sheet b (1 + items b + f) _ (omega arith) (omega arith) (kind-due Sheet b accepted (1 + items b + f) (omega arith))
       ∙ rw (lt-leb (1 + items b + f) (items b) (omega arith)) refl
 
   -- "arity 0..8"
@@ -75,20 +76,20 @@ module _ (b : List ℕ) (accepted : fileShape Sheet b ≡ Accepted) where
   pub parameters-limit : (f : ℕ) → f < functions b → parameters b f ≤ 8
   parameters-limit f h =
       within-by 0 8 (parameters b f)
-      (and-eq-true-iff (within 0 8 (parameters b f)) (runCounts Sheet b (1 + items b + f) (functionRecord Sheet b f)) .0 (sheet-counts f h) .0) .greatest
+      (and-eq-true-iff _ _ .0 (sheet-counts f h) .0) .greatest
 
 -- functions and formals of a translation
 module _ (b : List ℕ) (accepted : fileShape Translation b ≡ Accepted) where
   pub translation-function-kind : (f : ℕ) → f < functions b → kindOf (functionRecord Translation b f) ≡ TranslationKinds.function
   unfolding sectionKind
   translation-function-kind f h =
-      section-kind Translation b (1 + f) (kindOf (functionRecord Translation b f)) (omega arith) (omega arith) (kind-due Translation b accepted (1 + f) (omega arith))
+      section-kind Translation b (1 + f) _ (omega arith) (omega arith) (kind-due Translation b accepted (1 + f) (omega arith))
       ∙ rw (le-leb (1 + f) (functions b) (omega arith)) refl
 
   pub formal-kind : (p : ℕ) → p < items b → kindOf (itemRecord Translation b p) ≡ TranslationKinds.formalList
   unfolding sectionKind
   formal-kind p h =
-      section-kind Translation b (1 + functions b + p) (kindOf (itemRecord Translation b p)) (omega arith) (omega arith) (kind-due Translation b accepted (1 + functions b + p) (omega arith))
+      section-kind Translation b (1 + functions b + p) _ (omega arith) (omega arith) (kind-due Translation b accepted (1 + functions b + p) (omega arith))
       ∙ rw (lt-leb (1 + functions b + p) (functions b) (omega arith)) refl
 
 -- the counts of a function
@@ -96,7 +97,7 @@ run-counts : (y : Layout) (b : List ℕ) → fileShape y b ≡ Accepted → (f :
     → runCounts y b (firstFunction y b + f) (functionRecord y b f) ≡ true
 unfolding counts
 run-counts Sheet b e f h =
-    and-eq-true-iff (within 0 8 (parameters b f)) (runCounts Sheet b (1 + items b + f) (functionRecord Sheet b f)) .0 (sheet-counts b e f h) .1
+    and-eq-true-iff (within 0 8 (parameters b f)) _ .0 (sheet-counts b e f h) .1
 run-counts Translation b e f h =
     rw (ne-eqb (1 + f) 0 (λ p. omega (arith, p)), translation-function-kind b e f h) at (counts-right Translation b e (1 + f) (omega arith))
 
@@ -105,20 +106,17 @@ module _ (y : Layout) (b : List ℕ) (accepted : fileShape y b ≡ Accepted) whe
   pub node-count-least : (f : ℕ) → f < functions b → 1 ≤ nodeCount y b f
   unfolding runCounts
   node-count-least f h =
-      leb-true 1 (nodeCount y b f)
-      (and-eq-true-iff (leb 1 (nodeCount y b f))
-      (cond (eqb (suc (firstFunction y b + f)) (firstFunction y b + functions b)) (eqb (sumOf (functions b) (nodeCount y b)) (nodes b)) true)
-      .0 (run-counts y b accepted f h) .0)
+      leb-true 1 (nodeCount y b f) (and-eq-true-iff _ _ .0 (run-counts y b accepted f h) .0)
 
   -- "the counts sum to N"
   sum-at : (f : ℕ) → suc f ≡ functions b → sumOf (functions b) (nodeCount y b) ≡ nodes b
   unfolding runCounts
   sum-at f p =
+      let sums = eqb (sumOf (functions b) (nodeCount y b)) (nodes b) in
+      let last = cond (eqb (suc (firstFunction y b + f)) (firstFunction y b + functions b)) sums true in
+      let c = and-eq-true-iff (leb 1 (nodeCount y b f)) last .0 (run-counts y b accepted f (omega (arith, p))) in
       eqb-true (sumOf (functions b) (nodeCount y b)) (nodes b)
-      (rw (eq-eqb (suc (firstFunction y b + f)) (firstFunction y b + functions b) (omega (arith, p)))
-      at (and-eq-true-iff (leb 1 (nodeCount y b f))
-      (cond (eqb (suc (firstFunction y b + f)) (firstFunction y b + functions b)) (eqb (sumOf (functions b) (nodeCount y b)) (nodes b)) true)
-      .0 (run-counts y b accepted f (omega (arith, p))) .1))
+      (rw (eq-eqb (suc (firstFunction y b + f)) (firstFunction y b + functions b) (omega (arith, p))) at (c .1))
 
   pub node-counts-sum : sumOf (functions b) (nodeCount y b) ≡ nodes b
   node-counts-sum = let p = functions-least y b accepted in sum-at (functions b - 1) (omega arith)

@@ -33,7 +33,8 @@ pub sum-two : (i j n : ℕ) (at : ℕ → ℕ) → i < j → j < n → at i + at
 sum-two i j n at l h = omega (arith, sum-term i j at l, sum-term j n at h)
 
 -- a sum that is not 0 has a term that is not 0
-found-at : (n x : ℕ) (at : ℕ → ℕ) → at n ≡ x → 1 ≤ sumOf n at + x → (1 ≤ sumOf n at → Below n (λ i. 1 ≤ at i)) → Below (suc n) (λ i. 1 ≤ at i)
+found-at : (n x : ℕ) (at : ℕ → ℕ) → at n ≡ x → 1 ≤ sumOf n at + x → (1 ≤ sumOf n at → Below n (λ i. 1 ≤ at i))
+    → Below (suc n) (λ i. 1 ≤ at i)
 found-at n zero at e h f = one-more n (λ i. 1 ≤ at i) (f (omega arith))
 found-at n (suc x) at e h f = record { at = n; below = omega arith; holds = rw e (omega arith) }
 

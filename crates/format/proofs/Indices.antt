@@ -59,3 +59,6 @@ pub opened-sheet-kind : (b starts : List ℕ) (r : ℕ) (rec : List ℕ) → Ope
 opened-sheet-kind b starts r rec o h e =
     rw (opened-record Sheet b starts r rec o h e)
     (sheet-kind b r (kindOf (recordOf b r)) (kind-due Sheet b (o .accepted) r h))
+
+pub numbered-sheet-kind : (b starts : List ℕ) (r : ℕ) (rec : List ℕ) → Opened Sheet b starts → r < due b → rec ≡ recordOf b r → kindOf rec ≤ 24
+numbered-sheet-kind b starts r rec o h e = rw e (sheet-kind b r (kindOf (recordOf b r)) (kind-due Sheet b (o .accepted) r h))

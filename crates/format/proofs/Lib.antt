@@ -2,3 +2,8 @@ pub mod Indices
 pub mod Walking
 pub mod RunTables
 pub mod Readings
+pub mod SheetTables
+pub mod SeenTables
+pub mod TreeSteps
+pub mod ClauseTable
+pub mod PatternSteps

@@ -57,3 +57,16 @@ pub record ReadSheet (b : List ℕ) (v : Verdict) (starts ends owners : List ℕ
   pub index : v ≡ Accepted → Indexed b starts (due b)
   pub runs : v ≡ Accepted → RunEnds Sheet b ends
   pub owned : v ≡ Accepted → Owners b owners
+
+-- record r of an opened sheet with the table of owners
+pub record NamesAt (b starts owners : List ℕ) (r : ℕ) : Type 0 where
+  pub file : Opened Sheet b starts
+  pub owned : Owners b owners
+  pub below : r < due b
+
+-- node k of an opened sheet with the tables of runs and owners
+pub record NodeAt (b starts ends owners : List ℕ) (k : ℕ) : Type 0 where
+  pub file : Opened Sheet b starts
+  pub runs : RunEnds Sheet b ends
+  pub owned : Owners b owners
+  pub below : k < nodes b

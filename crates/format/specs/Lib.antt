@@ -1,1 +1,3 @@
 pub mod Index
+pub mod Seen
+pub mod Clauses

@@ -69,6 +69,20 @@ pub fn wide(x: u16) -> usize
     x as usize
 }
 
+// A number of 32 bits as a number of the machine's width.
+pub fn wide32(x: u32) -> usize
+    ensures { λ r. ⌜ (r ≡ x) × (r ≤ 4294967295) ⌝ }
+{
+    x as usize
+}
+
+// A byte as a number of the machine's width.
+pub fn wide8(x: u8) -> usize
+    ensures { λ r. ⌜ (r ≡ x) × (r ≤ 255) ⌝ }
+{
+    x as usize
+}
+
 // Where record `r` starts by an index; 0 past the index.
 pub fn start_in(starts: &[u16; 1601], r: usize) -> usize
     ensures { λ at. ⌜ (at ≡ startIn (now (starts .entry)) r) × (at ≤ 65535) ⌝ }

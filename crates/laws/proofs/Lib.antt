@@ -8,4 +8,5 @@ pub mod Runs
 pub mod Tests
 pub mod References
 pub mod Names
+pub mod Arguments
 pub mod Walk

@@ -1,0 +1,2 @@
+pub mod Child
+pub mod Mention

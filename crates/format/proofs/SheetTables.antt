@@ -1,0 +1,40 @@
+-- Laws of an opened sheet with its tables: what is read through them is what the definitions say.
+use mathlib.Core.Path.{_≡_, refl, sym, ap, _∙_}
+use Prim.Native.Nat.{ℕ, zero, suc, pred, _+_, _-_, _≤_, _<_}
+use mathlib.Core.List.{List}
+use mathlib.Core.Bool.{Bool, true, false}
+use native.Mathlib.Omega.{arith}
+use lib.ListN.{getD}
+use Rattle.definitions.specs.Records.{recordAt, recordOf, field}
+use Rattle.definitions.specs.Layouts.{items, functions, nodes, firstItem, firstFunction, firstNode, due, ownerOf, runEnd, bodyOf}
+use Rattle.definitions.specs.References.{parameters, arity}
+use Rattle.definitions.specs.declared.Layout.the-variants.{Sheet}
+use Rattle.accepted.proofs.Head.{nodes-least, nodes-limit, functions-limit}
+use Rattle.accepted.proofs.Owners.{owner-below}
+use Rattle.format.specs.Index.{Opened, Owners, RunEnds, NamesAt, startIn}
+use Rattle.format.proofs.Indices.{indexed-field, opened-record}
+
+-- a function's parameter count and a constructor's arity
+pub opened-parameters : (b starts : List ℕ) (f g x : ℕ) (rec : List ℕ) → Opened Sheet b starts → f < functions b → g ≡ firstFunction Sheet b
+    → rec ≡ recordAt b (startIn starts (g + f)) → x ≡ field rec 0 → x ≡ parameters b f
+opened-parameters b starts f g x rec o h e q p =
+    indexed-field b starts (due b) (g + f) 0 x rec (o .index) (omega (arith, e, h)) q p ∙ rw e refl
+
+pub opened-arity : (b starts : List ℕ) (c g x : ℕ) (rec : List ℕ) → Opened Sheet b starts → c < items b → g ≡ firstItem Sheet b
+    → rec ≡ recordAt b (startIn starts (g + c)) → x ≡ field rec 0 → x ≡ arity b c
+opened-arity b starts c g x rec o h e q p =
+    indexed-field b starts (due b) (g + c) 0 x rec (o .index) (omega (arith, e, h)) q p ∙ rw e refl
+
+-- the owner of the node of record r
+module _ (b starts owners : List ℕ) (r : ℕ) (w : NamesAt b starts owners r) where
+  pub node-below : r - firstNode b < nodes b
+  node-below = omega (arith, w .below, nodes-least Sheet b (w .file .accepted))
+
+  pub node-narrow : (f : ℕ) → f ≡ firstNode b → r - f < 1024
+  node-narrow f e = omega (arith, e, node-below, nodes-limit Sheet b (w .file .accepted))
+
+  pub owner-is : (k x : ℕ) → k ≡ r - firstNode b → x ≡ getD owners k 0 → x ≡ ownerOf Sheet b (r - firstNode b)
+  owner-is k x e f = f ∙ rw e (w .owned .entry (r - firstNode b) node-below)
+
+  pub owner-few : (k x : ℕ) → k ≡ r - firstNode b → x ≡ getD owners k 0 → x < functions b
+  owner-few k x e f = rw (owner-is k x e f) (owner-below Sheet b (w .file .accepted) (r - firstNode b) node-below)

@@ -1,0 +1,126 @@
+// The pattern rules of sheets.
+ghost use mathlib.Core.Path.{_≡_};
+ghost use Prim.Native.Nat.{_+_, _≤_, _<_};
+ghost use Rattle.definitions.specs.Layouts.{nodes};
+ghost use Rattle.definitions.specs.References.{clauses};
+ghost use Rattle.definitions.specs.Checks.{clauseOf, clauseWithin, patternRight, pattern, tree};
+ghost use Rattle.definitions.specs.Verdicts.{firstOf};
+ghost use Rattle.definitions.specs.declared.Layout.the-variants.{Sheet};
+ghost use Rattle.definitions.specs.declared.Verdict.the-variants.{Accepted};
+ghost use Rattle.format.specs.Index.{Opened, RunEnds, Owners, NodeAt};
+ghost use Rattle.format.specs.Seen.{ParentsOf, TreesAccepted};
+ghost use Rattle.format.specs.Clauses.{entryOf, ClausesOf, ClausesFrom};
+use crate::layout::first_node;
+use crate::layout::nodes;
+use crate::names::arity;
+use crate::records::field;
+use crate::records::indexed;
+use crate::records::kind;
+use crate::records::wide;
+use crate::records::wide32;
+use crate::references::child;
+use crate::references::clause_constructor;
+use crate::references::clauses;
+use crate::tree::is_body;
+use definitions::Verdict;
+
+// One more than the constructor of the clause of a case's record that node `k` is, 0 where it is none.
+fn clause_of(rec: &[u8], k: usize) -> u32
+    ensures { λ r. ⌜ r ≡ entryOf (clauseOf (now (rec .entry)) (clauses (now (rec .entry))) k) ⌝ }
+{
+    let mut j = clauses(rec);
+    while 0 < j {
+        if wide(child(rec, j)) == k {
+            return 1 + clause_constructor(rec, j - 1) as u32;
+        }
+        j -= 1;
+    }
+    0
+}
+
+// The entry of node `k` from those of the nodes after it.
+fn clause_at(
+    b: &[u8],
+    starts: &[u16; 1601],
+    ends: &[u16; 64],
+    owners: &[u8; 1024],
+    parents: &[u16; 1024],
+    held: &[u32; 1024],
+    k: usize,
+) -> u32
+    requires { ⌜ NodeAt (now b) (now starts) (now ends) (now owners) k × ParentsOf (now b) (now parents) × TreesAccepted (now b) × ClausesFrom (now b) (now held) (k + 1) ⌝ }
+    ensures { λ r. ⌜ r ≡ entryOf (clauseWithin (now (b .entry)) (nodes (now (b .entry))) k) ⌝ }
+{
+    if is_body(b, starts, ends, owners, k) {
+        return 0;
+    }
+    let p = wide(parents[k]);
+    let rec = indexed(b, starts, first_node(b) + p);
+    if kind(rec) == 24 {
+        return clause_of(rec, k);
+    }
+    held[p]
+}
+
+// The table of clauses.
+fn clause_table(
+    b: &[u8],
+    starts: &[u16; 1601],
+    ends: &[u16; 64],
+    owners: &[u8; 1024],
+    parents: &[u16; 1024],
+) -> [u32; 1024]
+    requires { ⌜ (Opened Sheet (now b) (now starts)) × RunEnds Sheet (now b) (now ends) × Owners (now b) (now owners) × ParentsOf (now b) (now parents) × TreesAccepted (now b) ⌝ }
+    ensures { λ r. ⌜ ClausesOf (now (b .entry)) r ⌝ }
+{
+    let mut held = [0u32; 1024];
+    let mut k = wide(nodes(b));
+    while 0 < k {
+        k -= 1;
+        held[k] = clause_at(b, starts, ends, owners, parents, &held, k);
+    }
+    held
+}
+
+// The pattern rules of node `k`.
+fn pattern_right(b: &[u8], starts: &[u16; 1601], held: &[u32; 1024], k: usize) -> bool
+    requires { ⌜ (Opened Sheet (now b) (now starts)) × ClausesOf (now b) (now held) × TreesAccepted (now b) × (k < nodes (now b)) ⌝ }
+    ensures { λ t. ⌜ t ≡ patternRight (now (b .entry)) k ⌝ }
+{
+    let rec = indexed(b, starts, first_node(b) + k);
+    if kind(rec) != 19 {
+        return true;
+    }
+    let h = held[k];
+    if h < 1 {
+        return false;
+    }
+    wide(field(rec, 0)) < wide(arity(b, starts, wide32(h) - 1))
+}
+
+// The pattern rules of every node.
+pub fn patterns(
+    b: &[u8],
+    starts: &[u16; 1601],
+    ends: &[u16; 64],
+    owners: &[u8; 1024],
+    parents: &[u16; 1024],
+) -> Verdict
+    requires { ⌜ (Opened Sheet (now b) (now starts)) × RunEnds Sheet (now b) (now ends) × Owners (now b) (now owners) × ParentsOf (now b) (now parents) × TreesAccepted (now b) ⌝ }
+    ensures { λ v. ⌜ v ≡ firstOf (nodes (now (b .entry))) (pattern (now (b .entry))) ⌝ }
+{
+    let held = clause_table(b, starts, ends, owners, parents);
+    let first = first_node(b);
+    let count = wide(nodes(b));
+    let mut k: usize = 0;
+    while k < count {
+        if !pattern_right(b, starts, &held, k) {
+            return Verdict::Refused {
+                number: 6,
+                place: first + k,
+            };
+        }
+        k += 1;
+    }
+    Verdict::Accepted
+}

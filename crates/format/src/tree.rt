@@ -1,0 +1,127 @@
+// The child, case and clause order rules of sheets.
+ghost use mathlib.Core.Path.{_≡_};
+ghost use mathlib.Core.Bool.{_&&_};
+ghost use Prim.Native.Nat.{_+_, _≤_, _<_};
+ghost use lib.Dec.{ltb, eqb};
+ghost use Rattle.definitions.specs.Lists.{allOf};
+ghost use Rattle.definitions.specs.Layouts.{nodes, ownerOf};
+ghost use Rattle.definitions.specs.References.{children, child};
+ghost use Rattle.definitions.specs.Checks.{isBody, clausesRise, treeRight, tree};
+ghost use Rattle.definitions.specs.Verdicts.{firstOf};
+ghost use Rattle.definitions.specs.declared.Layout.the-variants.{Sheet};
+ghost use Rattle.format.specs.Index.{Opened, RunEnds, Owners, NodeAt};
+ghost use Rattle.format.specs.Seen.{TimesOf};
+use crate::layout::first_node;
+use crate::layout::nodes;
+use crate::records::indexed;
+use crate::records::kind;
+use crate::records::wide;
+use crate::records::wide8;
+use crate::references::child;
+use crate::references::children;
+use crate::references::clause_constructor;
+use crate::references::clauses;
+use definitions::Verdict;
+
+// Whether node `k` is the body of its function.
+pub fn is_body(
+    b: &[u8],
+    starts: &[u16; 1601],
+    ends: &[u16; 64],
+    owners: &[u8; 1024],
+    k: usize,
+) -> bool
+    requires { ⌜ NodeAt (now b) (now starts) (now ends) (now owners) k ⌝ }
+    ensures { λ t. ⌜ t ≡ isBody (now (b .entry)) k ⌝ }
+{
+    k + 1 == wide(ends[wide8(owners[k])])
+}
+
+// Whether the nodes that a record names are smaller than node `k` and in the same function.
+fn children_right(b: &[u8], owners: &[u8; 1024], k: usize, rec: &[u8]) -> bool
+    requires { ⌜ (Owners (now b) (now owners)) × (k < nodes (now b)) × (k < 1024) ⌝ }
+    ensures { λ t. ⌜ t ≡ allOf (children (now (rec .entry))) (λ j. ltb (child (now (rec .entry)) j) k && eqb (ownerOf Sheet (now (b .entry)) (child (now (rec .entry)) j)) (ownerOf Sheet (now (b .entry)) k)) ⌝ }
+{
+    let count = children(rec);
+    let mut j: usize = 0;
+    while j < count {
+        let c = wide(child(rec, j));
+        if k <= c {
+            return false;
+        }
+        if owners[c] != owners[k] {
+            return false;
+        }
+        j += 1;
+    }
+    true
+}
+
+// Whether the constructors of a case's clauses rise strictly.
+fn clauses_rise(rec: &[u8]) -> bool
+    ensures { λ t. ⌜ t ≡ clausesRise (now (rec .entry)) ⌝ }
+{
+    let count = clauses(rec);
+    let mut j: usize = 0;
+    while j + 1 < count {
+        if clause_constructor(rec, j + 1) <= clause_constructor(rec, j) {
+            return false;
+        }
+        j += 1;
+    }
+    true
+}
+
+// The child, case and clause order rules of node `k`.
+fn tree_right(
+    b: &[u8],
+    starts: &[u16; 1601],
+    ends: &[u16; 64],
+    owners: &[u8; 1024],
+    times: &[u8; 1024],
+    k: usize,
+) -> bool
+    requires { ⌜ NodeAt (now b) (now starts) (now ends) (now owners) k × TimesOf (now b) (now times) ⌝ }
+    ensures { λ t. ⌜ t ≡ treeRight (now (b .entry)) k ⌝ }
+{
+    let rec = indexed(b, starts, first_node(b) + k);
+    if !children_right(b, owners, k, rec) {
+        return false;
+    }
+    if is_body(b, starts, ends, owners, k) {
+        if kind(rec) == 24 {
+            return clauses_rise(rec);
+        }
+        return true;
+    }
+    if wide8(times[k]) != 1 {
+        return false;
+    }
+    kind(rec) != 24
+}
+
+// The child, case and clause order rules of every node.
+pub fn trees(
+    b: &[u8],
+    starts: &[u16; 1601],
+    ends: &[u16; 64],
+    owners: &[u8; 1024],
+    times: &[u8; 1024],
+) -> Verdict
+    requires { ⌜ (Opened Sheet (now b) (now starts)) × RunEnds Sheet (now b) (now ends) × Owners (now b) (now owners) × TimesOf (now b) (now times) ⌝ }
+    ensures { λ v. ⌜ v ≡ firstOf (nodes (now (b .entry))) (tree (now (b .entry))) ⌝ }
+{
+    let first = first_node(b);
+    let count = wide(nodes(b));
+    let mut k: usize = 0;
+    while k < count {
+        if !tree_right(b, starts, ends, owners, times, k) {
+            return Verdict::Refused {
+                number: 6,
+                place: first + k,
+            };
+        }
+        k += 1;
+    }
+    Verdict::Accepted
+}

@@ -1,0 +1,91 @@
+-- The translation of an accepted sheet is an accepted translation.
+use mathlib.Core.Path.{_≡_, refl, _∙_}
+use Prim.Native.Nat.{ℕ, suc, _+_, _-_, _≤_, _<_}
+use mathlib.Core.List.{List}
+use native.Mathlib.Omega.{arith}
+use native.Mathlib.Decide.{ℕ-discrete, decLt}
+use lib.ListN.{length}
+use lib.Dec.{leb, eqb}
+use borrow.Author.Tests.{le-leb, eq-eqb}
+use Rattle.definitions.specs.Records.{startOf}
+use Rattle.definitions.specs.Numbers.{oversize, badRecord}
+use Rattle.definitions.specs.Verdicts.{firstOf}
+use Rattle.definitions.specs.Layouts.{functions, nodes, firstNode, due}
+use Rattle.definitions.specs.References.{parameters, references}
+use Rattle.definitions.specs.Shape.{shape, fileShape}
+use Rattle.definitions.specs.Checks.{sheetVerdict, translationVerdict}
+use Rattle.definitions.specs.Translate.{formalOf, formals, translation}
+use Rattle.definitions.specs.declared.Layout.the-variants.{Translation}
+use Rattle.definitions.specs.declared.Verdict.the-variants.{Accepted}
+use Rattle.laws.proofs.Verdicts.{then-accepted, require-true}
+use Rattle.readback.proofs.Records.{translation-items, translation-functions, translation-nodes, translation-filled}
+use Rattle.readback.proofs.Totals.{sum-reached}
+use Rattle.readback.proofs.Size.{translation-limit}
+use Rattle.readback.proofs.Passing.{Passes, first-all, passes-shape, passes-references}
+use Rattle.readback.proofs.SectionsPass.{head-passes, function-passes, formal-passes}
+use Rattle.readback.proofs.NodesPass.{node-passes}
+
+-- record r is one that passes the checks
+pub record RecordPasses (t : List ℕ) (r : ℕ) : Type 0 where
+  pub kind : ℕ
+  pub fields : List ℕ
+  pub passes : Passes t r kind fields
+
+passing : {t : List ℕ} {r kind : ℕ} {fs : List ℕ} → Passes t r kind fs → RecordPasses t r
+passing {t} {r} {kind} {fs} p = record { kind = kind; fields = fs; passes = p }
+
+module _ (b : List ℕ) (accepted : sheetVerdict b ≡ Accepted) where
+  function-at : (r : ℕ) → 0 < r → r ≤ functions (translation b) → RecordPasses (translation b) r
+  function-at r l h =
+      let f : r - 1 < functions b = omega (arith, l, h, translation-functions b accepted) in
+      let e : 1 + (r - 1) ≡ r = omega arith in
+      rw e at (passing (function-passes b accepted (r - 1) f))
+
+  formal-at : (r : ℕ) → functions (translation b) < r → r < firstNode (translation b) → RecordPasses (translation b) r
+  unfolding formals formalOf
+  formal-at r l h =
+      let t = translation b in
+      let p : r - suc (functions t) < formals b = omega (arith, l, h, translation-items b accepted) in
+      let f = sum-reached (functions b) (r - suc (functions t)) (parameters b) p in
+      let e : 1 + functions t + formalOf b (f .term) (f .place) ≡ r = omega (arith, l, f .is) in
+      rw e at (passing (formal-passes b accepted (f .term) (f .place) (f .below) (f .inside)))
+
+  node-at : (r : ℕ) → firstNode (translation b) ≤ r → r < due (translation b) → RecordPasses (translation b) r
+  node-at r l h =
+      let t = translation b in
+      let k : r - firstNode t < nodes b = omega (arith, l, h, translation-nodes b accepted) in
+      let e : firstNode t + (r - firstNode t) ≡ r = omega arith in
+      rw e at (passing (node-passes b accepted (r - firstNode t) k))
+
+  -- each record that is due passes
+  record-passes : (r : ℕ) → r < due (translation b) → RecordPasses (translation b) r
+  record-passes r h =
+      let t = translation b in
+      elim (ℕ-discrete r 0) [
+        | yes e ↦ rw e (passing (head-passes b accepted))
+        | no e ↦ elim (decLt (functions t) r) [
+          | no l ↦ function-at r (omega (arith, e)) (omega (arith, l))
+          | yes l ↦ elim (decLt r (firstNode t)) [ yes m ↦ formal-at r l m | no m ↦ node-at r (omega (arith, m)) h ]
+        ]
+      ]
+
+  shape-passes : (r : ℕ) → r < due (translation b) → shape Translation (translation b) r ≡ Accepted
+  shape-passes r h = let p = record-passes r h in passes-shape (translation b) r (p .kind) (p .fields) (p .passes)
+
+  references-pass : (r : ℕ) → r < due (translation b) → references (translation b) r ≡ Accepted
+  references-pass r h = let p = record-passes r h in passes-references (translation b) r (p .kind) (p .fields) (p .passes)
+
+  pub translation-shaped : fileShape Translation (translation b) ≡ Accepted
+  unfolding fileShape
+  translation-shaped =
+      let t = translation b in
+      let size = require-true (leb (length t) 40960) oversize 0 (le-leb (length t) 40960 (omega (arith, translation-limit b accepted))) in
+      let each = first-all (due t) (shape Translation t) shape-passes in
+      let filled = require-true (eqb (startOf t (due t)) (length t)) badRecord (due t) (eq-eqb (startOf t (due t)) (length t) (translation-filled b accepted)) in
+      rw (size, then-accepted Accepted (firstOf (due t) (shape Translation t)) refl, each, filled) (then-accepted Accepted Accepted refl)
+
+  pub translation-accepted : translationVerdict (translation b) ≡ Accepted
+  unfolding translationVerdict
+  translation-accepted =
+      let t = translation b in
+      then-accepted (fileShape Translation t) (firstOf (due t) (references t)) translation-shaped ∙ first-all (due t) (references t) references-pass

@@ -1,0 +1,15 @@
+pub mod Words
+pub mod Made
+pub mod Fields
+pub mod Signed
+pub mod Joined
+pub mod Labels
+pub mod Fitting
+pub mod Records
+pub mod Nodes
+pub mod Totals
+pub mod Size
+pub mod Passing
+pub mod SectionsPass
+pub mod NodesPass
+pub mod Accepted

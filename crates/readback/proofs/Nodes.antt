@@ -1,0 +1,190 @@
+-- The runs, the nodes and the actuals of an accepted sheet's translation, as a translation file is read.
+use mathlib.Core.Path.{_≡_, refl, ap, _∙_}
+use Prim.Native.Nat.{ℕ, zero, suc, pred, _≤_, _<_}
+use mathlib.Core.List.{List, [], _∷_}
+use mathlib.Core.Option.{none, some}
+use mathlib.Core.Bool.{Bool}
+use native.Mathlib.Omega.{arith}
+use lib.IntN.{ℤ}
+use lib.ListN.{getElem?}
+use lib.Dec.{leb}
+use mir.Syntax.{w32}
+use Rattle.definitions.specs.Bytes.{signed, words32, bytesOf}
+use Rattle.definitions.specs.TranslationKinds
+use Rattle.definitions.specs.Operators.{residue}
+use Rattle.definitions.specs.Lists.{countOf}
+use Rattle.definitions.specs.Layouts.{functions, nodes, nodeRecord, nodeCount, runEnd, bodyOf, ownerOf}
+use Rattle.definitions.specs.References.{parameters}
+use Rattle.definitions.specs.NodeFields.{Clause}
+use Rattle.definitions.specs.SheetNodes.{SheetNode, number, reading, parameter, patternVariable, operator, conditional, call, build, caseOf, sheetNodeOf}
+use Rattle.definitions.specs.TranslationNodes.{translationNode, translationNodeOf, actual, tagOf, tupleFields}
+use Rattle.definitions.specs.TranslationNodes
+use Rattle.definitions.specs.Checks.{sheetVerdict}
+use Rattle.definitions.specs.Translate.{recordWords, calls, labelOf, formalOf, actuals, scrutineeOf, clauseWords, functionWords, translation}
+use Rattle.definitions.specs.declared.Layout.the-variants.{Sheet, Translation}
+use Rattle.definitions.specs.declared.Verdict.the-variants.{Accepted}
+use Rattle.accepted.proofs.Sums.{sum-same}
+use Rattle.accepted.proofs.Elements.{element-below, element-past}
+use Rattle.accepted.proofs.SheetRecords.{SheetRecord, is-number, node-is}
+use Rattle.accepted.proofs.Checks.{sheet-shape}
+use Rattle.accepted.proofs.Names.{call-below, call-count}
+use Rattle.readback.specs.TranslatedNode.{translatedNode, translatedKind, translatedFields}
+use Rattle.readback.proofs.Fields.{Fit, kind-read, field-read, fields-read, fields-after, clauses-read}
+use Rattle.readback.proofs.Signed.{signed-read}
+use Rattle.readback.proofs.Labels.{actuals-length, actuals-argument}
+use Rattle.readback.proofs.Fitting.{function-writable, formal-writable, node-writable}
+use Rattle.readback.proofs.Records.{node-words, translation-functions, function-written, formal-written, node-written}
+
+-- equal tests have equal counts
+count-same : (n : ℕ) (test to : ℕ → Bool) → ((i : ℕ) → i < n → test i ≡ to i) → countOf n test ≡ countOf n to
+unfolding countOf
+count-same zero test to e = refl
+count-same (suc n) test to e = rw (e n (omega arith), count-same n test to (λ i h. e i (omega arith))) refl
+
+-- a number of a sheet is a signed field
+number-is : (rec : List ℕ) {z : ℤ} → SheetRecord rec (number z) → signed rec 4 ≡ z
+number-is rec (is-number e c) = refl
+
+-- a record of a node's kind and fields is the node that it becomes
+module _ (b : List ℕ) (k : ℕ) where
+  node-read : (nd : SheetNode) → ((z : ℤ) → nd ≡ number z → signed (nodeRecord b k) 4 ≡ z) → Fit (translatedFields b k nd)
+      → translationNode (bytesOf (recordWords (translatedKind nd) (translatedFields b k nd))) ≡ translatedNode b k nd
+  unfolding translationNode translatedKind translatedFields translatedNode
+  node-read (number z) n f =
+      rw (kind-read 48 (words32 (residue w32 z)) (omega arith)) (ap TranslationNodes.number (rw (n z refl) at (signed-read 48 (nodeRecord b k) 4)))
+  node-read (reading i) n f = rw (kind-read 49 (i ∷ []) (omega arith), field-read 49 (i ∷ []) f 0) refl
+  node-read (parameter i) n f =
+      let fs = formalOf b (ownerOf Sheet b k) i ∷ [] in
+      rw (kind-read 50 fs (omega arith), field-read 50 fs f 0) refl
+  node-read (patternVariable i) n f =
+      let fs = scrutineeOf b k ∷ suc i ∷ [] in
+      rw (kind-read 51 fs (omega arith), field-read 51 fs f 0, field-read 51 fs f 1) refl
+  node-read (operator o l r) n f =
+      let fs = o ∷ l ∷ r ∷ [] in
+      rw (kind-read 52 fs (omega arith), field-read 52 fs f 0, field-read 52 fs f 1, field-read 52 fs f 2) refl
+  node-read (conditional m p q) n f =
+      let fs = m ∷ p ∷ q ∷ [] in
+      rw (kind-read 53 fs (omega arith), field-read 53 fs f 0, field-read 53 fs f 1, field-read 53 fs f 2) refl
+  node-read (call g ns) n f =
+      let fs = labelOf b g k ∷ g ∷ [] in
+      rw (kind-read 54 fs (omega arith), field-read 54 fs f 0, field-read 54 fs f 1) refl
+  node-read (build c ns) n f =
+      rw (kind-read 55 (c ∷ ns) (omega arith), field-read 55 (c ∷ ns) f 0, fields-after 55 c ns f) refl
+  node-read (caseOf m cs) n f =
+      rw (kind-read 56 (m ∷ clauseWords cs) (omega arith), field-read 56 (m ∷ clauseWords cs) f 0, clauses-read 56 m cs f) refl
+
+module _ (b : List ℕ) (accepted : sheetVerdict b ≡ Accepted) where
+  -- the functions' runs are the sheet's
+  pub node-count-read : (f : ℕ) → f < functions b → nodeCount Translation (translation b) f ≡ nodeCount Sheet b f
+  unfolding functionWords
+  node-count-read f h =
+      rw (function-written b accepted f h)
+      (field-read TranslationKinds.function (nodeCount Sheet b f ∷ []) (function-writable b accepted f h .fit) 0)
+
+  pub run-end-read : (f : ℕ) → f < functions b → runEnd Translation (translation b) f ≡ runEnd Sheet b f
+  unfolding runEnd
+  run-end-read f h =
+      sum-same (suc f) (nodeCount Translation (translation b)) (nodeCount Sheet b) (λ g l. node-count-read g (omega arith))
+
+  pub body-read : (f : ℕ) → f < functions b → bodyOf Translation (translation b) f ≡ bodyOf Sheet b f
+  unfolding bodyOf
+  body-read f h = ap pred (run-end-read f h)
+
+  pub owner-read : (k : ℕ) → ownerOf Translation (translation b) k ≡ ownerOf Sheet b k
+  unfolding ownerOf
+  owner-read k =
+      rw (translation-functions b accepted)
+      (count-same (functions b) (λ f. leb (runEnd Translation (translation b) f) k) (λ f. leb (runEnd Sheet b f) k)
+      (λ f h. rw (run-end-read f h) refl))
+
+  -- a node is what the sheet's node becomes
+  module _ (k : ℕ) (h : k < nodes b) where
+    pub node-becomes : translationNodeOf (translation b) k ≡ translatedNode b k (sheetNodeOf b k)
+    unfolding translationNodeOf
+    node-becomes =
+        rw (node-written b accepted k h, node-words b k)
+        (node-read b k (sheetNodeOf b k)
+        (λ z e. number-is (nodeRecord b k) (node-is b (sheet-shape b accepted) k h e))
+        (node-writable b accepted k h .fit))
+
+    node-as : (nd : SheetNode) → sheetNodeOf b k ≡ nd → translationNodeOf (translation b) k ≡ translatedNode b k nd
+    node-as nd e = rw e at node-becomes
+
+    pub number-becomes : {z : ℤ} → sheetNodeOf b k ≡ number z → translationNodeOf (translation b) k ≡ TranslationNodes.number z
+    unfolding translatedNode
+    number-becomes {z} e = node-as (number z) e
+
+    pub reading-becomes : {i : ℕ} → sheetNodeOf b k ≡ reading i → translationNodeOf (translation b) k ≡ TranslationNodes.reading i
+    unfolding translatedNode
+    reading-becomes {i} e = node-as (reading i) e
+
+    pub parameter-becomes : {i : ℕ} → sheetNodeOf b k ≡ parameter i
+        → translationNodeOf (translation b) k ≡ TranslationNodes.formal (formalOf b (ownerOf Sheet b k) i)
+    unfolding translatedNode
+    parameter-becomes {i} e = node-as (parameter i) e
+
+    pub pattern-becomes : {i : ℕ} → sheetNodeOf b k ≡ patternVariable i
+        → translationNodeOf (translation b) k ≡ TranslationNodes.select (scrutineeOf b k) (suc i)
+    unfolding translatedNode
+    pattern-becomes {i} e = node-as (patternVariable i) e
+
+    pub operator-becomes : {o l r : ℕ} → sheetNodeOf b k ≡ operator o l r
+        → translationNodeOf (translation b) k ≡ TranslationNodes.operator o l r
+    unfolding translatedNode
+    operator-becomes {o} {l} {r} e = node-as (operator o l r) e
+
+    pub conditional-becomes : {n p q : ℕ} → sheetNodeOf b k ≡ conditional n p q
+        → translationNodeOf (translation b) k ≡ TranslationNodes.conditional n p q
+    unfolding translatedNode
+    conditional-becomes {n} {p} {q} e = node-as (conditional n p q) e
+
+    pub call-becomes : {f : ℕ} {ns : List ℕ} → sheetNodeOf b k ≡ call f ns
+        → translationNodeOf (translation b) k ≡ TranslationNodes.call (labelOf b f k) f
+    unfolding translatedNode
+    call-becomes {f} {ns} e = node-as (call f ns) e
+
+    pub build-becomes : {c : ℕ} {ns : List ℕ} → sheetNodeOf b k ≡ build c ns
+        → translationNodeOf (translation b) k ≡ TranslationNodes.tuple c ns
+    unfolding translatedNode
+    build-becomes {c} {ns} e = node-as (build c ns) e
+
+    pub case-becomes : {n : ℕ} {cs : List Clause} → sheetNodeOf b k ≡ caseOf n cs
+        → translationNodeOf (translation b) k ≡ TranslationNodes.caseOf n cs
+    unfolding translatedNode
+    case-becomes {n} {cs} e = node-as (caseOf n cs) e
+
+    -- the tag and the fields of a build's tuple
+    build-record : {c : ℕ} {ns : List ℕ} → sheetNodeOf b k ≡ build c ns
+        → (nodeRecord (translation b) k ≡ bytesOf (recordWords TranslationKinds.tuple (c ∷ ns))) × Fit (c ∷ ns)
+    unfolding translatedKind translatedFields
+    build-record e =
+        (rw e at (node-written b accepted k h ∙ ap bytesOf (node-words b k)), rw e at (node-writable b accepted k h .fit))
+
+    pub tag-read : {c : ℕ} {ns : List ℕ} → sheetNodeOf b k ≡ build c ns → tagOf (translation b) k ≡ c
+    unfolding tagOf
+    tag-read {c} {ns} e = let r = build-record e in rw (r .0) (field-read TranslationKinds.tuple (c ∷ ns) (r .1) 0)
+
+    pub tuple-fields-read : {c : ℕ} {ns : List ℕ} → sheetNodeOf b k ≡ build c ns → tupleFields (translation b) k ≡ ns
+    unfolding tupleFields
+    tuple-fields-read {c} {ns} e = let r = build-record e in rw (r .0) (fields-after TranslationKinds.tuple c ns (r .1))
+
+  -- the actuals of a formal are those listed
+  pub actual-read : (f i l : ℕ) → f < functions b → i < parameters b f
+      → actual (translation b) (formalOf b f i) l ≡ getElem? (actuals b f i) l
+  unfolding actual
+  actual-read f i l h g =
+      rw (formal-written b accepted f i h g, fields-read TranslationKinds.formalList (actuals b f i) (formal-writable b accepted f i g .fit)) refl
+
+  -- the actual that a call's label names is that call's argument
+  pub actual-argument : (f k i : ℕ) {n : ℕ} {ns : List ℕ} → k < nodes b → sheetNodeOf b k ≡ call f ns → getElem? ns i ≡ some n
+      → actual (translation b) (formalOf b f i) (labelOf b f k) ≡ some n
+  actual-argument f k i {n} {ns} h e p =
+      let c = call-count b accepted k h e in
+      let g : i < parameters b f = rw c at (element-below ns i p) in
+      actual-read f i (labelOf b f k) (call-below b accepted k h e) g ∙ actuals-argument b accepted f k i h e p
+
+  -- a label that no call has names none
+  pub no-actual : (f i l : ℕ) → f < functions b → i < parameters b f → countOf (nodes b) (calls b f) ≤ l
+      → actual (translation b) (formalOf b f i) l ≡ none
+  no-actual f i l h g m =
+      actual-read f i l h g ∙ element-past (actuals b f i) l (rw (actuals-length b accepted f i) m)

@@ -1,0 +1,179 @@
+-- The length of an accepted sheet's translation: even, and at most 36,864 bytes, so that it is never oversize. A call costs a
+-- word more than in the sheet, its arguments counted where the formals list them, and a pattern variable a word more too;
+-- each formal costs two words, and the rest no more than in the sheet.
+use mathlib.Core.Path.{_≡_, refl, _∙_}
+use Prim.Native.Nat.{ℕ, _+_, _*_, _-_, _≤_, _<_}
+use mathlib.Core.List.{List, [], _∷_, _++_}
+use mathlib.Core.Bool.{true, false, cond, _&&_}
+use native.Mathlib.Omega.{arith}
+use native.Mathlib.Nat.{mul-add}
+use lib.ListN.{length, length-append}
+use lib.Dec.{eqb}
+use Rattle.definitions.specs.Bytes.{words32}
+use Rattle.definitions.specs.Records.{recordOf, kindOf, field, fieldCount}
+use Rattle.definitions.specs.SheetKinds
+use Rattle.definitions.specs.TranslationKinds
+use Rattle.definitions.specs.Lists.{joined, sumOf, countOf}
+use Rattle.definitions.specs.Layouts.{readings, items, functions, nodes, firstNode, due, functionRecord, nodeRecord, nodeCount}
+use Rattle.definitions.specs.References.{parameters, clauses, clauseConstructor}
+use Rattle.definitions.specs.NodeFields.{Clause, fieldsFrom, clauseList}
+use Rattle.definitions.specs.SheetNodes.{SheetNode, call, sheetNodeOf}
+use Rattle.definitions.specs.Checks.{sheetVerdict}
+use Rattle.definitions.specs.Translate.{calls, formals, actuals, headWords, functionWords, formalWords, nodeWords, translationWords, translation}
+use Rattle.definitions.specs.declared.Layout.the-variants.{Sheet}
+use Rattle.definitions.specs.declared.Verdict.the-variants.{Accepted}
+use Rattle.laws.proofs.Lists.{listed-length}
+use Rattle.accepted.proofs.Sums.{sum-term, sum-same}
+use Rattle.accepted.proofs.Head.{nodes-limit}
+use Rattle.accepted.proofs.Records.{within-limit, records-fill, record-fields, start-sum}
+use Rattle.accepted.proofs.SectionFields.{head-fields, sheet-function-fields}
+use Rattle.accepted.proofs.SheetRecords.{SheetRecord, is-number, is-reading, is-parameter, is-patternVariable, is-operator, is-conditional, is-call, is-build, is-case, node-record}
+use Rattle.accepted.proofs.Checks.{sheet-shape}
+use Rattle.accepted.proofs.Names.{call-fields}
+use Rattle.readback.specs.TranslatedNode.{translatedKind, translatedFields}
+use Rattle.readback.proofs.Words.{bytes-length}
+use Rattle.readback.proofs.Made.{words-length}
+use Rattle.readback.proofs.Fields.{clause-words}
+use Rattle.readback.proofs.Joined.{joined-length}
+use Rattle.readback.proofs.Labels.{actuals-length}
+use Rattle.readback.proofs.Fitting.{formals-limit}
+use Rattle.readback.proofs.Records.{node-words, formalPart}
+use Rattle.readback.proofs.Totals.{sum-both, sum-twice, sum-constant, sum-below, sum-parts, count-weighed, sum-chosen}
+
+-- the arguments of node k, if it is a call, as the formals count them
+abbrev listedArguments : List ℕ → ℕ → ℕ
+listedArguments b k = sumOf (functions b) (λ f. cond (calls b f k) (parameters b f) 0)
+
+-- a node that is no call has none
+no-arguments : (m : ℕ) (p : ℕ → ℕ) (rec : List ℕ) → eqb (kindOf rec) SheetKinds.call ≡ false
+    → sumOf m (λ f. cond (eqb (kindOf rec) SheetKinds.call && eqb (field rec 0) f) (p f) 0) ≡ 0
+no-arguments m p rec e = rw e (sum-constant m 0 ∙ omega arith)
+
+-- a call has as many as its function has parameters
+call-arguments : (m : ℕ) (p : ℕ → ℕ) (rec : List ℕ) → eqb (kindOf rec) SheetKinds.call ≡ true
+    → sumOf m (λ f. cond (eqb (kindOf rec) SheetKinds.call && eqb (field rec 0) f) (p f) 0) ≤ p (field rec 0)
+call-arguments m p rec e = rw e (sum-chosen m (field rec 0) p)
+
+-- with them a node's translation has at most one field more than the node
+module _ (b : List ℕ) (k : ℕ) where
+  abbrev arguments : List ℕ → ℕ
+  arguments rec = sumOf (functions b) (λ f. cond (eqb (kindOf rec) SheetKinds.call && eqb (field rec 0) f) (parameters b f) 0)
+
+  node-fields : (rec : List ℕ) {nd : SheetNode} → SheetRecord rec nd
+      → (kindOf rec ≡ SheetKinds.call → fieldCount rec - 1 ≡ parameters b (field rec 0))
+      → length (translatedFields b k nd) + arguments rec ≤ fieldCount rec + 1
+  unfolding translatedFields words32 fieldsFrom clauseList
+  node-fields rec (is-number e c) p = omega (arith, c, no-arguments (functions b) (parameters b) rec (rw e refl))
+  node-fields rec (is-reading e c) p = omega (arith, c, no-arguments (functions b) (parameters b) rec (rw e refl))
+  node-fields rec (is-parameter e c) p = omega (arith, c, no-arguments (functions b) (parameters b) rec (rw e refl))
+  node-fields rec (is-patternVariable e c) p = omega (arith, c, no-arguments (functions b) (parameters b) rec (rw e refl))
+  node-fields rec (is-operator e c) p = omega (arith, c, no-arguments (functions b) (parameters b) rec (rw e refl))
+  node-fields rec (is-conditional e c) p = omega (arith, c, no-arguments (functions b) (parameters b) rec (rw e refl))
+  node-fields rec (is-call e l g) p = omega (arith, l, p e, call-arguments (functions b) (parameters b) rec (rw e refl))
+  node-fields rec (is-build e l g) p =
+      omega (arith, l, no-arguments (functions b) (parameters b) rec (rw e refl), listed-length (fieldCount rec - 1) (λ i. field rec (1 + i)))
+  node-fields rec (is-case e c l g) p =
+      omega (
+        arith,
+        c,
+        no-arguments (functions b) (parameters b) rec (rw e refl),
+        clause-words (clauseList rec),
+        listed-length {A = Clause} (clauses rec) (λ j. record { constructor = clauseConstructor rec j; node = field rec (2 + 2 * j) }),
+      )
+
+module _ (b : List ℕ) (accepted : sheetVerdict b ≡ Accepted) where
+  node-size : (k : ℕ) → k < nodes b → (length (nodeWords b k) + listedArguments b k) * 2 ≤ length (nodeRecord b k) + 2
+  unfolding calls
+  node-size k h =
+      let s = sheet-shape b accepted in
+      let nd = sheetNodeOf b k in
+      let w : length (nodeWords b k) ≡ 2 + length (translatedFields b k nd) = rw (node-words b k) (words-length (translatedKind nd) (translatedFields b k nd)) in
+      omega (
+        arith,
+        w,
+        record-fields Sheet b s (firstNode b + k) (omega arith),
+        node-fields b k (nodeRecord b k) (node-record b s k h) (call-fields b accepted k h),
+      )
+
+  nodes-size : 2 * (sumOf (nodes b) (λ k. length (nodeWords b k)) + sumOf (nodes b) (listedArguments b))
+      ≤ sumOf (nodes b) (λ k. length (nodeRecord b k)) + nodes b * 2
+  nodes-size =
+      let n = nodes b in
+      let x = sum-below n (λ k. (length (nodeWords b k) + listedArguments b k) * 2) (λ k. length (nodeRecord b k) + 2) node-size in
+      let y = sum-twice n (λ k. length (nodeWords b k) + listedArguments b k) in
+      let z = sum-both n (λ k. length (nodeWords b k)) (listedArguments b) in
+      let u = sum-both n (λ k. length (nodeRecord b k)) (λ k. 2) in
+      omega (arith, x, y, z, u, sum-constant n 2)
+
+  -- the formals cost two words each, and a word for each argument of a call
+  formal-size : (f : ℕ) → length (formalWords b f) ≡ parameters b f * 2 + parameters b f * countOf (nodes b) (calls b f)
+  unfolding formalWords
+  formal-size f =
+      let c = countOf (nodes b) (calls b f) in
+      joined-length (formalPart b f) (parameters b f)
+      ∙ sum-same (parameters b f) (λ i. length (formalPart b f i)) (λ i. 2 + c)
+      (λ i h. words-length TranslationKinds.formalList (actuals b f i) ∙ rw (actuals-length b accepted f i) refl)
+      ∙ sum-constant (parameters b f) (2 + c)
+      ∙ mul-add (parameters b f) 2 c
+
+  formals-size : sumOf (functions b) (λ f. length (formalWords b f)) ≡ 2 * formals b + sumOf (nodes b) (listedArguments b)
+  unfolding formals
+  formals-size =
+      let m = functions b in
+      let p = parameters b in
+      sum-same m (λ f. length (formalWords b f)) (λ f. p f * 2 + p f * countOf (nodes b) (calls b f)) (λ f h. formal-size f)
+      ∙ sum-both m (λ f. p f * 2) (λ f. p f * countOf (nodes b) (calls b f))
+      ∙ rw (sum-twice m p, count-weighed m (nodes b) p (calls b)) refl
+
+  -- the functions cost three words each
+  functions-size : sumOf (functions b) (λ f. length (functionWords b f)) ≡ functions b * 3
+  unfolding functionWords
+  functions-size =
+      sum-same (functions b) (λ f. length (functionWords b f)) (λ f. 3) (λ f h. words-length TranslationKinds.function (nodeCount Sheet b f ∷ []))
+      ∙ sum-constant (functions b) 3
+
+  words-size : length (translationWords b)
+      ≡ 6 + functions b * 3 + (2 * formals b + sumOf (nodes b) (listedArguments b)) + sumOf (nodes b) (λ k. length (nodeWords b k))
+  unfolding translationWords headWords
+  words-size =
+      let h = headWords b in
+      let fs = joined (functions b) (functionWords b) in
+      let ps = joined (functions b) (formalWords b) in
+      let ns = joined (nodes b) (nodeWords b) in
+      let w = words-length TranslationKinds.head (readings b ∷ formals b ∷ functions b ∷ nodes b ∷ []) in
+      let x = joined-length (functionWords b) (functions b) ∙ functions-size in
+      let y = joined-length (formalWords b) (functions b) ∙ formals-size in
+      let z = joined-length (nodeWords b) (nodes b) in
+      let u = length-append h fs in
+      let v = length-append (h ++ fs) ps in
+      length-append (h ++ fs ++ ps) ns ∙ rw (v, u, w, x, y, z) refl
+
+  -- the sheet's head, functions and nodes are within its length
+  function-length : (f : ℕ) → f < functions b → length (functionRecord Sheet b f) ≡ 8
+  function-length f h =
+      let s = sheet-shape b accepted in
+      omega (arith, record-fields Sheet b s (1 + items b + f) (omega arith), sheet-function-fields b s f h)
+
+  sheet-size : 12 + functions b * 8 + sumOf (nodes b) (λ k. length (nodeRecord b k)) ≤ length b
+  sheet-size =
+      let s = sheet-shape b accepted in
+      let at : ℕ → ℕ = λ r. length (recordOf b r) in
+      let ns = sum-parts (firstNode b) (nodes b) at in
+      let fs = sum-parts (1 + items b) (functions b) at in
+      let each = sum-same (functions b) (λ f. at (1 + items b + f)) (λ f. 8) function-length ∙ sum-constant (functions b) 8 in
+      let head : length (recordOf b 0) ≡ 12 = omega (arith, record-fields Sheet b s 0 (omega arith), head-fields Sheet b s) in
+      omega (arith, records-fill Sheet b s, start-sum Sheet b s (due b) (omega arith), ns, fs, each, sum-term 0 (1 + items b) at (omega arith), head)
+
+  -- the translation costs at most four bytes for each formal and two for each node more than the sheet
+  pub translation-length : length (translation b) ≡ 2 * length (translationWords b)
+  unfolding translation
+  translation-length = bytes-length (translationWords b)
+
+  pub translation-growth : length (translation b) ≤ length b + 4 * formals b + 2 * nodes b
+  translation-growth = omega (arith, translation-length, words-size, nodes-size, sheet-size)
+
+  -- so it is never oversize
+  pub translation-limit : length (translation b) ≤ 36864
+  translation-limit =
+      let s = sheet-shape b accepted in
+      omega (arith, translation-growth, within-limit Sheet b s, formals-limit b accepted, nodes-limit Sheet b s)
