@@ -4,6 +4,8 @@ ghost use Prim.Native.Nat.{_≤_};
 ghost use Rattle.definitions.specs.Layouts.{readings, items, functions, nodes, firstItem, firstFunction, firstNode, due, headKind, sectionKind, nodeKind, isDue, countField};
 ghost use Rattle.definitions.specs.Shape.{fileLimit, itemLimit};
 use crate::bytes::word;
+use crate::sheet_kinds;
+use crate::translation_kinds;
 use definitions::Layout;
 
 // The head's counts.
@@ -67,8 +69,8 @@ fn head_kind(y: Layout) -> u16
     ensures { λ r. ⌜ r ≡ headKind y ⌝ }
 {
     match y {
-        Layout::Sheet => 1,
-        Layout::Translation => 33,
+        Layout::Sheet => sheet_kinds::HEAD,
+        Layout::Translation => translation_kinds::HEAD,
     }
 }
 
@@ -85,8 +87,8 @@ fn node_kind(y: Layout) -> u16
     ensures { λ r. ⌜ r ≡ nodeKind y ⌝ }
 {
     match y {
-        Layout::Sheet => 16,
-        Layout::Translation => 48,
+        Layout::Sheet => sheet_kinds::NUMBER,
+        Layout::Translation => translation_kinds::NUMBER,
     }
 }
 
@@ -117,7 +119,7 @@ pub fn count_field(y: Layout) -> usize
     }
 }
 
-// The greatest length of a file, and the greatest count of its items.
+// The greatest length of a file: "at most 32,768 bytes", "at most 40,960 bytes".
 pub fn file_limit(y: Layout) -> usize
     ensures { λ r. ⌜ r ≡ fileLimit y ⌝ }
 {
@@ -127,6 +129,7 @@ pub fn file_limit(y: Layout) -> usize
     }
 }
 
+// The greatest count of items: "constructors K 0..64", "formals P 0..512".
 pub fn item_limit(y: Layout) -> u16
     ensures { λ r. ⌜ r ≡ itemLimit y ⌝ }
 {

@@ -17,6 +17,7 @@ use crate::layout::functions;
 use crate::layout::items;
 use crate::layout::nodes;
 use crate::layout::readings;
+use crate::numbers;
 use crate::records::field;
 use crate::records::field_count;
 use crate::records::indexed;
@@ -25,6 +26,7 @@ use crate::records::wide;
 use crate::records::wide8;
 use crate::references::children_below;
 use crate::references::constructors_below;
+use crate::sheet_kinds;
 use definitions::Layout;
 use definitions::Verdict;
 
@@ -64,19 +66,19 @@ fn names_in_range(b: &[u8], starts: &[u16; 1601], owners: &[u8; 1024], r: usize,
 {
     let k = kind(rec);
     let x = field(rec, 0);
-    if k == 17 {
+    if k == sheet_kinds::READING {
         return x < readings(b);
     }
-    if k == 18 {
+    if k == sheet_kinds::PARAMETER {
         return x < owner_parameters(b, starts, owners, r);
     }
-    if k == 22 {
+    if k == sheet_kinds::CALL {
         return x < functions(b);
     }
-    if k == 23 {
+    if k == sheet_kinds::BUILD {
         return x < items(b);
     }
-    if k == 24 {
+    if k == sheet_kinds::CASE {
         return constructors_below(rec, wide(items(b)));
     }
     true
@@ -99,10 +101,10 @@ fn arguments_match(b: &[u8], starts: &[u16; 1601], r: usize, rec: &[u8]) -> bool
         return field(rec, 0) == 0;
     }
     let k = kind(rec);
-    if k == 22 {
+    if k == sheet_kinds::CALL {
         return argument_count(rec) == wide(parameters(b, starts, wide(field(rec, 0))));
     }
-    if k == 23 {
+    if k == sheet_kinds::BUILD {
         return argument_count(rec) == wide(arity(b, starts, wide(field(rec, 0))));
     }
     true
@@ -116,19 +118,19 @@ fn names_at(b: &[u8], starts: &[u16; 1601], owners: &[u8; 1024], r: usize) -> Ve
     let rec = indexed(b, starts, r);
     if !children_below(rec, wide(nodes(b))) {
         return Verdict::Refused {
-            number: 5,
+            number: numbers::OUT_OF_RANGE,
             place: r,
         };
     }
     if !names_in_range(b, starts, owners, r, rec) {
         return Verdict::Refused {
-            number: 5,
+            number: numbers::OUT_OF_RANGE,
             place: r,
         };
     }
     if !arguments_match(b, starts, r, rec) {
         return Verdict::Refused {
-            number: 7,
+            number: numbers::BAD_ARGUMENTS,
             place: r,
         };
     }

@@ -13,6 +13,7 @@ ghost use Rattle.format.specs.Clauses.{entryOf, ClausesOf, ClausesFrom};
 use crate::layout::first_node;
 use crate::layout::nodes;
 use crate::names::arity;
+use crate::numbers;
 use crate::records::field;
 use crate::records::indexed;
 use crate::records::kind;
@@ -21,6 +22,7 @@ use crate::records::wide32;
 use crate::references::child;
 use crate::references::clause_constructor;
 use crate::references::clauses;
+use crate::sheet_kinds;
 use crate::tree::is_body;
 use definitions::Verdict;
 
@@ -56,7 +58,7 @@ fn clause_at(
     }
     let p = wide(parents[k]);
     let rec = indexed(b, starts, first_node(b) + p);
-    if kind(rec) == 24 {
+    if kind(rec) == sheet_kinds::CASE {
         return clause_of(rec, k);
     }
     held[p]
@@ -88,7 +90,7 @@ fn pattern_right(b: &[u8], starts: &[u16; 1601], held: &[u32; 1024], k: usize) -
     ensures { λ t. ⌜ t ≡ patternRight (now (b .entry)) k ⌝ }
 {
     let rec = indexed(b, starts, first_node(b) + k);
-    if kind(rec) != 19 {
+    if kind(rec) != sheet_kinds::PATTERN_VARIABLE {
         return true;
     }
     let h = held[k];
@@ -116,7 +118,7 @@ pub fn patterns(
     while k < count {
         if !pattern_right(b, starts, &held, k) {
             return Verdict::Refused {
-                number: 6,
+                number: numbers::BAD_TREE,
                 place: first + k,
             };
         }

@@ -7,31 +7,33 @@ ghost use Rattle.definitions.specs.References.{fromFirst, fromSecond, everyOthe
 use crate::records::field;
 use crate::records::field_count;
 use crate::records::kind;
+use crate::sheet_kinds;
+use crate::translation_kinds;
 
 // Kinds in which every other field names a node: case and select.
 fn every_other(kind: u16) -> bool
     ensures { λ t. ⌜ t ≡ everyOther kind ⌝ }
 {
-    if kind == 24 {
+    if kind == sheet_kinds::CASE {
         return true;
     }
-    if kind == 56 {
+    if kind == translation_kinds::CASE {
         return true;
     }
-    kind == 51
+    kind == translation_kinds::SELECT
 }
 
 // Kinds whose fields name nodes from field 0 on: if, case, select and the list of actuals.
 fn from_first(kind: u16) -> bool
     ensures { λ t. ⌜ t ≡ fromFirst kind ⌝ }
 {
-    if kind == 21 {
+    if kind == sheet_kinds::CONDITIONAL {
         return true;
     }
-    if kind == 53 {
+    if kind == translation_kinds::CONDITIONAL {
         return true;
     }
-    if kind == 35 {
+    if kind == translation_kinds::FORMAL_LIST {
         return true;
     }
     every_other(kind)
@@ -41,19 +43,19 @@ fn from_first(kind: u16) -> bool
 fn from_second(kind: u16) -> bool
     ensures { λ t. ⌜ t ≡ fromSecond kind ⌝ }
 {
-    if kind == 20 {
+    if kind == sheet_kinds::OPERATOR {
         return true;
     }
-    if kind == 22 {
+    if kind == sheet_kinds::CALL {
         return true;
     }
-    if kind == 23 {
+    if kind == sheet_kinds::BUILD {
         return true;
     }
-    if kind == 52 {
+    if kind == translation_kinds::OPERATOR {
         return true;
     }
-    kind == 55
+    kind == translation_kinds::TUPLE
 }
 
 // How many fields of a record of a kind with n fields name nodes.

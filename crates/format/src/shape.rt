@@ -18,12 +18,26 @@ use crate::layout::item_limit;
 use crate::layout::items;
 use crate::layout::nodes;
 use crate::layout::readings;
+use crate::numbers;
 use crate::records::field;
 use crate::records::indexed;
 use crate::records::kind;
 use crate::records::record_at;
+use crate::sheet_kinds;
+use crate::translation_kinds;
 use definitions::Layout;
 use definitions::Verdict;
+
+// Document 01's ranges: readings, functions and nodes of a file, arities and parameter counts, operator codes.
+const MOST_READINGS: u16 = 32;
+
+const MOST_FUNCTIONS: u16 = 64;
+
+const MOST_NODES: u16 = 1024;
+
+const MOST_FIELDS: u16 = 8;
+
+const LAST_OPERATOR: u16 = 5;
 
 // The verdict on a file's shape, and where its records start; of a refused file only the verdict counts.
 pub struct Shaped {
@@ -35,7 +49,7 @@ pub struct Shaped {
 fn head_counts(y: Layout, b: &[u8]) -> bool
     ensures { λ t. ⌜ t ≡ headCounts y (now (b .entry)) ⌝ }
 {
-    if 32 < readings(b) {
+    if MOST_READINGS < readings(b) {
         return false;
     }
     if item_limit(y) < items(b) {
@@ -45,14 +59,14 @@ fn head_counts(y: Layout, b: &[u8]) -> bool
     if f < 1 {
         return false;
     }
-    if 64 < f {
+    if MOST_FUNCTIONS < f {
         return false;
     }
     let n = nodes(b);
     if n < 1 {
         return false;
     }
-    n <= 1024
+    n <= MOST_NODES
 }
 
 // The sum of the functions' node counts.
@@ -95,16 +109,16 @@ fn counts(y: Layout, b: &[u8], starts: &[u16; 1601], r: usize, rec: &[u8]) -> bo
         return head_counts(y, b);
     }
     let k = kind(rec);
-    if k == 2 {
-        return field(rec, 0) <= 8;
+    if k == sheet_kinds::CONSTRUCTOR {
+        return field(rec, 0) <= MOST_FIELDS;
     }
-    if k == 3 {
-        if 8 < field(rec, 0) {
+    if k == sheet_kinds::FUNCTION {
+        if MOST_FIELDS < field(rec, 0) {
             return false;
         }
         return run_counts(y, b, starts, r, rec);
     }
-    if k == 34 {
+    if k == translation_kinds::FUNCTION {
         return run_counts(y, b, starts, r, rec);
     }
     true
@@ -115,11 +129,11 @@ fn operator_code(rec: &[u8]) -> bool
     ensures { λ t. ⌜ t ≡ operatorCode (now (rec .entry)) ⌝ }
 {
     let k = kind(rec);
-    if k == 20 {
-        return field(rec, 0) <= 5;
+    if k == sheet_kinds::OPERATOR {
+        return field(rec, 0) <= LAST_OPERATOR;
     }
-    if k == 52 {
-        return field(rec, 0) <= 5;
+    if k == translation_kinds::OPERATOR {
+        return field(rec, 0) <= LAST_OPERATOR;
     }
     true
 }
@@ -132,7 +146,7 @@ fn shape_at(y: Layout, b: &[u8], starts: &[u16; 1601], r: usize, at: usize) -> V
     let left = b.len() - at;
     if left < 4 {
         return Verdict::Refused {
-            number: 1,
+            number: numbers::TRUNCATED,
             place: r,
         };
     }
@@ -140,32 +154,32 @@ fn shape_at(y: Layout, b: &[u8], starts: &[u16; 1601], r: usize, at: usize) -> V
     let n = word(b, at);
     if !is_due(y, b, r, k) {
         return Verdict::Refused {
-            number: 3,
+            number: numbers::BAD_RECORD,
             place: r,
         };
     }
     if !allows(k, n) {
         return Verdict::Refused {
-            number: 3,
+            number: numbers::BAD_RECORD,
             place: r,
         };
     }
     if left < n as usize {
         return Verdict::Refused {
-            number: 1,
+            number: numbers::TRUNCATED,
             place: r,
         };
     }
     let rec = record_at(b, at);
     if !operator_code(rec) {
         return Verdict::Refused {
-            number: 3,
+            number: numbers::BAD_RECORD,
             place: r,
         };
     }
     if !counts(y, b, starts, r, rec) {
         return Verdict::Refused {
-            number: 4,
+            number: numbers::BAD_COUNT,
             place: r,
         };
     }
@@ -205,7 +219,7 @@ fn walk(y: Layout, b: &[u8]) -> Shaped
     } else {
         Shaped {
             verdict: Verdict::Refused {
-                number: 3,
+                number: numbers::BAD_RECORD,
                 place: count,
             },
             starts,
@@ -220,7 +234,7 @@ pub fn file_shape(y: Layout, b: &[u8]) -> Shaped
     if file_limit(y) < b.len() {
         return Shaped {
             verdict: Verdict::Refused {
-                number: 2,
+                number: numbers::OVERSIZE,
                 place: 0,
             },
             starts: [0u16; 1601],

@@ -12,12 +12,14 @@ use crate::layout::functions;
 use crate::layout::items;
 use crate::layout::nodes;
 use crate::layout::readings;
+use crate::numbers;
 use crate::records::field;
 use crate::records::indexed;
 use crate::records::kind;
 use crate::references::children_below;
 use crate::runs::run_ends;
 use crate::shape::file_shape;
+use crate::translation_kinds;
 use definitions::Layout;
 use definitions::Verdict;
 
@@ -35,13 +37,13 @@ fn names_in_range(b: &[u8], r: usize, rec: &[u8]) -> bool
     ensures { λ t. ⌜ t ≡ namesInRange (now (b .entry)) r (now (rec .entry)) ⌝ }
 {
     let k = kind(rec);
-    if k == 49 {
+    if k == translation_kinds::READING {
         return field(rec, 0) < readings(b);
     }
-    if k == 54 {
+    if k == translation_kinds::CALL {
         return field(rec, 1) < functions(b);
     }
-    if k == 50 {
+    if k == translation_kinds::FORMAL {
         return field(rec, 0) < items(b);
     }
     true
@@ -55,13 +57,13 @@ fn references_at(b: &[u8], starts: &[u16; 1601], r: usize) -> Verdict
     let rec = indexed(b, starts, r);
     if !children_below(rec, nodes(b) as usize) {
         return Verdict::Refused {
-            number: 5,
+            number: numbers::OUT_OF_RANGE,
             place: r,
         };
     }
     if !names_in_range(b, r, rec) {
         return Verdict::Refused {
-            number: 5,
+            number: numbers::OUT_OF_RANGE,
             place: r,
         };
     }

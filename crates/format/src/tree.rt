@@ -13,6 +13,7 @@ ghost use Rattle.format.specs.Index.{Opened, RunEnds, Owners, NodeAt};
 ghost use Rattle.format.specs.Seen.{TimesOf};
 use crate::layout::first_node;
 use crate::layout::nodes;
+use crate::numbers;
 use crate::records::indexed;
 use crate::records::kind;
 use crate::records::wide;
@@ -21,6 +22,7 @@ use crate::references::child;
 use crate::references::children;
 use crate::references::clause_constructor;
 use crate::references::clauses;
+use crate::sheet_kinds;
 use definitions::Verdict;
 
 // Whether node `k` is the body of its function.
@@ -89,7 +91,7 @@ fn tree_right(
         return false;
     }
     if is_body(b, starts, ends, owners, k) {
-        if kind(rec) == 24 {
+        if kind(rec) == sheet_kinds::CASE {
             return clauses_rise(rec);
         }
         return true;
@@ -97,7 +99,7 @@ fn tree_right(
     if wide8(times[k]) != 1 {
         return false;
     }
-    kind(rec) != 24
+    kind(rec) != sheet_kinds::CASE
 }
 
 // The child, case and clause order rules of every node.
@@ -117,7 +119,7 @@ pub fn trees(
     while k < count {
         if !tree_right(b, starts, ends, owners, times, k) {
             return Verdict::Refused {
-                number: 6,
+                number: numbers::BAD_TREE,
                 place: first + k,
             };
         }

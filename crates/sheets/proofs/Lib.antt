@@ -1,3 +1,4 @@
 pub mod Opened
 pub mod Observed
 pub mod Starred
+pub mod Orders

@@ -1,3 +1,4 @@
 pub mod Sheets
 pub mod Trial
 pub mod Starred
+pub mod Orders

@@ -6,22 +6,16 @@ use native.Mathlib.Omega.{arith}
 use borrow.Author.Needs.{needs}
 use Rattle.format.proofs.bytes.byte.Statement.{statement}
 use Rattle.format.proofs.bytes.byte.Tie as tie
-use Rattle.format.proofs.bytes.byte.Reads as reads
-use Rattle.format.proofs.bytes.byte.Lts as lts
 
--- src/bytes.rt:12:9
 shared-slice-read-result : tie.Need-shared-slice-read-result
 shared-slice-read-result c = search needs
 
--- src/bytes.rt:12:9
 cast-result : tie.Need-cast-result
 cast-result c = omega (arith, c .shared-slice-known .given (c .before .before .args .at))
 
--- src/bytes.rt:8:1
 returns : tie.Need-returns
 returns c = (search needs, omega (arith, c .shared-slice-known .given (c .before .before .args .at)))
 
--- src/bytes.rt:8:1
 returns-2 : tie.Need-returns-2
 returns-2 c = (byte-past (c .before .args .b .now) (c .before .args .at) (c .if1 .left), search needs)
 

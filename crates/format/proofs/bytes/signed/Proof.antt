@@ -7,35 +7,25 @@ use Rattle.definitions.specs.Bytes.{signed}
 use borrow.Author.Needs.{needs}
 use Rattle.format.proofs.bytes.signed.Statement.{statement}
 use Rattle.format.proofs.bytes.signed.Tie as tie
-use Rattle.format.proofs.bytes.signed.Reads as reads
-use Rattle.format.proofs.bytes.signed.Lts as lts
-use Rattle.format.proofs.bytes.word32.Reads as word32-reads
 
--- src/bytes.rt:47:9
 word32-requires : tie.Need-word32-requires
 word32-requires c κs = search needs
 
--- src/bytes.rt:49:9
 cast-result : tie.Need-cast-result
 cast-result c = search needs
 
--- src/bytes.rt:51:10
 cast-result-2 : tie.Need-cast-result-2
 cast-result-2 c = search needs
 
--- src/bytes.rt:51:10
 sub-result : tie.Need-sub-result
 sub-result c = wide-fits (c .before .word32 .result) (search needs)
 
--- src/bytes.rt:51:9
 cast-result-3 : tie.Need-cast-result-3
 cast-result-3 c = rw (toZ-ofZ w64 _ (wide-fits (c .before .word32 .result) (search needs))) (high-fits (c .before .word32 .result) (c .if1 .left) (search needs))
 
--- src/bytes.rt:44:1
 returns : tie.Need-returns
 returns c = signed-low _ _ _ (c .before .word32 .ensures)
 
--- src/bytes.rt:44:1
 returns-2 : tie.Need-returns-2
 returns-2 c = signed-high _ _ _ (c .before .word32 .ensures) (c .if1 .left) (search needs)
 

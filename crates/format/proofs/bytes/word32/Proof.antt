@@ -4,51 +4,37 @@ use Rattle.definitions.specs.Bytes.{word32, word}
 use borrow.Author.Needs.{needs}
 use Rattle.format.proofs.bytes.word32.Statement.{statement}
 use Rattle.format.proofs.bytes.word32.Tie as tie
-use Rattle.format.proofs.bytes.word32.Reads as reads
-use Rattle.format.proofs.bytes.word32.Lts as lts
-use Rattle.format.proofs.bytes.word.Reads as word-reads
 
--- src/bytes.rt:33:15
 word-requires : tie.Need-word-requires
 word-requires c κs = search needs
 
--- src/bytes.rt:33:15
 cast-low : tie.Need-cast-low
 cast-low c = search needs
 
--- src/bytes.rt:35:12
 add-if2 : tie.Need-add-if2
 add-if2 c = search needs
 
--- src/bytes.rt:36:32
 add-word : tie.Need-add-word
 add-word c = search needs
 
--- src/bytes.rt:36:24
 word-requires-2 : tie.Need-word-requires-2
 word-requires-2 c κs = search needs
 
--- src/bytes.rt:36:24
 cast-high : tie.Need-cast-high
 cast-high c = search needs
 
--- src/bytes.rt:37:26
 mul-result : tie.Need-mul-result
 mul-result c = search needs
 
--- src/bytes.rt:37:20
 add-result : tie.Need-add-result
 add-result c = search needs
 
--- src/bytes.rt:37:13
 returns : tie.Need-returns
 returns c = word32-words _ _ _ _ (c .before .before .before .word .ensures) (c .word2 .ensures)
 
--- src/bytes.rt:30:1
 returns-2 : tie.Need-returns-2
 returns-2 c = word32-low _ _ _ (search needs) (c .before .before .word .ensures)
 
--- src/bytes.rt:30:1
 returns-3 : tie.Need-returns-3
 returns-3 c = word32-low _ _ _ (search needs) (c .before .word .ensures)
 

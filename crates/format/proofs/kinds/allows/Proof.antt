@@ -5,41 +5,28 @@ use Rattle.laws.proofs.KindRows.{past-table, below-least, above-greatest, by-st
 use borrow.Author.Needs.{needs}
 use Rattle.format.proofs.kinds.allows.Statement.{statement}
 use Rattle.format.proofs.kinds.allows.Tie as tie
-use Rattle.format.proofs.kinds.allows.Reads as reads
-use Rattle.format.proofs.kinds.allows.Lts as lts
-use Rattle.format.proofs.kinds.greatest.Reads as greatest-reads
-use Rattle.format.proofs.kinds.least.Reads as least-reads
-use Rattle.format.proofs.kinds.step.Reads as step-reads
 
--- src/kinds.rt:51:9
 returns : tie.Need-returns
 returns c = past-table _ _ (c .if1 .taken)
 
--- src/kinds.rt:53:9
 least-requires : tie.Need-least-requires
 least-requires c κs = search needs
 
--- src/kinds.rt:55:9
 returns-2 : tie.Need-returns-2
 returns-2 c = below-least _ _ _ (c .before .least .ensures) (c .if2 .taken)
 
--- src/kinds.rt:57:8
 greatest-requires : tie.Need-greatest-requires
 greatest-requires c κs = search needs
 
--- src/kinds.rt:58:9
 returns-3 : tie.Need-returns-3
 returns-3 c = above-greatest _ _ _ (c .before .greatest .ensures) (c .if3 .taken)
 
--- src/kinds.rt:60:24
 step-requires : tie.Need-step-requires
 step-requires c κs = search needs
 
--- src/kinds.rt:60:5
 rem-result : tie.Need-rem-result
 rem-result c = rw (c .step .ensures) (step-positive _)
 
--- src/kinds.rt:46:1
 returns-4 : tie.Need-returns-4
 returns-4 c = by-step _ _ _ _ _ (c .before .before .before .before .least .ensures) (c .step .ensures) (c .before .before .greatest .ensures) (search needs) (search needs)
 

@@ -6,18 +6,13 @@ use mathlib.Core.Path.{refl}
 use borrow.Author.Needs.{needs}
 use Rattle.format.proofs.kinds.least.Statement.{statement}
 use Rattle.format.proofs.kinds.least.Tie as tie
-use Rattle.format.proofs.kinds.least.Reads as reads
-use Rattle.format.proofs.kinds.least.Lts as lts
 
--- src/kinds.rt:28:5
 mul-result : tie.Need-mul-result
 mul-result c = search needs
 
--- src/kinds.rt:28:5
 array-read-result : tie.Need-array-read-result
 array-read-result c = search needs
 
--- src/kinds.rt:24:1
 returns : tie.Need-returns
 unfolding listed row rows rowIn rowOf
 returns c = table-entry 57 _ (λ k. rowOf k .least) (c .args .kind) refl (c .pre)

@@ -6,18 +6,13 @@ use mathlib.Core.Path.{refl}
 use borrow.Author.Needs.{needs}
 use Rattle.format.proofs.kinds.step.Statement.{statement}
 use Rattle.format.proofs.kinds.step.Tie as tie
-use Rattle.format.proofs.kinds.step.Reads as reads
-use Rattle.format.proofs.kinds.step.Lts as lts
 
--- src/kinds.rt:35:5
 mul-result : tie.Need-mul-result
 mul-result c = search needs
 
--- src/kinds.rt:35:5
 array-read-result : tie.Need-array-read-result
 array-read-result c = search needs
 
--- src/kinds.rt:31:1
 returns : tie.Need-returns
 unfolding listed row rows rowIn rowOf
 returns c = table-entry 57 _ (λ k. rowOf k .step) (c .args .kind) refl (c .pre)

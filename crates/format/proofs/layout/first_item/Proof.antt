@@ -3,35 +3,25 @@ use Rattle.laws.proofs.Shape.{item-of-sheet, item-of-translation}
 use borrow.Author.Needs.{needs}
 use Rattle.format.proofs.layout.first_item.Statement.{statement}
 use Rattle.format.proofs.layout.first_item.Tie as tie
-use Rattle.format.proofs.layout.first_item.Reads as reads
-use Rattle.format.proofs.layout.first_item.Lts as lts
-use Rattle.format.proofs.layout.functions.Reads as functions-reads
 
--- src/layout.rt:38:26
 enum-told : tie.Need-enum-told
 enum-told c = search needs
 
--- src/layout.rt:39:36
 enum-told-2 : tie.Need-enum-told-2
 enum-told-2 c = search needs
 
--- src/layout.rt:39:36
 functions-requires : tie.Need-functions-requires
 functions-requires c κs = search needs
 
--- src/layout.rt:39:36
 cast-result : tie.Need-cast-result
 cast-result c = search needs
 
--- src/layout.rt:39:32
 add-result : tie.Need-add-result
 add-result c = search needs
 
--- src/layout.rt:34:1
 returns : tie.Need-returns
 returns c = (search item-of-sheet, search needs)
 
--- src/layout.rt:34:1
 returns-2 : tie.Need-returns-2
 returns-2 c = (search item-of-translation, search needs)
 

@@ -3,48 +3,34 @@ use Rattle.laws.proofs.Shape.{section-constructor, section-sheet-function, sect
 use borrow.Author.Needs.{needs}
 use Rattle.format.proofs.layout.section_kind.Statement.{statement}
 use Rattle.format.proofs.layout.section_kind.Tie as tie
-use Rattle.format.proofs.layout.section_kind.Reads as reads
-use Rattle.format.proofs.layout.section_kind.Lts as lts
-use Rattle.format.proofs.layout.functions.Reads as functions-reads
-use Rattle.format.proofs.layout.items.Reads as items-reads
 
--- src/layout.rt:79:21
 enum-told : tie.Need-enum-told
 enum-told c = search needs
 
--- src/layout.rt:79:21
 items-requires : tie.Need-items-requires
 items-requires c κs = search needs
 
--- src/layout.rt:79:21
 cast-if1 : tie.Need-cast-if1
 cast-if1 c = search needs
 
--- src/layout.rt:86:21
 enum-told-2 : tie.Need-enum-told-2
 enum-told-2 c = search needs
 
--- src/layout.rt:86:21
 functions-requires : tie.Need-functions-requires
 functions-requires c κs = search needs
 
--- src/layout.rt:86:21
 cast-if2 : tie.Need-cast-if2
 cast-if2 c = search needs
 
--- src/layout.rt:74:1
 returns : tie.Need-returns
 returns c = search section-constructor
 
--- src/layout.rt:74:1
 returns-2 : tie.Need-returns-2
 returns-2 c = search section-sheet-function
 
--- src/layout.rt:74:1
 returns-3 : tie.Need-returns-3
 returns-3 c = search section-function
 
--- src/layout.rt:74:1
 returns-4 : tie.Need-returns-4
 returns-4 c = search section-formal
 

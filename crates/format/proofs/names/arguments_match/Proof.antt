@@ -4,81 +4,55 @@ use Rattle.laws.proofs.Arguments.{callee-below, constructor-below, match-result
 use borrow.Author.Needs.{needs}
 use Rattle.format.proofs.names.arguments_match.Statement.{statement}
 use Rattle.format.proofs.names.arguments_match.Tie as tie
-use Rattle.format.proofs.names.arguments_match.Reads as reads
-use Rattle.format.proofs.names.arguments_match.Lts as lts
-use Rattle.format.proofs.layout.first_function.Reads as first-function-reads
-use Rattle.format.proofs.names.argument_count.Reads as argument-count-reads
-use Rattle.format.proofs.names.arity.Reads as arity-reads
-use Rattle.format.proofs.names.parameters.Reads as parameters-reads
-use Rattle.format.proofs.records.field.Reads as field-reads
-use Rattle.format.proofs.records.kind.Reads as kind-reads
-use Rattle.format.proofs.records.wide.Reads as wide-reads
 
--- src/names.rt:88:13
 first-function-requires : tie.Need-first-function-requires
 first-function-requires c κs = search needs
 
--- src/names.rt:89:16
 field-requires : tie.Need-field-requires
 field-requires c κs = search needs
 
--- src/names.rt:89:9
 returns : tie.Need-returns
 returns c = search match-result
 
--- src/names.rt:91:9
 kind-requires : tie.Need-kind-requires
 kind-requires c κs = search needs
 
--- src/names.rt:93:16
 argument-count-requires : tie.Need-argument-count-requires
 argument-count-requires c κs = search needs
 
--- src/names.rt:93:71
 field-requires-2 : tie.Need-field-requires-2
 field-requires-2 c κs = search needs
 
--- src/names.rt:93:66
 wide-requires : tie.Need-wide-requires
 wide-requires c κs = search needs
 
--- src/names.rt:93:44
 parameters-requires : tie.Need-parameters-requires
 parameters-requires c κs = (c .before .before .before .before .before .before .before .before .before .pre .0, callee-below _ _ _ _ _ (c .before .before .before .before .kind .ensures) (c .wide .ensures .0 ∙ c .before .field2 .ensures) (c .before .before .before .before .before .before .before .before .before .pre .1) (c .before .before .before .if2 .taken))
 
--- src/names.rt:93:39
 wide-requires-2 : tie.Need-wide-requires-2
 wide-requires-2 c κs = search needs
 
--- src/names.rt:93:9
 returns-2 : tie.Need-returns-2
 returns-2 c = match-call _ _ _ _ (c .before .before .before .before .before .before .before .before .first-function .ensures .0) (c .before .before .before .before .before .before .before .if1 .left) _ (c .before .before .before .before .before .before .kind .ensures) _ _ _ (c .before .before .before .before .before .if2 .taken) (c .before .before .before .before .argument-count .ensures) (c .before .before .wide .ensures .0 ∙ c .before .before .before .field2 .ensures) (c .wide2 .ensures .0 ∙ c .before .parameters .ensures)
 
--- src/names.rt:96:16
 argument-count-requires-2 : tie.Need-argument-count-requires-2
 argument-count-requires-2 c κs = search needs
 
--- src/names.rt:96:66
 field-requires-3 : tie.Need-field-requires-3
 field-requires-3 c κs = search needs
 
--- src/names.rt:96:61
 wide-requires-3 : tie.Need-wide-requires-3
 wide-requires-3 c κs = search needs
 
--- src/names.rt:96:44
 arity-requires : tie.Need-arity-requires
 arity-requires c κs = (c .before .before .before .before .before .before .before .before .before .before .pre .0, constructor-below _ _ _ _ _ (c .before .before .before .before .before .kind .ensures) (c .wide3 .ensures .0 ∙ c .before .field3 .ensures) (c .before .before .before .before .before .before .before .before .before .before .pre .1) (c .before .before .before .if3 .taken))
 
--- src/names.rt:96:39
 wide-requires-4 : tie.Need-wide-requires-4
 wide-requires-4 c κs = search needs
 
--- src/names.rt:96:9
 returns-3 : tie.Need-returns-3
 returns-3 c = match-build _ _ _ _ (c .before .before .before .before .before .before .before .before .before .first-function .ensures .0) (c .before .before .before .before .before .before .before .before .if1 .left) _ (c .before .before .before .before .before .before .before .kind .ensures) _ _ _ (c .before .before .before .before .before .if3 .taken) (c .before .before .before .before .argument-count2 .ensures) (c .before .before .wide3 .ensures .0 ∙ c .before .before .before .field3 .ensures) (c .wide4 .ensures .0 ∙ c .before .arity .ensures)
 
--- src/names.rt:84:1
 returns-4 : tie.Need-returns-4
 returns-4 c = search match-other
 

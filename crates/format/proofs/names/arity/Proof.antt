@@ -3,29 +3,19 @@ use Rattle.format.proofs.SheetTables.{opened-arity}
 use borrow.Author.Needs.{needs}
 use Rattle.format.proofs.names.arity.Statement.{statement}
 use Rattle.format.proofs.names.arity.Tie as tie
-use Rattle.format.proofs.names.arity.Reads as reads
-use Rattle.format.proofs.names.arity.Lts as lts
-use Rattle.format.proofs.layout.first_item.Reads as first-item-reads
-use Rattle.format.proofs.records.field.Reads as field-reads
-use Rattle.format.proofs.records.indexed.Reads as indexed-reads
 
--- src/names.rt:30:30
 first-item-requires : tie.Need-first-item-requires
 first-item-requires c κs = search needs
 
--- src/names.rt:30:30
 add-indexed : tie.Need-add-indexed
 add-indexed c = search needs
 
--- src/names.rt:30:11
 indexed-requires : tie.Need-indexed-requires
 indexed-requires c κs = search needs
 
--- src/names.rt:30:5
 field-requires : tie.Need-field-requires
 field-requires c κs = search needs
 
--- src/names.rt:26:1
 returns : tie.Need-returns
 returns c = opened-arity _ _ _ _ _ _ (c .before .before .before .before .pre .0) (c .before .before .before .before .pre .1) (c .before .before .first-item .ensures .0) (c .before .indexed .ensures) (c .field .ensures)
 

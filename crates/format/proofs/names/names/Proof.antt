@@ -12,10 +12,6 @@ use Prim.Native.Nat.{_≤_, _-_}
 use borrow.Author.Needs.{needs}
 use Rattle.format.proofs.names.names.Statement.{statement}
 use Rattle.format.proofs.names.names.Tie as tie
-use Rattle.format.proofs.names.names.Reads as reads
-use Rattle.format.proofs.names.names.Lts as lts
-use Rattle.format.proofs.layout.due.Reads as due-reads
-use Rattle.format.proofs.names.names_at.Reads as names-at-reads
 
 abbrev Inv-loop : tie.InvT-loop
 Inv-loop b starts owners count r₀ r = (r ≤ count) × (count ≡ due b) × Opened Sheet b starts × Owners b owners × Passed r (λ i. references b i andThen arguments b i)
@@ -23,42 +19,33 @@ Inv-loop b starts owners count r₀ r = (r ≤ count) × (count ≡ due b) × Op
 abbrev μ-loop : tie.MeasureT-loop
 μ-loop b starts owners count r₀ r = count - r
 
--- src/names.rt:124:9
 due-requires : tie.Need-due-requires Inv-loop μ-loop
 due-requires c κs = search needs
 
--- src/names.rt:126:5
 loop-holds : tie.Need-loop-holds Inv-loop μ-loop
 loop-holds c = (search needs, c .due .ensures .0, c .before .before .pre .0, c .before .before .pre .1, passed-none _)
 
--- src/names.rt:127:13
 names-at-requires : tie.Need-names-at-requires Inv-loop μ-loop
 names-at-requires c κs = record { file = c .before .loop .inv .2; owned = c .before .loop .inv .3; below = omega arith }
 
 enum-told : tie.Need-enum-told Inv-loop μ-loop
 enum-told c = c .match .keys1
 
--- src/names.rt:129:13
 enum-told-2 : tie.Need-enum-told-2 Inv-loop μ-loop
 enum-told-2 c = c .match .keys2
 
--- src/names.rt:129:13
 returns : tie.Need-returns Inv-loop μ-loop
 returns c = passed-refused _ _ _ _ _ _ _ (c .before .before .before .before .loop .inv .1) (c .before .before .before .loop-test .taken) (c .before .before .before .before .loop .inv .4) (c .before .before .names-at .ensures) (c .enum-told2 .given .1)
 
--- src/names.rt:131:9
 add-r : tie.Need-add-r Inv-loop μ-loop
 add-r c = search needs
 
--- src/names.rt:126:5
 loop-less : tie.Need-loop-less Inv-loop μ-loop
 loop-less c = search needs
 
--- src/names.rt:126:5
 loop-again : tie.Need-loop-again Inv-loop μ-loop
 loop-again c = (search needs, c .before .before .before .before .loop .inv .1, c .before .before .before .before .loop .inv .2, c .before .before .before .before .loop .inv .3, passed-more _ _ _ (c .before .before .before .before .loop .inv .4) (c .before .before .names-at .ensures) (c .enum-told .given .1))
 
--- src/names.rt:120:1
 returns-2 : tie.Need-returns-2 Inv-loop μ-loop
 returns-2 c = passed-all _ _ _ _ (c .before .loop .inv .1) (c .before .loop .inv .0) (c .loop-test .left) (c .before .loop .inv .4)
 

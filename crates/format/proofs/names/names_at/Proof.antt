@@ -7,52 +7,34 @@ use borrow.Author.Tests.{not-true, not-false}
 use borrow.Author.Needs.{needs}
 use Rattle.format.proofs.names.names_at.Statement.{statement}
 use Rattle.format.proofs.names.names_at.Tie as tie
-use Rattle.format.proofs.names.names_at.Reads as reads
-use Rattle.format.proofs.names.names_at.Lts as lts
-use Rattle.format.proofs.layout.nodes.Reads as nodes-reads
-use Rattle.format.proofs.names.arguments_match.Reads as arguments-match-reads
-use Rattle.format.proofs.names.names_in_range.Reads as names-in-range-reads
-use Rattle.format.proofs.records.indexed.Reads as indexed-reads
-use Rattle.format.proofs.records.wide.Reads as wide-reads
-use Rattle.format.proofs.references.children_below.Reads as children-below-reads
 
--- src/names.rt:106:9
 indexed-requires : tie.Need-indexed-requires
 indexed-requires c κs = search needs
 
--- src/names.rt:107:34
 nodes-requires : tie.Need-nodes-requires
 nodes-requires c κs = search needs
 
--- src/names.rt:107:29
 wide-requires : tie.Need-wide-requires
 wide-requires c κs = search needs
 
--- src/names.rt:107:9
 children-below-requires : tie.Need-children-below-requires
 children-below-requires c κs = search needs
 
--- src/names.rt:108:9
 returns : tie.Need-returns
 returns c = out-of-range _ _ (children-out _ _ _ _ (opened-record _ _ _ _ _ (c .before .before .before .before .before .before .pre .file) (c .before .before .before .before .before .before .pre .below) (c .before .before .before .before .indexed .ensures)) (c .before .before .wide .ensures .0 ∙ c .before .before .before .nodes .ensures) _ (c .before .children-below .ensures) (not-true _ (c .if1 .taken)))
 
--- src/names.rt:110:9
 names-in-range-requires : tie.Need-names-in-range-requires
 names-in-range-requires c κs = (c .before .before .before .before .before .before .pre, opened-record _ _ _ _ _ (c .before .before .before .before .before .before .pre .file) (c .before .before .before .before .before .before .pre .below) (c .before .before .before .before .indexed .ensures))
 
--- src/names.rt:111:9
 returns-2 : tie.Need-returns-2
 returns-2 c = out-of-range _ _ (names-out _ _ _ _ (opened-record _ _ _ _ _ (c .before .before .before .before .before .before .before .before .pre .file) (c .before .before .before .before .before .before .before .before .pre .below) (c .before .before .before .before .before .before .indexed .ensures)) (c .before .before .before .before .wide .ensures .0 ∙ c .before .before .before .before .before .nodes .ensures) _ (c .before .before .before .children-below .ensures) (not-false _ (c .before .before .if1 .left)) _ (c .before .names-in-range .ensures) (not-true _ (c .if2 .taken)))
 
--- src/names.rt:113:9
 arguments-match-requires : tie.Need-arguments-match-requires
 arguments-match-requires c κs = (c .before .before .before .before .before .before .before .before .pre .file, sym (c .before .names-in-range .ensures) ∙ not-false _ (c .if2 .left))
 
--- src/names.rt:114:9
 returns-3 : tie.Need-returns-3
 returns-3 c = mismatched _ _ _ (opened-record _ _ _ _ _ (c .before .before .before .before .before .before .before .before .before .before .pre .file) (c .before .before .before .before .before .before .before .before .before .before .pre .below) (c .before .before .before .before .before .before .before .before .indexed .ensures)) (all-in _ _ _ _ (opened-record _ _ _ _ _ (c .before .before .before .before .before .before .before .before .before .before .pre .file) (c .before .before .before .before .before .before .before .before .before .before .pre .below) (c .before .before .before .before .before .before .before .before .indexed .ensures)) (c .before .before .before .before .before .before .wide .ensures .0 ∙ c .before .before .before .before .before .before .before .nodes .ensures) _ (c .before .before .before .before .before .children-below .ensures) (not-false _ (c .before .before .before .before .if1 .left)) _ (c .before .before .before .names-in-range .ensures) (not-false _ (c .before .before .if2 .left))) _ (c .before .arguments-match .ensures) (not-true _ (c .if3 .taken))
 
--- src/names.rt:102:1
 returns-4 : tie.Need-returns-4
 returns-4 c = matched _ _ _ (opened-record _ _ _ _ _ (c .before .before .before .before .before .before .before .before .before .before .pre .file) (c .before .before .before .before .before .before .before .before .before .before .pre .below) (c .before .before .before .before .before .before .before .before .indexed .ensures)) (all-in _ _ _ _ (opened-record _ _ _ _ _ (c .before .before .before .before .before .before .before .before .before .before .pre .file) (c .before .before .before .before .before .before .before .before .before .before .pre .below) (c .before .before .before .before .before .before .before .before .indexed .ensures)) (c .before .before .before .before .before .before .wide .ensures .0 ∙ c .before .before .before .before .before .before .before .nodes .ensures) _ (c .before .before .before .before .before .children-below .ensures) (not-false _ (c .before .before .before .before .if1 .left)) _ (c .before .before .before .names-in-range .ensures) (not-false _ (c .before .before .if2 .left))) _ (c .before .arguments-match .ensures) (not-false _ (c .if3 .left))
 

@@ -5,74 +5,49 @@ use Rattle.laws.proofs.Names.{names-sheet-reading, names-parameter, names-calle
 use borrow.Author.Needs.{needs}
 use Rattle.format.proofs.names.names_in_range.Statement.{statement}
 use Rattle.format.proofs.names.names_in_range.Tie as tie
-use Rattle.format.proofs.names.names_in_range.Reads as reads
-use Rattle.format.proofs.names.names_in_range.Lts as lts
-use Rattle.format.proofs.layout.functions.Reads as functions-reads
-use Rattle.format.proofs.layout.items.Reads as items-reads
-use Rattle.format.proofs.layout.readings.Reads as readings-reads
-use Rattle.format.proofs.names.owner_parameters.Reads as owner-parameters-reads
-use Rattle.format.proofs.records.field.Reads as field-reads
-use Rattle.format.proofs.records.kind.Reads as kind-reads
-use Rattle.format.proofs.records.wide.Reads as wide-reads
-use Rattle.format.proofs.references.constructors_below.Reads as constructors-below-reads
 
--- src/names.rt:51:9
 kind-requires : tie.Need-kind-requires
 kind-requires c κs = search needs
 
--- src/names.rt:52:9
 field-requires : tie.Need-field-requires
 field-requires c κs = search needs
 
--- src/names.rt:54:20
 readings-requires : tie.Need-readings-requires
 readings-requires c κs = search needs
 
--- src/names.rt:54:9
 returns : tie.Need-returns
 returns c = search names-sheet-reading
 
--- src/names.rt:57:20
 owner-parameters-requires : tie.Need-owner-parameters-requires
 owner-parameters-requires c κs = search needs
 
--- src/names.rt:57:9
 returns-2 : tie.Need-returns-2
 returns-2 c = search names-parameter
 
--- src/names.rt:60:20
 functions-requires : tie.Need-functions-requires
 functions-requires c κs = search needs
 
--- src/names.rt:60:9
 returns-3 : tie.Need-returns-3
 returns-3 c = search names-callee
 
--- src/names.rt:63:20
 items-requires : tie.Need-items-requires
 items-requires c κs = search needs
 
--- src/names.rt:63:9
 returns-4 : tie.Need-returns-4
 returns-4 c = search names-constructor
 
--- src/names.rt:66:45
 items-requires-2 : tie.Need-items-requires-2
 items-requires-2 c κs = search needs
 
--- src/names.rt:66:40
 wide-requires : tie.Need-wide-requires
 wide-requires c κs = search needs
 
--- src/names.rt:66:9
 constructors-below-requires : tie.Need-constructors-below-requires
 constructors-below-requires c κs = search needs
 
--- src/names.rt:66:9
 returns-5 : tie.Need-returns-5
 returns-5 c = names-clauses _ _ _ _ (c .before .before .before .before .before .before .before .before .before .kind .ensures) _ _ (c .before .before .before .if5 .taken) (c .before .wide .ensures .0 ∙ c .before .before .items2 .ensures) (c .constructors-below .ensures)
 
--- src/names.rt:47:1
 returns-6 : tie.Need-returns-6
 returns-6 c = names-sheet-none _ _ _ _ (c .before .before .before .before .before .before .kind .ensures) (numbered-sheet-kind _ _ _ _ (c .before .before .before .before .before .before .before .before .before .pre .0 .file) (c .before .before .before .before .before .before .before .before .before .pre .0 .below) (c .before .before .before .before .before .before .before .before .before .pre .1)) (c .before .before .before .before .if1 .left) (c .before .before .before .if2 .left) (c .before .before .if3 .left) (c .before .if4 .left) (c .if5 .left)
 

@@ -6,45 +6,31 @@ use native.Mathlib.Omega.{arith}
 use borrow.Author.Needs.{needs}
 use Rattle.format.proofs.names.owner_parameters.Statement.{statement}
 use Rattle.format.proofs.names.owner_parameters.Tie as tie
-use Rattle.format.proofs.names.owner_parameters.Reads as reads
-use Rattle.format.proofs.names.owner_parameters.Lts as lts
-use Rattle.format.proofs.layout.first_node.Reads as first-node-reads
-use Rattle.format.proofs.names.parameters.Reads as parameters-reads
-use Rattle.format.proofs.records.wide8.Reads as wide8-reads
 
--- src/names.rt:38:9
 first-node-requires : tie.Need-first-node-requires
 first-node-requires c κs = search needs
 
--- src/names.rt:40:37
 element-copy-out-wide8 : tie.Need-element-copy-out-wide8
 element-copy-out-wide8 c = search needs
 
--- src/names.rt:40:31
 wide8-requires : tie.Need-wide8-requires
 wide8-requires c κs = search needs
 
--- src/names.rt:40:9
 parameters-requires : tie.Need-parameters-requires
 parameters-requires c κs = (c .before .before .before .before .before .pre .file, owner-few _ _ _ _ (c .before .before .before .before .before .pre) 0 _ (omega arith) (c .wide8 .ensures .0))
 
--- src/names.rt:42:37
 element-copy-out-wide8-2 : tie.Need-element-copy-out-wide8-2
 element-copy-out-wide8-2 c = node-narrow _ _ _ _ (c .before .before .before .pre) _ (c .before .first-node .ensures .0)
 
--- src/names.rt:42:31
 wide8-requires-2 : tie.Need-wide8-requires-2
 wide8-requires-2 c κs = search needs
 
--- src/names.rt:42:9
 parameters-requires-2 : tie.Need-parameters-requires-2
 parameters-requires-2 c κs = (c .before .before .before .before .before .pre .file, owner-few _ _ _ _ (c .before .before .before .before .before .pre) _ _ (omega arith) (c .wide82 .ensures .0))
 
--- src/names.rt:34:1
 returns : tie.Need-returns
 returns c = c .parameters .ensures ∙ ap (parameters (c .before .before .before .before .before .before .args .b .now)) (owner-is _ _ _ _ (c .before .before .before .before .before .before .pre) 0 _ (omega arith) (c .before .wide8 .ensures .0))
 
--- src/names.rt:34:1
 returns-2 : tie.Need-returns-2
 returns-2 c = c .parameters2 .ensures ∙ ap (parameters (c .before .before .before .before .before .before .args .b .now)) (owner-is _ _ _ _ (c .before .before .before .before .before .before .pre) _ _ (omega arith) (c .before .wide82 .ensures .0))
 

@@ -3,29 +3,19 @@ use Rattle.format.proofs.SheetTables.{opened-parameters}
 use borrow.Author.Needs.{needs}
 use Rattle.format.proofs.names.parameters.Statement.{statement}
 use Rattle.format.proofs.names.parameters.Tie as tie
-use Rattle.format.proofs.names.parameters.Reads as reads
-use Rattle.format.proofs.names.parameters.Lts as lts
-use Rattle.format.proofs.layout.first_function.Reads as first-function-reads
-use Rattle.format.proofs.records.field.Reads as field-reads
-use Rattle.format.proofs.records.indexed.Reads as indexed-reads
 
--- src/names.rt:22:30
 first-function-requires : tie.Need-first-function-requires
 first-function-requires c κs = search needs
 
--- src/names.rt:22:30
 add-indexed : tie.Need-add-indexed
 add-indexed c = search needs
 
--- src/names.rt:22:11
 indexed-requires : tie.Need-indexed-requires
 indexed-requires c κs = search needs
 
--- src/names.rt:22:5
 field-requires : tie.Need-field-requires
 field-requires c κs = search needs
 
--- src/names.rt:18:1
 returns : tie.Need-returns
 returns c = opened-parameters _ _ _ _ _ _ (c .before .before .before .before .pre .0) (c .before .before .before .before .pre .1) (c .before .before .first-function .ensures .0) (c .before .indexed .ensures) (c .field .ensures)
 

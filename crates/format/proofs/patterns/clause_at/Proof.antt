@@ -4,68 +4,46 @@ use Rattle.format.proofs.TreeSteps.{node-in-table}
 use borrow.Author.Needs.{needs}
 use Rattle.format.proofs.patterns.clause_at.Statement.{statement}
 use Rattle.format.proofs.patterns.clause_at.Tie as tie
-use Rattle.format.proofs.patterns.clause_at.Reads as reads
-use Rattle.format.proofs.patterns.clause_at.Lts as lts
-use Rattle.format.proofs.layout.first_node.Reads as first-node-reads
-use Rattle.format.proofs.patterns.clause_of.Reads as clause-of-reads
-use Rattle.format.proofs.records.indexed.Reads as indexed-reads
-use Rattle.format.proofs.records.kind.Reads as kind-reads
-use Rattle.format.proofs.records.wide.Reads as wide-reads
-use Rattle.format.proofs.tree.is_body.Reads as is-body-reads
 
--- src/patterns.rt:39:8
 is-body-requires : tie.Need-is-body-requires
 is-body-requires c κs = c .before .pre .0
 
--- src/patterns.rt:40:9
 returns : tie.Need-returns
 returns c = body-entry _ _ _ _ _ _ (c .before .before .before .pre .0) (c .before .before .before .pre .1) (c .before .before .before .pre .2) _ (c .before .is-body .ensures) (c .if1 .taken)
 
--- src/patterns.rt:42:18
 mul-wide : tie.Need-mul-wide
 mul-wide c = search needs
 
--- src/patterns.rt:42:18
 element-copy-out-wide : tie.Need-element-copy-out-wide
 element-copy-out-wide c = node-in-table _ _ _ _ _ (c .before .before .before .pre .0)
 
--- src/patterns.rt:42:9
 wide-requires : tie.Need-wide-requires
 wide-requires c κs = search needs
 
--- src/patterns.rt:43:34
 first-node-requires : tie.Need-first-node-requires
 first-node-requires c κs = search needs
 
--- src/patterns.rt:43:34
 add-indexed : tie.Need-add-indexed
 add-indexed c = search needs
 
--- src/patterns.rt:43:9
 indexed-requires : tie.Need-indexed-requires
 indexed-requires c κs = search needs
 
--- src/patterns.rt:44:8
 kind-requires : tie.Need-kind-requires
 kind-requires c κs = search needs
 
--- src/patterns.rt:45:9
 clause-of-requires : tie.Need-clause-of-requires
 clause-of-requires c κs = search needs
 
--- src/patterns.rt:45:9
 returns-2 : tie.Need-returns-2
 returns-2 c = clause-entry _ _ _ _ _ _ (c .before .before .before .before .before .before .before .before .before .before .pre .0) (c .before .before .before .before .before .before .before .before .before .before .pre .1) (c .before .before .before .before .before .before .before .before .before .before .pre .2) _ (c .before .before .before .before .before .before .before .before .is-body .ensures) (c .before .before .before .before .before .before .before .if1 .left) _ (c .before .before .before .before .before .wide .ensures .0) _ (c .before .before .before .before .first-node .ensures .0) _ (c .before .before .before .indexed .ensures) _ (c .before .before .kind .ensures) _ (c .before .if2 .taken) (c .clause-of .ensures)
 
--- src/patterns.rt:47:5
 mul-result : tie.Need-mul-result
 mul-result c = search needs
 
--- src/patterns.rt:47:5
 element-copy-out-result : tie.Need-element-copy-out-result
 element-copy-out-result c = parent-in-table _ _ _ _ _ _ (c .before .before .before .before .before .before .before .before .before .pre .0) (c .before .before .before .before .before .before .before .before .before .pre .1) (c .before .before .before .before .before .before .before .before .before .pre .2) _ (c .before .before .before .before .before .before .before .is-body .ensures) (c .before .before .before .before .before .before .if1 .left) _ (c .before .before .before .before .wide .ensures .0)
 
--- src/patterns.rt:35:1
 returns-3 : tie.Need-returns-3
 returns-3 c = parent-entry _ _ _ _ _ _ (c .before .before .before .before .before .before .before .before .before .before .pre .0) (c .before .before .before .before .before .before .before .before .before .before .pre .1) (c .before .before .before .before .before .before .before .before .before .before .pre .2) _ (c .before .before .before .before .before .before .before .before .is-body .ensures) (c .before .before .before .before .before .before .before .if1 .left) _ (c .before .before .before .before .before .wide .ensures .0) _ (c .before .before .before .before .first-node .ensures .0) _ (c .before .before .before .indexed .ensures) _ (c .before .before .kind .ensures) _ (c .before .before .before .before .before .before .before .before .before .before .pre .3) (c .before .if2 .left)
 

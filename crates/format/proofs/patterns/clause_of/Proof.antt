@@ -7,12 +7,6 @@ use mathlib.Core.Path.{_≡_, refl, _∙_, ap}
 use borrow.Author.Needs.{needs}
 use Rattle.format.proofs.patterns.clause_of.Statement.{statement}
 use Rattle.format.proofs.patterns.clause_of.Tie as tie
-use Rattle.format.proofs.patterns.clause_of.Reads as reads
-use Rattle.format.proofs.patterns.clause_of.Lts as lts
-use Rattle.format.proofs.records.wide.Reads as wide-reads
-use Rattle.format.proofs.references.child.Reads as child-reads
-use Rattle.format.proofs.references.clause_constructor.Reads as clause-constructor-reads
-use Rattle.format.proofs.references.clauses.Reads as clauses-reads
 
 abbrev Inv-loop : tie.InvT-loop
 Inv-loop rec k j₀ j = ClauseLeft rec k j
@@ -20,55 +14,42 @@ Inv-loop rec k j₀ j = ClauseLeft rec k j
 abbrev μ-loop : tie.MeasureT-loop
 μ-loop rec k j₀ j = j
 
--- src/patterns.rt:24:9
 clauses-requires : tie.Need-clauses-requires Inv-loop μ-loop
 clauses-requires c κs = search needs
 
--- src/patterns.rt:25:5
 loop-holds : tie.Need-loop-holds Inv-loop μ-loop
 loop-holds c = clause-left-all _ _ _ (c .clauses .ensures)
 
--- src/patterns.rt:26:17
 child-requires : tie.Need-child-requires Inv-loop μ-loop
 child-requires c κs = search needs
 
--- src/patterns.rt:26:12
 wide-requires : tie.Need-wide-requires Inv-loop μ-loop
 wide-requires c κs = search needs
 
--- src/patterns.rt:27:48
 sub-clause-constructor : tie.Need-sub-clause-constructor Inv-loop μ-loop
 sub-clause-constructor c = search needs
 
--- src/patterns.rt:27:24
 clause-constructor-requires : tie.Need-clause-constructor-requires Inv-loop μ-loop
 clause-constructor-requires c κs = search needs
 
--- src/patterns.rt:27:24
 cast-result : tie.Need-cast-result Inv-loop μ-loop
 cast-result c = search needs
 
--- src/patterns.rt:27:20
 add-result : tie.Need-add-result Inv-loop μ-loop
 add-result c = search needs
 
--- src/patterns.rt:27:13
 returns : tie.Need-returns Inv-loop μ-loop
 returns c = clause-found _ _ _ _ _ (c .before .before .before .before .before .loop .inv) (c .before .before .before .before .loop-test .taken) (c .before .before .wide .ensures .0 ∙ c .before .before .before .child .ensures) (c .before .if1 .taken) (c .clause-constructor .ensures)
 
--- src/patterns.rt:29:9
 sub-j : tie.Need-sub-j Inv-loop μ-loop
 sub-j c = search needs
 
--- src/patterns.rt:25:5
 loop-less : tie.Need-loop-less Inv-loop μ-loop
 loop-less c = search needs
 
--- src/patterns.rt:25:5
 loop-again : tie.Need-loop-again Inv-loop μ-loop
 loop-again c = clause-left-fewer _ _ _ _ (c .before .before .before .before .loop .inv) (c .before .before .before .loop-test .taken) (c .before .wide .ensures .0 ∙ c .before .before .child .ensures) (c .if1 .left)
 
--- src/patterns.rt:21:1
 returns-2 : tie.Need-returns-2 Inv-loop μ-loop
 returns-2 c = clause-not-found _ _ _ (c .before .loop .inv) (c .loop-test .left)
 

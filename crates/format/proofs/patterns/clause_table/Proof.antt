@@ -5,11 +5,6 @@ use mathlib.Core.Path.{refl, _∙_}
 use borrow.Author.Needs.{needs}
 use Rattle.format.proofs.patterns.clause_table.Statement.{statement}
 use Rattle.format.proofs.patterns.clause_table.Tie as tie
-use Rattle.format.proofs.patterns.clause_table.Reads as reads
-use Rattle.format.proofs.patterns.clause_table.Lts as lts
-use Rattle.format.proofs.layout.nodes.Reads as nodes-reads
-use Rattle.format.proofs.patterns.clause_at.Reads as clause-at-reads
-use Rattle.format.proofs.records.wide.Reads as wide-reads
 
 abbrev Inv-loop : tie.InvT-loop
 Inv-loop b starts ends owners parents held₀ k₀ held k = Filling b starts ends owners parents held k
@@ -17,43 +12,33 @@ Inv-loop b starts ends owners parents held₀ k₀ held k = Filling b starts end
 abbrev μ-loop : tie.MeasureT-loop
 μ-loop b starts ends owners parents held₀ k₀ held k = k
 
--- src/patterns.rt:56:22
 nodes-requires : tie.Need-nodes-requires Inv-loop μ-loop
 nodes-requires c κs = search needs
 
--- src/patterns.rt:56:9
 wide-requires : tie.Need-wide-requires Inv-loop μ-loop
 wide-requires c κs = search needs
 
--- src/patterns.rt:57:5
 loop-holds : tie.Need-loop-holds Inv-loop μ-loop
 loop-holds c = filling-begins _ _ _ _ _ _ _ (c .before .before .before .pre .0) (c .before .before .before .pre .1) (c .before .before .before .pre .2) (c .before .before .before .pre .3) (c .before .before .before .pre .4) refl (c .wide .ensures .0 ∙ c .before .nodes .ensures)
 
--- src/patterns.rt:58:9
 sub-k : tie.Need-sub-k Inv-loop μ-loop
 sub-k c = search needs
 
--- src/patterns.rt:59:19
 clause-at-requires : tie.Need-clause-at-requires Inv-loop μ-loop
 clause-at-requires c κs = (filling-node _ _ _ _ _ _ _ (c .before .before .loop .inv) (c .before .loop-test .taken), c .before .before .loop .inv .parents-right, c .before .before .loop .inv .checks, filling-from _ _ _ _ _ _ _ (c .before .before .loop .inv) (c .before .loop-test .taken))
 
--- src/patterns.rt:59:9
 mul-held : tie.Need-mul-held Inv-loop μ-loop
 mul-held c = record { fits = omega (arith, c .before .before .before .loop .inv .room) }
 
--- src/patterns.rt:59:9
 array-write-held : tie.Need-array-write-held Inv-loop μ-loop
 array-write-held c = omega (arith, c .before .before .before .loop .inv .room, c .before .before .loop-test .taken)
 
--- src/patterns.rt:57:5
 loop-less : tie.Need-loop-less Inv-loop μ-loop
 loop-less c = search needs
 
--- src/patterns.rt:57:5
 loop-again : tie.Need-loop-again Inv-loop μ-loop
 loop-again c = filling-goes-on _ _ _ _ _ _ _ (c .before .before .before .loop .inv) (c .before .before .loop-test .taken) _ (c .clause-at .ensures)
 
--- src/patterns.rt:51:1
 returns : tie.Need-returns Inv-loop μ-loop
 returns c = filling-done _ _ _ _ _ _ _ (c .before .loop .inv) (c .loop-test .left)
 

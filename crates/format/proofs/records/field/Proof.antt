@@ -2,27 +2,19 @@ use Rattle.laws.proofs.Records.{field-is, field-past}
 use borrow.Author.Needs.{needs}
 use Rattle.format.proofs.records.field.Statement.{statement}
 use Rattle.format.proofs.records.field.Tie as tie
-use Rattle.format.proofs.records.field.Reads as reads
-use Rattle.format.proofs.records.field.Lts as lts
-use Rattle.format.proofs.bytes.word.Reads as word-reads
 
--- src/records.rt:75:23
 mul-word : tie.Need-mul-word
 mul-word c = search needs
 
--- src/records.rt:75:19
 add-word : tie.Need-add-word
 add-word c = search needs
 
--- src/records.rt:75:9
 word-requires : tie.Need-word-requires
 word-requires c κs = search needs
 
--- src/records.rt:71:1
 returns : tie.Need-returns
 returns c = field-is _ _ _ (c .word .ensures)
 
--- src/records.rt:71:1
 returns-2 : tie.Need-returns-2
 returns-2 c = field-past _ _ (search needs)
 

@@ -4,20 +4,13 @@ use mathlib.Core.Path.{_∙_, ap}
 use borrow.Author.Needs.{needs}
 use Rattle.format.proofs.records.indexed.Statement.{statement}
 use Rattle.format.proofs.records.indexed.Tie as tie
-use Rattle.format.proofs.records.indexed.Reads as reads
-use Rattle.format.proofs.records.indexed.Lts as lts
-use Rattle.format.proofs.records.record_at.Reads as record-at-reads
-use Rattle.format.proofs.records.start_in.Reads as start-in-reads
 
--- src/records.rt:80:18
 start-in-requires : tie.Need-start-in-requires
 start-in-requires c κs = search needs
 
--- src/records.rt:80:5
 record-at-requires : tie.Need-record-at-requires
 record-at-requires c κs = search needs
 
--- src/records.rt:77:1
 returns : tie.Need-returns
 returns c = c .record-at .ensures ∙ ap (recordAt (c .before .before .before .args .b .now)) (c .before .start-in .ensures .0)
 

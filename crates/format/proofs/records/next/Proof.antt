@@ -4,32 +4,22 @@ use native.Mathlib.Omega.{arith}
 use borrow.Author.Needs.{needs}
 use Rattle.format.proofs.records.next.Statement.{statement}
 use Rattle.format.proofs.records.next.Tie as tie
-use Rattle.format.proofs.records.next.Reads as reads
-use Rattle.format.proofs.records.next.Lts as lts
-use Rattle.format.proofs.bytes.word.Reads as word-reads
-use Rattle.format.proofs.records.is_whole.Reads as is-whole-reads
 
--- src/records.rt:24:8
 is-whole-requires : tie.Need-is-whole-requires
 is-whole-requires c κs = search needs
 
--- src/records.rt:25:14
 word-requires : tie.Need-word-requires
 word-requires c κs = search needs
 
--- src/records.rt:25:14
 cast-result : tie.Need-cast-result
 cast-result c = search needs
 
--- src/records.rt:25:9
 add-result : tie.Need-add-result
 add-result c = omega (arith, c .before .before .before .before .good, whole-inside _ _ _ _ (c .before .before .is-whole .ensures) (c .before .if1 .taken) (c .word .ensures))
 
--- src/records.rt:21:1
 returns : tie.Need-returns
 returns c = next-whole _ _ _ _ (c .before .before .is-whole .ensures) (c .before .if1 .taken) (c .word .ensures)
 
--- src/records.rt:21:1
 returns-2 : tie.Need-returns-2
 returns-2 c = next-none _ _ _ (c .before .is-whole .ensures) (c .if1 .left)
 

@@ -4,48 +4,34 @@ use native.Mathlib.Omega.{arith}
 use borrow.Author.Needs.{needs}
 use Rattle.format.proofs.records.record_at.Statement.{statement}
 use Rattle.format.proofs.records.record_at.Tie as tie
-use Rattle.format.proofs.records.record_at.Reads as reads
-use Rattle.format.proofs.records.record_at.Lts as lts
-use Rattle.format.proofs.bytes.word.Reads as word-reads
-use Rattle.format.proofs.records.is_whole.Reads as is-whole-reads
 
--- src/records.rt:48:8
 is-whole-requires : tie.Need-is-whole-requires
 is-whole-requires c κs = search needs
 
--- src/records.rt:49:24
 word-requires : tie.Need-word-requires
 word-requires c κs = search needs
 
--- src/records.rt:49:24
 cast-end : tie.Need-cast-end
 cast-end c = search needs
 
--- src/records.rt:49:19
 add-end : tie.Need-add-end
 add-end c = omega (arith, c .before .before .before .before .good, whole-inside _ _ _ _ (c .before .before .is-whole .ensures) (c .before .if1 .taken) (c .word .ensures))
 
--- src/records.rt:50:9
 sub-result : tie.Need-sub-result
 sub-result c = search needs
 
--- src/records.rt:50:9
 part-result-start : tie.Need-part-result-start
 part-result-start c = search needs
 
--- src/records.rt:50:9
 part-result-end : tie.Need-part-result-end
 part-result-end c = whole-inside _ _ _ _ (c .before .before .is-whole .ensures) (c .before .if1 .taken) (c .word .ensures)
 
--- src/records.rt:52:9
 slice-aggregate-result : tie.Need-slice-aggregate-result
 slice-aggregate-result c = search needs
 
--- src/records.rt:45:1
 returns : tie.Need-returns
 returns c = record-part _ _ _ _ (c .before .before .before .is-whole .ensures) (c .before .before .if1 .taken) (c .before .word .ensures)
 
--- src/records.rt:45:1
 returns-2 : tie.Need-returns-2
 returns-2 c = record-none _ _ _ (c .before .before .is-whole .ensures) (c .before .if1 .left)
 

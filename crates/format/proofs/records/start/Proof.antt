@@ -7,9 +7,6 @@ use Prim.Native.Nat.{_≤_, _-_}
 use borrow.Author.Needs.{needs}
 use Rattle.format.proofs.records.start.Statement.{statement}
 use Rattle.format.proofs.records.start.Tie as tie
-use Rattle.format.proofs.records.start.Reads as reads
-use Rattle.format.proofs.records.start.Lts as lts
-use Rattle.format.proofs.records.next.Reads as next-reads
 
 abbrev Inv-loop : tie.InvT-loop
 Inv-loop b r at₀ i₀ at i = (i ≤ r) × (at ≡ startOf b i)
@@ -17,27 +14,21 @@ Inv-loop b r at₀ i₀ at i = (i ≤ r) × (at ≡ startOf b i)
 abbrev μ-loop : tie.MeasureT-loop
 μ-loop b r at₀ i₀ at i = r - i
 
--- src/records.rt:37:5
 loop-holds : tie.Need-loop-holds Inv-loop μ-loop
 loop-holds c = (search needs, start-zero _)
 
--- src/records.rt:38:9
 next-requires : tie.Need-next-requires Inv-loop μ-loop
 next-requires c κs = search needs
 
--- src/records.rt:39:9
 add-i : tie.Need-add-i Inv-loop μ-loop
 add-i c = search needs
 
--- src/records.rt:37:5
 loop-less : tie.Need-loop-less Inv-loop μ-loop
 loop-less c = search needs
 
--- src/records.rt:37:5
 loop-again : tie.Need-loop-again Inv-loop μ-loop
 loop-again c = (search needs, c .next .ensures ∙ start-next _ _ _ (c .before .before .loop .inv .1))
 
--- src/records.rt:32:1
 returns : tie.Need-returns Inv-loop μ-loop
 returns c = c .before .loop .inv .1 ∙ ap (startOf (c .before .before .before .args .b .now)) (omega arith)
 

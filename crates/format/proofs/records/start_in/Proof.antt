@@ -3,27 +3,19 @@ use Rattle.format.proofs.Indices.{start-inside, start-past}
 use borrow.Author.Needs.{needs}
 use Rattle.format.proofs.records.start_in.Statement.{statement}
 use Rattle.format.proofs.records.start_in.Tie as tie
-use Rattle.format.proofs.records.start_in.Reads as reads
-use Rattle.format.proofs.records.start_in.Lts as lts
-use Rattle.format.proofs.records.wide.Reads as wide-reads
 
--- src/records.rt:77:14
 mul-wide : tie.Need-mul-wide
 mul-wide c = search needs
 
--- src/records.rt:77:14
 element-copy-out-wide : tie.Need-element-copy-out-wide
 element-copy-out-wide c = search needs
 
--- src/records.rt:77:9
 wide-requires : tie.Need-wide-requires
 wide-requires c κs = search needs
 
--- src/records.rt:73:1
 returns : tie.Need-returns
 returns c = (start-inside _ _ _ (search needs) (c .wide .ensures .0), c .wide .ensures .1)
 
--- src/records.rt:73:1
 returns-2 : tie.Need-returns-2
 returns-2 c = (start-past _ _ (c .if1 .left), search needs)
 

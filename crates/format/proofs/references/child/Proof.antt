@@ -3,58 +3,40 @@ use Rattle.laws.proofs.References.{child-past, child-other, child-first, child-
 use borrow.Author.Needs.{needs}
 use Rattle.format.proofs.references.child.Statement.{statement}
 use Rattle.format.proofs.references.child.Tie as tie
-use Rattle.format.proofs.references.child.Reads as reads
-use Rattle.format.proofs.references.child.Lts as lts
-use Rattle.format.proofs.records.field.Reads as field-reads
-use Rattle.format.proofs.records.kind.Reads as kind-reads
-use Rattle.format.proofs.references.every_other.Reads as every-other-reads
-use Rattle.format.proofs.references.from_first.Reads as from-first-reads
 
--- src/references.rt:87:9
 returns : tie.Need-returns
 returns c = search child-past
 
--- src/references.rt:89:9
 kind-requires : tie.Need-kind-requires
 kind-requires c κs = search needs
 
--- src/references.rt:90:8
 every-other-requires : tie.Need-every-other-requires
 every-other-requires c κs = search needs
 
--- src/references.rt:91:27
 mul-field : tie.Need-mul-field
 mul-field c = search needs
 
--- src/references.rt:91:9
 field-requires : tie.Need-field-requires
 field-requires c κs = search needs
 
--- src/references.rt:91:9
 returns-2 : tie.Need-returns-2
 returns-2 c = search child-other
 
--- src/references.rt:93:8
 from-first-requires : tie.Need-from-first-requires
 from-first-requires c κs = search needs
 
--- src/references.rt:94:9
 field-requires-2 : tie.Need-field-requires-2
 field-requires-2 c κs = search needs
 
--- src/references.rt:94:9
 returns-3 : tie.Need-returns-3
 returns-3 c = search child-first
 
--- src/references.rt:96:16
 add-field : tie.Need-add-field
 add-field c = search needs
 
--- src/references.rt:96:5
 field-requires-3 : tie.Need-field-requires-3
 field-requires-3 c κs = search needs
 
--- src/references.rt:83:1
 returns-4 : tie.Need-returns-4
 returns-4 c = search child-second
 

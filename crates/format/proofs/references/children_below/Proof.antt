@@ -9,10 +9,6 @@ use Prim.Native.Nat.{_≤_, _-_}
 use borrow.Author.Needs.{needs}
 use Rattle.format.proofs.references.children_below.Statement.{statement}
 use Rattle.format.proofs.references.children_below.Tie as tie
-use Rattle.format.proofs.references.children_below.Reads as reads
-use Rattle.format.proofs.references.children_below.Lts as lts
-use Rattle.format.proofs.references.child.Reads as child-reads
-use Rattle.format.proofs.references.children.Reads as children-reads
 
 abbrev Inv-loop : tie.InvT-loop
 Inv-loop rec limit count j₀ j = (j ≤ count) × (count ≡ children rec) × Each j (λ i. ltb (child rec i) limit)
@@ -20,39 +16,30 @@ Inv-loop rec limit count j₀ j = (j ≤ count) × (count ≡ children rec) × E
 abbrev μ-loop : tie.MeasureT-loop
 μ-loop rec limit count j₀ j = count - j
 
--- src/references.rt:120:9
 children-requires : tie.Need-children-requires Inv-loop μ-loop
 children-requires c κs = search needs
 
--- src/references.rt:122:5
 loop-holds : tie.Need-loop-holds Inv-loop μ-loop
 loop-holds c = (search needs, c .children .ensures, each-none _)
 
--- src/references.rt:123:21
 child-requires : tie.Need-child-requires Inv-loop μ-loop
 child-requires c κs = search needs
 
--- src/references.rt:123:21
 cast-if1 : tie.Need-cast-if1 Inv-loop μ-loop
 cast-if1 c = search needs
 
--- src/references.rt:124:13
 returns : tie.Need-returns Inv-loop μ-loop
 returns c = each-fails _ _ _ _ (c .before .before .before .loop .inv .1) (c .before .before .loop-test .taken) (below-not _ _ _ (c .before .child .ensures) (c .if1 .taken))
 
--- src/references.rt:126:9
 add-j : tie.Need-add-j Inv-loop μ-loop
 add-j c = search needs
 
--- src/references.rt:122:5
 loop-less : tie.Need-loop-less Inv-loop μ-loop
 loop-less c = search needs
 
--- src/references.rt:122:5
 loop-again : tie.Need-loop-again Inv-loop μ-loop
 loop-again c = (search needs, c .before .before .before .loop .inv .1, each-more _ _ (c .before .before .before .loop .inv .2) (below-test _ _ _ (c .before .child .ensures) (c .if1 .left)))
 
--- src/references.rt:117:1
 returns-2 : tie.Need-returns-2 Inv-loop μ-loop
 returns-2 c = each-all _ _ _ _ (c .before .loop .inv .1) (c .before .loop .inv .0) (c .loop-test .left) (c .before .loop .inv .2)
 

@@ -3,15 +3,10 @@ use Rattle.laws.proofs.References.{clauses-counted}
 use borrow.Author.Needs.{needs}
 use Rattle.format.proofs.references.clauses.Statement.{statement}
 use Rattle.format.proofs.references.clauses.Tie as tie
-use Rattle.format.proofs.references.clauses.Reads as reads
-use Rattle.format.proofs.references.clauses.Lts as lts
-use Rattle.format.proofs.records.field_count.Reads as field-count-reads
 
--- src/references.rt:103:5
 field-count-requires : tie.Need-field-count-requires
 field-count-requires c κs = search needs
 
--- src/references.rt:100:1
 returns : tie.Need-returns
 returns c = search clauses-counted
 

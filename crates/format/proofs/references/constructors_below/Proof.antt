@@ -9,10 +9,6 @@ use Prim.Native.Nat.{_≤_, _-_}
 use borrow.Author.Needs.{needs}
 use Rattle.format.proofs.references.constructors_below.Statement.{statement}
 use Rattle.format.proofs.references.constructors_below.Tie as tie
-use Rattle.format.proofs.references.constructors_below.Reads as reads
-use Rattle.format.proofs.references.constructors_below.Lts as lts
-use Rattle.format.proofs.references.clause_constructor.Reads as clause-constructor-reads
-use Rattle.format.proofs.references.clauses.Reads as clauses-reads
 
 abbrev Inv-loop : tie.InvT-loop
 Inv-loop rec limit count j₀ j = (j ≤ count) × (count ≡ clauses rec) × Each j (λ i. ltb (clauseConstructor rec i) limit)
@@ -20,39 +16,30 @@ Inv-loop rec limit count j₀ j = (j ≤ count) × (count ≡ clauses rec) × Ea
 abbrev μ-loop : tie.MeasureT-loop
 μ-loop rec limit count j₀ j = count - j
 
--- src/references.rt:135:9
 clauses-requires : tie.Need-clauses-requires Inv-loop μ-loop
 clauses-requires c κs = search needs
 
--- src/references.rt:137:5
 loop-holds : tie.Need-loop-holds Inv-loop μ-loop
 loop-holds c = (search needs, c .clauses .ensures, each-none _)
 
--- src/references.rt:138:21
 clause-constructor-requires : tie.Need-clause-constructor-requires Inv-loop μ-loop
 clause-constructor-requires c κs = search needs
 
--- src/references.rt:138:21
 cast-if1 : tie.Need-cast-if1 Inv-loop μ-loop
 cast-if1 c = search needs
 
--- src/references.rt:139:13
 returns : tie.Need-returns Inv-loop μ-loop
 returns c = each-fails _ _ _ _ (c .before .before .before .loop .inv .1) (c .before .before .loop-test .taken) (below-not _ _ _ (c .before .clause-constructor .ensures) (c .if1 .taken))
 
--- src/references.rt:141:9
 add-j : tie.Need-add-j Inv-loop μ-loop
 add-j c = search needs
 
--- src/references.rt:137:5
 loop-less : tie.Need-loop-less Inv-loop μ-loop
 loop-less c = search needs
 
--- src/references.rt:137:5
 loop-again : tie.Need-loop-again Inv-loop μ-loop
 loop-again c = (search needs, c .before .before .before .loop .inv .1, each-more _ _ (c .before .before .before .loop .inv .2) (below-test _ _ _ (c .before .clause-constructor .ensures) (c .if1 .left)))
 
--- src/references.rt:132:1
 returns-2 : tie.Need-returns-2 Inv-loop μ-loop
 returns-2 c = each-all _ _ _ _ (c .before .loop .inv .1) (c .before .loop .inv .0) (c .loop-test .left) (c .before .loop .inv .2)
 

@@ -3,18 +3,13 @@ use Rattle.laws.proofs.References.{other-sheet-case, other-case, other-select}
 use borrow.Author.Needs.{needs}
 use Rattle.format.proofs.references.every_other.Statement.{statement}
 use Rattle.format.proofs.references.every_other.Tie as tie
-use Rattle.format.proofs.references.every_other.Reads as reads
-use Rattle.format.proofs.references.every_other.Lts as lts
 
--- src/references.rt:14:9
 returns : tie.Need-returns
 returns c = search other-sheet-case
 
--- src/references.rt:17:9
 returns-2 : tie.Need-returns-2
 returns-2 c = search other-case
 
--- src/references.rt:10:1
 returns-3 : tie.Need-returns-3
 returns-3 c = search other-select
 

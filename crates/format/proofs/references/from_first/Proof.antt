@@ -3,27 +3,19 @@ use Rattle.laws.proofs.References.{first-sheet-if, first-if, first-list, first-
 use borrow.Author.Needs.{needs}
 use Rattle.format.proofs.references.from_first.Statement.{statement}
 use Rattle.format.proofs.references.from_first.Tie as tie
-use Rattle.format.proofs.references.from_first.Reads as reads
-use Rattle.format.proofs.references.from_first.Lts as lts
-use Rattle.format.proofs.references.every_other.Reads as every-other-reads
 
--- src/references.rt:27:9
 returns : tie.Need-returns
 returns c = search first-sheet-if
 
--- src/references.rt:30:9
 returns-2 : tie.Need-returns-2
 returns-2 c = search first-if
 
--- src/references.rt:33:9
 returns-3 : tie.Need-returns-3
 returns-3 c = search first-list
 
--- src/references.rt:35:5
 every-other-requires : tie.Need-every-other-requires
 every-other-requires c κs = search needs
 
--- src/references.rt:23:1
 returns-4 : tie.Need-returns-4
 returns-4 c = search first-other
 

@@ -3,26 +3,19 @@ use Rattle.laws.proofs.References.{second-sheet-operator, second-call, second-b
 use borrow.Author.Needs.{needs}
 use Rattle.format.proofs.references.from_second.Statement.{statement}
 use Rattle.format.proofs.references.from_second.Tie as tie
-use Rattle.format.proofs.references.from_second.Reads as reads
-use Rattle.format.proofs.references.from_second.Lts as lts
 
--- src/references.rt:43:9
 returns : tie.Need-returns
 returns c = search second-sheet-operator
 
--- src/references.rt:46:9
 returns-2 : tie.Need-returns-2
 returns-2 c = search second-call
 
--- src/references.rt:49:9
 returns-3 : tie.Need-returns-3
 returns-3 c = search second-build
 
--- src/references.rt:52:9
 returns-4 : tie.Need-returns-4
 returns-4 c = search second-operator
 
--- src/references.rt:39:1
 returns-5 : tie.Need-returns-5
 returns-5 c = search second-tuple
 

@@ -3,31 +3,22 @@ use Rattle.format.proofs.RunTables.{owner-next, owner-same}
 use borrow.Author.Needs.{needs}
 use Rattle.format.proofs.runs.owner_after.Statement.{statement}
 use Rattle.format.proofs.runs.owner_after.Tie as tie
-use Rattle.format.proofs.runs.owner_after.Reads as reads
-use Rattle.format.proofs.runs.owner_after.Lts as lts
-use Rattle.format.proofs.records.wide.Reads as wide-reads
 
--- src/runs.rt:36:13
 mul-wide : tie.Need-mul-wide
 mul-wide c = search needs
 
--- src/runs.rt:36:13
 element-copy-out-wide : tie.Need-element-copy-out-wide
 element-copy-out-wide c = search needs
 
--- src/runs.rt:36:8
 wide-requires : tie.Need-wide-requires
 wide-requires c κs = search needs
 
--- src/runs.rt:37:9
 add-result : tie.Need-add-result
 add-result c = search needs
 
--- src/runs.rt:32:1
 returns : tie.Need-returns
 returns c = owner-next _ _ _ _ (c .before .wide .ensures .0) (c .if1 .taken)
 
--- src/runs.rt:32:1
 returns-2 : tie.Need-returns-2
 returns-2 c = owner-same _ _ _ _ (c .before .wide .ensures .0) (c .if1 .left)
 

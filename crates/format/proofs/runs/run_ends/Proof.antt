@@ -7,14 +7,6 @@ use Prim.Native.Nat.{_-_}
 use borrow.Author.Needs.{needs}
 use Rattle.format.proofs.runs.run_ends.Statement.{statement}
 use Rattle.format.proofs.runs.run_ends.Tie as tie
-use Rattle.format.proofs.runs.run_ends.Reads as reads
-use Rattle.format.proofs.runs.run_ends.Lts as lts
-use Rattle.format.proofs.layout.count_field.Reads as count-field-reads
-use Rattle.format.proofs.layout.first_function.Reads as first-function-reads
-use Rattle.format.proofs.layout.functions.Reads as functions-reads
-use Rattle.format.proofs.records.field.Reads as field-reads
-use Rattle.format.proofs.records.indexed.Reads as indexed-reads
-use Rattle.format.proofs.records.wide.Reads as wide-reads
 
 abbrev Inv-loop : tie.InvT-loop
 Inv-loop b starts first count j ends₀ total₀ f₀ ends total f = Ending b starts first count j ends total f
@@ -22,71 +14,54 @@ Inv-loop b starts first count j ends₀ total₀ f₀ ends total f = Ending b st
 abbrev μ-loop : tie.MeasureT-loop
 μ-loop b starts first count j ends₀ total₀ f₀ ends total f = count - f
 
--- src/runs.rt:17:9
 first-function-requires : tie.Need-first-function-requires Inv-loop μ-loop
 first-function-requires c κs = search needs
 
--- src/runs.rt:18:17
 functions-requires : tie.Need-functions-requires Inv-loop μ-loop
 functions-requires c κs = search needs
 
--- src/runs.rt:18:17
 cast-count : tie.Need-cast-count Inv-loop μ-loop
 cast-count c = search needs
 
--- src/runs.rt:19:9
 count-field-requires : tie.Need-count-field-requires Inv-loop μ-loop
 count-field-requires c κs = search needs
 
--- src/runs.rt:23:5
 loop-holds : tie.Need-loop-holds Inv-loop μ-loop
 loop-holds c = ending-begins _ _ _ _ _ _ _ (c .before .before .before .before .pre) (c .before .before .first-function .ensures .0) (c .before .functions .ensures) (c .count-field .ensures) refl
 
--- src/runs.rt:24:48
 add-indexed : tie.Need-add-indexed Inv-loop μ-loop
 add-indexed c = search needs
 
--- src/runs.rt:24:29
 indexed-requires : tie.Need-indexed-requires Inv-loop μ-loop
 indexed-requires c κs = search needs
 
--- src/runs.rt:24:23
 field-requires : tie.Need-field-requires Inv-loop μ-loop
 field-requires c κs = search needs
 
--- src/runs.rt:24:18
 wide-requires : tie.Need-wide-requires Inv-loop μ-loop
 wide-requires c κs = search needs
 
--- src/runs.rt:24:9
 add-total : tie.Need-add-total Inv-loop μ-loop
 add-total c = search needs
 
--- src/runs.rt:25:19
 cast-ends : tie.Need-cast-ends Inv-loop μ-loop
 cast-ends c = record { fits = omega (arith, next-fits _ _ _ _ _ _ _ _ (c .before .before .before .before .loop .inv) (c .wide .result) (c .before .before .before .loop-test .taken) (c .wide .ensures .0 ∙ indexed-field _ _ _ _ _ _ _ (c .before .before .before .before .loop .inv .index) (search needs) (c .before .before .indexed .ensures) (c .before .field .ensures))) }
 
--- src/runs.rt:25:9
 mul-ends : tie.Need-mul-ends Inv-loop μ-loop
 mul-ends c = search needs
 
--- src/runs.rt:25:9
 array-write-ends : tie.Need-array-write-ends Inv-loop μ-loop
 array-write-ends c = search needs
 
--- src/runs.rt:26:9
 add-f : tie.Need-add-f Inv-loop μ-loop
 add-f c = search needs
 
--- src/runs.rt:23:5
 loop-less : tie.Need-loop-less Inv-loop μ-loop
 loop-less c = search needs
 
--- src/runs.rt:23:5
 loop-again : tie.Need-loop-again Inv-loop μ-loop
 loop-again c = ending-goes-on _ _ _ _ _ _ _ _ (c .before .before .before .before .loop .inv) (c .wide .result) (c .before .before .before .loop-test .taken) (c .wide .ensures .0 ∙ indexed-field _ _ _ _ _ _ _ (c .before .before .before .before .loop .inv .index) (search needs) (c .before .before .indexed .ensures) (c .before .field .ensures))
 
--- src/runs.rt:13:1
 returns : tie.Need-returns Inv-loop μ-loop
 returns c = ending-done _ _ _ _ _ _ _ _ (c .before .loop .inv) _ (c .before .before .before .before .first-function .ensures .0) (c .before .before .before .functions .ensures) (c .before .before .count-field .ensures) (c .loop-test .left)
 

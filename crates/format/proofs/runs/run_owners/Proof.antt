@@ -6,10 +6,6 @@ use Prim.Native.Nat.{_-_}
 use borrow.Author.Needs.{needs}
 use Rattle.format.proofs.runs.run_owners.Statement.{statement}
 use Rattle.format.proofs.runs.run_owners.Tie as tie
-use Rattle.format.proofs.runs.run_owners.Reads as reads
-use Rattle.format.proofs.runs.run_owners.Lts as lts
-use Rattle.format.proofs.layout.nodes.Reads as nodes-reads
-use Rattle.format.proofs.runs.owner_after.Reads as owner-after-reads
 
 abbrev Inv-loop : tie.InvT-loop
 Inv-loop b ends count owners₀ f₀ k₀ owners f k = Owning b ends count owners f k
@@ -17,43 +13,33 @@ Inv-loop b ends count owners₀ f₀ k₀ owners f k = Owning b ends count owner
 abbrev μ-loop : tie.MeasureT-loop
 μ-loop b ends count owners₀ f₀ k₀ owners f k = count - k
 
--- src/runs.rt:48:17
 nodes-requires : tie.Need-nodes-requires Inv-loop μ-loop
 nodes-requires c κs = search needs
 
--- src/runs.rt:48:17
 cast-count : tie.Need-cast-count Inv-loop μ-loop
 cast-count c = search needs
 
--- src/runs.rt:52:5
 loop-holds : tie.Need-loop-holds Inv-loop μ-loop
 loop-holds c = owning-begins _ _ _ _ (c .before .before .pre .0) (c .before .before .pre .1) (c .nodes .ensures) refl
 
--- src/runs.rt:53:9
 owner-after-requires : tie.Need-owner-after-requires Inv-loop μ-loop
 owner-after-requires c κs = search needs
 
--- src/runs.rt:54:21
 cast-owners : tie.Need-cast-owners Inv-loop μ-loop
 cast-owners c = record { fits = omega (arith, owner-small _ _ _ _ _ _ (c .before .before .loop .inv) (c .owner-after .result) (c .before .loop-test .taken) (c .owner-after .ensures)) }
 
--- src/runs.rt:54:9
 array-write-owners : tie.Need-array-write-owners Inv-loop μ-loop
 array-write-owners c = search needs
 
--- src/runs.rt:55:9
 add-k : tie.Need-add-k Inv-loop μ-loop
 add-k c = search needs
 
--- src/runs.rt:52:5
 loop-less : tie.Need-loop-less Inv-loop μ-loop
 loop-less c = search needs
 
--- src/runs.rt:52:5
 loop-again : tie.Need-loop-again Inv-loop μ-loop
 loop-again c = owning-goes-on _ _ _ _ _ _ (c .before .before .loop .inv) (c .owner-after .result) (c .before .loop-test .taken) (c .owner-after .ensures)
 
--- src/runs.rt:44:1
 returns : tie.Need-returns Inv-loop μ-loop
 returns c = owning-done _ _ _ _ _ _ (c .before .loop .inv) (c .loop-test .left)
 

@@ -3,19 +3,13 @@ use Rattle.format.proofs.SeenTables.{noted-inside, noted-outside}
 use borrow.Author.Needs.{needs}
 use Rattle.format.proofs.seen.note_child.Statement.{statement}
 use Rattle.format.proofs.seen.note_child.Tie as tie
-use Rattle.format.proofs.seen.note_child.Reads as reads
-use Rattle.format.proofs.seen.note_child.Lts as lts
-use Rattle.format.proofs.seen.note.Reads as note-reads
 
--- src/tree.rt:46:9
 note-requires : tie.Need-note-requires
 note-requires c κs = search needs
 
--- src/tree.rt:42:1
 returns : tie.Need-returns
 returns c = noted-inside _ _ _ _ _ _ (search needs) (c .note .ensures .0) (c .note .ensures .1)
 
--- src/tree.rt:42:1
 returns-2 : tie.Need-returns-2
 returns-2 c = noted-outside _ _ _ _ (c .if1 .left)
 

@@ -3,14 +3,10 @@ use Rattle.format.proofs.SeenTables.{once-first, once-more}
 use borrow.Author.Needs.{needs}
 use Rattle.format.proofs.seen.once.Statement.{statement}
 use Rattle.format.proofs.seen.once.Tie as tie
-use Rattle.format.proofs.seen.once.Reads as reads
-use Rattle.format.proofs.seen.once.Lts as lts
 
--- src/tree.rt:22:1
 returns : tie.Need-returns
 returns c = once-first _ (c .if1 .taken)
 
--- src/tree.rt:22:1
 returns-2 : tie.Need-returns-2
 returns-2 c = once-more _ (c .if1 .left)
 

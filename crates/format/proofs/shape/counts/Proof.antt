@@ -3,58 +3,40 @@ use Rattle.laws.proofs.Shape.{counts-head, counts-constructor, counts-parameter
 use borrow.Author.Needs.{needs}
 use Rattle.format.proofs.shape.counts.Statement.{statement}
 use Rattle.format.proofs.shape.counts.Tie as tie
-use Rattle.format.proofs.shape.counts.Reads as reads
-use Rattle.format.proofs.shape.counts.Lts as lts
-use Rattle.format.proofs.records.field.Reads as field-reads
-use Rattle.format.proofs.records.kind.Reads as kind-reads
-use Rattle.format.proofs.shape.head_counts.Reads as head-counts-reads
-use Rattle.format.proofs.shape.run_counts.Reads as run-counts-reads
 
--- src/shape.rt:83:9
 head-counts-requires : tie.Need-head-counts-requires
 head-counts-requires c κs = search needs
 
--- src/shape.rt:83:9
 returns : tie.Need-returns
 returns c = search counts-head
 
--- src/shape.rt:85:9
 kind-requires : tie.Need-kind-requires
 kind-requires c κs = search needs
 
--- src/shape.rt:87:16
 field-requires : tie.Need-field-requires
 field-requires c κs = search needs
 
--- src/shape.rt:87:9
 returns-2 : tie.Need-returns-2
 returns-2 c = search counts-constructor
 
--- src/shape.rt:90:16
 field-requires-2 : tie.Need-field-requires-2
 field-requires-2 c κs = search needs
 
--- src/shape.rt:91:13
 returns-3 : tie.Need-returns-3
 returns-3 c = search counts-parameters
 
--- src/shape.rt:93:9
 run-counts-requires : tie.Need-run-counts-requires
 run-counts-requires c κs = search needs
 
--- src/shape.rt:93:9
 returns-4 : tie.Need-returns-4
 returns-4 c = search counts-sheet-run
 
--- src/shape.rt:96:9
 run-counts-requires-2 : tie.Need-run-counts-requires-2
 run-counts-requires-2 c κs = search needs
 
--- src/shape.rt:96:9
 returns-5 : tie.Need-returns-5
 returns-5 c = search counts-run
 
--- src/shape.rt:78:1
 returns-6 : tie.Need-returns-6
 returns-6 c = search counts-other
 

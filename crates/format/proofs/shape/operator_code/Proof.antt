@@ -3,32 +3,22 @@ use Rattle.laws.proofs.Shape.{code-sheet, code-translation, code-none}
 use borrow.Author.Needs.{needs}
 use Rattle.format.proofs.shape.operator_code.Statement.{statement}
 use Rattle.format.proofs.shape.operator_code.Tie as tie
-use Rattle.format.proofs.shape.operator_code.Reads as reads
-use Rattle.format.proofs.shape.operator_code.Lts as lts
-use Rattle.format.proofs.records.field.Reads as field-reads
-use Rattle.format.proofs.records.kind.Reads as kind-reads
 
--- src/shape.rt:105:9
 kind-requires : tie.Need-kind-requires
 kind-requires c κs = search needs
 
--- src/shape.rt:107:16
 field-requires : tie.Need-field-requires
 field-requires c κs = search needs
 
--- src/shape.rt:107:9
 returns : tie.Need-returns
 returns c = search code-sheet
 
--- src/shape.rt:110:16
 field-requires-2 : tie.Need-field-requires-2
 field-requires-2 c κs = search needs
 
--- src/shape.rt:110:9
 returns-2 : tie.Need-returns-2
 returns-2 c = search code-translation
 
--- src/shape.rt:102:1
 returns-3 : tie.Need-returns-3
 returns-3 c = search code-none
 

@@ -9,13 +9,6 @@ use Prim.Native.Nat.{_≤_, _-_, _+_, _*_}
 use borrow.Author.Needs.{needs}
 use Rattle.format.proofs.shape.run_total.Statement.{statement}
 use Rattle.format.proofs.shape.run_total.Tie as tie
-use Rattle.format.proofs.shape.run_total.Reads as reads
-use Rattle.format.proofs.shape.run_total.Lts as lts
-use Rattle.format.proofs.layout.count_field.Reads as count-field-reads
-use Rattle.format.proofs.layout.first_function.Reads as first-function-reads
-use Rattle.format.proofs.layout.functions.Reads as functions-reads
-use Rattle.format.proofs.records.field.Reads as field-reads
-use Rattle.format.proofs.records.indexed.Reads as indexed-reads
 
 abbrev Inv-loop : tie.InvT-loop
 Inv-loop b starts first count j total₀ f₀ total f = (f ≤ count) × (Indexed b starts (first + count)) × (total ≤ 65535 * f) × Totalled b first j f total
@@ -23,59 +16,45 @@ Inv-loop b starts first count j total₀ f₀ total f = (f ≤ count) × (Indexe
 abbrev μ-loop : tie.MeasureT-loop
 μ-loop b starts first count j total₀ f₀ total f = count - f
 
--- src/shape.rt:50:9
 first-function-requires : tie.Need-first-function-requires Inv-loop μ-loop
 first-function-requires c κs = search needs
 
--- src/shape.rt:51:17
 functions-requires : tie.Need-functions-requires Inv-loop μ-loop
 functions-requires c κs = search needs
 
--- src/shape.rt:51:17
 cast-count : tie.Need-cast-count Inv-loop μ-loop
 cast-count c = search needs
 
--- src/shape.rt:52:9
 count-field-requires : tie.Need-count-field-requires Inv-loop μ-loop
 count-field-requires c κs = search needs
 
--- src/shape.rt:55:5
 loop-holds : tie.Need-loop-holds Inv-loop μ-loop
 loop-holds c = (search needs, as-many _ _ _ _ (c .before .before .before .before .pre) (omega arith), search needs, total-none _ _ _)
 
--- src/shape.rt:56:43
 add-indexed : tie.Need-add-indexed Inv-loop μ-loop
 add-indexed c = search needs
 
--- src/shape.rt:56:24
 indexed-requires : tie.Need-indexed-requires Inv-loop μ-loop
 indexed-requires c κs = search needs
 
--- src/shape.rt:56:18
 field-requires : tie.Need-field-requires Inv-loop μ-loop
 field-requires c κs = search needs
 
--- src/shape.rt:56:18
 cast-total : tie.Need-cast-total Inv-loop μ-loop
 cast-total c = search needs
 
--- src/shape.rt:56:9
 add-total : tie.Need-add-total Inv-loop μ-loop
 add-total c = search needs
 
--- src/shape.rt:57:9
 add-f : tie.Need-add-f Inv-loop μ-loop
 add-f c = search needs
 
--- src/shape.rt:55:5
 loop-less : tie.Need-loop-less Inv-loop μ-loop
 loop-less c = search needs
 
--- src/shape.rt:55:5
 loop-again : tie.Need-loop-again Inv-loop μ-loop
 loop-again c = (search needs, search needs, search needs, total-more _ _ _ _ _ _ (c .before .before .before .loop .inv .3) (indexed-field _ _ _ _ _ _ _ (c .before .before .before .loop .inv .1) (search needs) (c .before .indexed .ensures) (c .field .ensures)))
 
--- src/shape.rt:46:1
 returns : tie.Need-returns Inv-loop μ-loop
 returns c = total-counts (c .before .before .before .before .before .before .args .y) (c .before .before .before .before .before .before .args .b .now) _ _ _ _ _ (c .before .loop .inv .3) (c .before .before .before .before .first-function .ensures .0) (c .before .before .count-field .ensures) (omega arith)
 

@@ -4,80 +4,55 @@ use Rattle.laws.proofs.Shape.{shape-short, shape-not-due, shape-length, shape-c
 use borrow.Author.Needs.{needs}
 use Rattle.format.proofs.shape.shape_at.Statement.{statement}
 use Rattle.format.proofs.shape.shape_at.Tie as tie
-use Rattle.format.proofs.shape.shape_at.Reads as reads
-use Rattle.format.proofs.shape.shape_at.Lts as lts
-use Rattle.format.proofs.bytes.word.Reads as word-reads
-use Rattle.format.proofs.kinds.allows.Reads as allows-reads
-use Rattle.format.proofs.layout.is_due.Reads as is-due-reads
-use Rattle.format.proofs.records.record_at.Reads as record-at-reads
-use Rattle.format.proofs.shape.counts.Reads as counts-reads
-use Rattle.format.proofs.shape.operator_code.Reads as operator-code-reads
 
--- src/shape.rt:120:16
 sub-left : tie.Need-sub-left
 sub-left c = search needs
 
--- src/shape.rt:122:9
 returns : tie.Need-returns
 returns c = search shape-short
 
--- src/shape.rt:124:21
 add-word : tie.Need-add-word
 add-word c = search needs
 
--- src/shape.rt:124:9
 word-requires : tie.Need-word-requires
 word-requires c κs = search needs
 
--- src/shape.rt:125:9
 word-requires-2 : tie.Need-word-requires-2
 word-requires-2 c κs = search needs
 
--- src/shape.rt:126:9
 is-due-requires : tie.Need-is-due-requires
 is-due-requires c κs = search needs
 
--- src/shape.rt:127:9
 returns-2 : tie.Need-returns-2
 returns-2 c = search (shape-not-due, not-true)
 
--- src/shape.rt:129:9
 allows-requires : tie.Need-allows-requires
 allows-requires c κs = search needs
 
--- src/shape.rt:130:9
 returns-3 : tie.Need-returns-3
 returns-3 c = search (shape-length, not-true, not-false)
 
--- src/shape.rt:132:15
 cast-if4 : tie.Need-cast-if4
 cast-if4 c = search needs
 
--- src/shape.rt:133:9
 returns-4 : tie.Need-returns-4
 returns-4 c = search (shape-cut, not-true, not-false)
 
--- src/shape.rt:135:9
 record-at-requires : tie.Need-record-at-requires
 record-at-requires c κs = search needs
 
--- src/shape.rt:136:9
 operator-code-requires : tie.Need-operator-code-requires
 operator-code-requires c κs = search needs
 
--- src/shape.rt:137:9
 returns-5 : tie.Need-returns-5
 returns-5 c = search (shape-code, not-true, not-false)
 
--- src/shape.rt:139:9
 counts-requires : tie.Need-counts-requires
 counts-requires c κs = search needs
 
--- src/shape.rt:140:9
 returns-6 : tie.Need-returns-6
 returns-6 c = shape-counts _ _ _ _ (search needs) (search needs) _ _ (c .before .before .before .before .before .before .before .before .before .before .before .word .ensures) (c .before .before .before .before .before .before .before .before .before .before .word2 .ensures) _ (c .before .before .before .before .before .before .before .before .before .is-due .ensures) (not-false _ (c .before .before .before .before .before .before .before .before .if2 .left)) _ (c .before .before .before .before .before .before .before .allows .ensures) (not-false _ (c .before .before .before .before .before .before .if3 .left)) (search needs) _ (c .before .before .before .before .record-at .ensures) _ (c .before .before .before .operator-code .ensures) (not-false _ (c .before .before .if5 .left)) _ (c .before .counts .ensures) (not-true _ (c .if6 .taken))
 
--- src/shape.rt:116:1
 returns-7 : tie.Need-returns-7
 returns-7 c = search (shape-accepted, not-true, not-false)
 

@@ -6,11 +6,6 @@ use Prim.Native.Nat.{_-_}
 use borrow.Author.Needs.{needs}
 use Rattle.format.proofs.shape.walk.Statement.{statement}
 use Rattle.format.proofs.shape.walk.Tie as tie
-use Rattle.format.proofs.shape.walk.Reads as reads
-use Rattle.format.proofs.shape.walk.Lts as lts
-use Rattle.format.proofs.bytes.word.Reads as word-reads
-use Rattle.format.proofs.layout.due.Reads as due-reads
-use Rattle.format.proofs.shape.shape_at.Reads as shape-at-reads
 
 abbrev Inv-loop : tie.InvT-loop
 Inv-loop y b starts₀ count at₀ r₀ starts at r = Walking y b count starts at r
@@ -18,93 +13,72 @@ Inv-loop y b starts₀ count at₀ r₀ starts at r = Walking y b count starts a
 abbrev μ-loop : tie.MeasureT-loop
 μ-loop y b starts₀ count at₀ r₀ starts at r = count - r
 
--- src/shape.rt:150:9
 shape-at-requires : tie.Need-shape-at-requires Inv-loop μ-loop
 shape-at-requires c κs = (head-index _ _ refl, search needs)
 
 enum-told : tie.Need-enum-told Inv-loop μ-loop
 enum-told c = c .match .keys1
 
--- src/shape.rt:152:40
 enum-told-2 : tie.Need-enum-told-2 Inv-loop μ-loop
 enum-told-2 c = c .match .keys2
 
--- src/shape.rt:152:9
 returns : tie.Need-returns Inv-loop μ-loop
 returns c = head-refused _ _ _ _ _ _ (c .before .before .before .before .before .pre) (c .before .before .shape-at .ensures) (c .enum-told2 .given .1)
 
--- src/shape.rt:154:9
 due-requires : tie.Need-due-requires Inv-loop μ-loop
 due-requires c κs = search needs
 
--- src/shape.rt:155:25
 word-requires : tie.Need-word-requires Inv-loop μ-loop
 word-requires c κs = search needs
 
--- src/shape.rt:155:25
 cast-at : tie.Need-cast-at Inv-loop μ-loop
 cast-at c = search needs
 
--- src/shape.rt:157:5
 loop-holds : tie.Need-loop-holds Inv-loop μ-loop
 loop-holds c = begins _ _ _ _ _ _ (c .before .before .before .before .before .before .before .pre) refl refl (c .before .before .before .before .shape-at .ensures) (c .before .before .enum-told .given .1) (c .before .due .ensures .0) (c .word .ensures)
 
--- src/shape.rt:158:21
 cast-starts : tie.Need-cast-starts Inv-loop μ-loop
 cast-starts c = search needs
 
--- src/shape.rt:158:9
 mul-starts : tie.Need-mul-starts Inv-loop μ-loop
 mul-starts c = search needs
 
--- src/shape.rt:158:9
 array-write-starts : tie.Need-array-write-starts Inv-loop μ-loop
 array-write-starts c = search needs
 
--- src/shape.rt:159:13
 shape-at-requires-2 : tie.Need-shape-at-requires-2 Inv-loop μ-loop
 shape-at-requires-2 c κs = (index-more _ _ _ _ _ _ (c .before .before .loop .inv) (c .before .loop-test .taken), c .before .before .loop .inv .inside)
 
 enum-told-3 : tie.Need-enum-told-3 Inv-loop μ-loop
 enum-told-3 c = c .match2 .keys1
 
--- src/shape.rt:161:41
 enum-told-4 : tie.Need-enum-told-4 Inv-loop μ-loop
 enum-told-4 c = c .match2 .keys2
 
--- src/shape.rt:161:13
 returns-2 : tie.Need-returns-2 Inv-loop μ-loop
 returns-2 c = refused-here _ _ _ _ _ _ (c .before .before .before .before .before .loop .inv) _ _ _ (c .before .before .before .before .loop-test .taken) (c .before .before .shape-at2 .ensures) (c .enum-told4 .given .1)
 
--- src/shape.rt:163:15
 word-requires-2 : tie.Need-word-requires-2 Inv-loop μ-loop
 word-requires-2 c κs = search needs
 
--- src/shape.rt:163:15
 cast-at-2 : tie.Need-cast-at-2 Inv-loop μ-loop
 cast-at-2 c = search needs
 
--- src/shape.rt:163:9
 add-at : tie.Need-add-at Inv-loop μ-loop
 add-at c = search needs
 
--- src/shape.rt:164:9
 add-r : tie.Need-add-r Inv-loop μ-loop
 add-r c = search needs
 
--- src/shape.rt:157:5
 loop-less : tie.Need-loop-less Inv-loop μ-loop
 loop-less c = search needs
 
--- src/shape.rt:157:5
 loop-again : tie.Need-loop-again Inv-loop μ-loop
 loop-again c = goes-on _ _ _ _ _ _ (c .before .before .before .before .before .before .loop .inv) _ _ (c .before .before .before .before .before .loop-test .taken) (c .before .before .before .shape-at2 .ensures) (c .before .enum-told3 .given .1) (c .word2 .ensures)
 
--- src/shape.rt:145:1
 returns-3 : tie.Need-returns-3 Inv-loop μ-loop
 returns-3 c = ends-there _ _ _ _ _ _ (c .before .before .loop .inv) (c .before .loop-test .left) (c .if1 .taken)
 
--- src/shape.rt:145:1
 returns-4 : tie.Need-returns-4 Inv-loop μ-loop
 returns-4 c = bytes-left _ _ _ _ _ _ (c .before .before .loop .inv) (c .before .loop-test .left) (c .if1 .left)
 

@@ -3,52 +3,37 @@ use Rattle.format.proofs.Readings.{names-refused, trees-refused, trees-
 use borrow.Author.Needs.{needs}
 use Rattle.format.proofs.sheet.checks.Statement.{statement}
 use Rattle.format.proofs.sheet.checks.Tie as tie
-use Rattle.format.proofs.sheet.checks.Reads as reads
-use Rattle.format.proofs.sheet.checks.Lts as lts
-use Rattle.format.proofs.names.names.Reads as names-reads
-use Rattle.format.proofs.patterns.patterns.Reads as patterns-reads
-use Rattle.format.proofs.seen.children_seen.Reads as children-seen-reads
-use Rattle.format.proofs.tree.trees.Reads as trees-reads
 
--- src/sheet.rt:28:9
 names-requires : tie.Need-names-requires
 names-requires c κs = (c .before .pre .0, c .before .pre .2)
 
 enum-told : tie.Need-enum-told
 enum-told c = c .match .keys1
 
--- src/sheet.rt:30:9
 enum-told-2 : tie.Need-enum-told-2
 enum-told-2 c = c .match .keys2
 
--- src/sheet.rt:30:9
 returns : tie.Need-returns
 returns c = names-refused _ _ (c .before .before .before .before .pre .0) _ (c .before .before .names .ensures) _ _ (c .enum-told2 .given .1)
 
--- src/sheet.rt:32:9
 children-seen-requires : tie.Need-children-seen-requires
 children-seen-requires c κs = c .before .before .before .before .pre .0
 
--- src/sheet.rt:35:9
 trees-requires : tie.Need-trees-requires
 trees-requires c κs = (c .before .before .before .before .before .before .before .before .pre .0, c .before .before .before .before .before .before .before .before .pre .1, c .before .before .before .before .before .before .before .before .pre .2, times-seen _ _ _ _ (c .before .before .before .before .before .before .before .before .pre .0) (c .before .before .before .children-seen .ensures))
 
 enum-told-3 : tie.Need-enum-told-3
 enum-told-3 c = c .match2 .keys1
 
--- src/sheet.rt:37:9
 enum-told-4 : tie.Need-enum-told-4
 enum-told-4 c = c .match2 .keys2
 
--- src/sheet.rt:37:9
 returns-2 : tie.Need-returns-2
 returns-2 c = trees-refused _ _ (c .before .before .before .before .before .before .before .before .before .before .before .pre .0) _ (c .before .before .before .before .before .before .before .before .before .names .ensures) (c .before .before .before .before .before .before .before .enum-told .given .1) _ (c .before .before .trees .ensures) _ _ (c .enum-told4 .given .1)
 
--- src/sheet.rt:39:5
 patterns-requires : tie.Need-patterns-requires
 patterns-requires c κs = (c .before .before .before .before .before .before .before .before .before .before .before .before .pre .0, c .before .before .before .before .before .before .before .before .before .before .before .before .pre .1, c .before .before .before .before .before .before .before .before .before .before .before .before .pre .2, parents-seen _ _ _ _ (c .before .before .before .before .before .before .before .before .before .before .before .before .pre .0) (c .before .before .before .before .before .before .before .children-seen .ensures), trees-accepted _ _ (c .before .before .before .before .before .before .before .before .before .before .before .before .pre .0) _ (c .before .before .before .before .before .before .before .before .before .before .names .ensures) (c .before .before .before .before .before .before .before .before .enum-told .given .1) _ (c .before .before .before .trees .ensures) (c .before .enum-told3 .given .1))
 
--- src/sheet.rt:24:1
 returns-3 : tie.Need-returns-3
 returns-3 c = patterns-last _ _ (c .before .before .before .before .before .before .before .before .before .before .before .before .before .pre .0) _ (c .before .before .before .before .before .before .before .before .before .before .before .names .ensures) (c .before .before .before .before .before .before .before .before .before .enum-told .given .1) _ (c .before .before .before .before .trees .ensures) _ (c .before .before .enum-told3 .given .1) (c .patterns .ensures)
 

@@ -3,41 +3,28 @@ use Rattle.format.proofs.Readings.{opened, sheet-refused, sheet-read}
 use borrow.Author.Needs.{needs}
 use Rattle.format.proofs.sheet.read_sheet.Statement.{statement}
 use Rattle.format.proofs.sheet.read_sheet.Tie as tie
-use Rattle.format.proofs.sheet.read_sheet.Reads as reads
-use Rattle.format.proofs.sheet.read_sheet.Lts as lts
-use Rattle.format.proofs.runs.run_ends.Reads as run-ends-reads
-use Rattle.format.proofs.runs.run_owners.Reads as run-owners-reads
-use Rattle.format.proofs.shape.file_shape.Reads as file-shape-reads
-use Rattle.format.proofs.sheet.checks.Reads as checks-reads
 
--- src/sheet.rt:46:9
 file-shape-requires : tie.Need-file-shape-requires
 file-shape-requires c κs = search needs
 
 enum-told : tie.Need-enum-told
 enum-told c = c .match .keys1
 
--- src/sheet.rt:52:13
 enum-told-2 : tie.Need-enum-told-2
 enum-told-2 c = c .match .keys2
 
--- src/sheet.rt:50:9
 returns : tie.Need-returns
 returns c = sheet-refused _ _ _ _ _ _ _ (c .before .before .before .file-shape .ensures) (c .enum-told2 .given .1)
 
--- src/sheet.rt:57:16
 run-ends-requires : tie.Need-run-ends-requires
 run-ends-requires c κs = opened _ _ _ _ (c .before .before .before .before .file-shape .ensures) (c .before .enum-told .given .1)
 
--- src/sheet.rt:58:18
 run-owners-requires : tie.Need-run-owners-requires
 run-owners-requires c κs = (opened _ _ _ _ (c .before .before .before .before .before .before .file-shape .ensures) (c .before .before .before .enum-told .given .1) .accepted, c .before .run-ends .ensures)
 
--- src/sheet.rt:60:18
 checks-requires : tie.Need-checks-requires
 checks-requires c κs = (opened _ _ _ _ (c .before .before .before .before .before .before .before .before .before .before .file-shape .ensures) (c .before .before .before .before .before .before .before .enum-told .given .1), c .before .before .before .before .before .run-ends .ensures, c .before .before .before .run-owners .ensures)
 
--- src/sheet.rt:43:1
 returns-2 : tie.Need-returns-2
 returns-2 c = sheet-read _ _ _ _ _ (opened _ _ _ _ (c .before .before .before .before .before .before .before .before .before .before .before .file-shape .ensures) (c .before .before .before .before .before .before .before .before .enum-told .given .1)) (c .before .before .before .before .before .before .run-ends .ensures) (c .before .before .before .before .run-owners .ensures) (c .checks .ensures)
 

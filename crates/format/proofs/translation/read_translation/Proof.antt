@@ -3,36 +3,25 @@ use Rattle.format.proofs.Readings.{opened, translation-refused, transla
 use borrow.Author.Needs.{needs}
 use Rattle.format.proofs.translation.read_translation.Statement.{statement}
 use Rattle.format.proofs.translation.read_translation.Tie as tie
-use Rattle.format.proofs.translation.read_translation.Reads as reads
-use Rattle.format.proofs.translation.read_translation.Lts as lts
-use Rattle.format.proofs.runs.run_ends.Reads as run-ends-reads
-use Rattle.format.proofs.shape.file_shape.Reads as file-shape-reads
-use Rattle.format.proofs.translation.references.Reads as references-reads
 
--- src/translation.rt:79:9
 file-shape-requires : tie.Need-file-shape-requires
 file-shape-requires c κs = search needs
 
 enum-told : tie.Need-enum-told
 enum-told c = search needs
 
--- src/translation.rt:85:13
 enum-told-2 : tie.Need-enum-told-2
 enum-told-2 c = search needs
 
--- src/translation.rt:83:9
 returns : tie.Need-returns
 returns c = translation-refused _ _ _ _ _ _ (c .before .before .before .file-shape .ensures) (c .enum-told2 .given .1)
 
--- src/translation.rt:89:9
 run-ends-requires : tie.Need-run-ends-requires
 run-ends-requires c κs = opened _ _ _ _ (c .before .before .before .before .file-shape .ensures) (c .before .enum-told .given .1)
 
--- src/translation.rt:91:18
 references-requires : tie.Need-references-requires
 references-requires c κs = opened _ _ _ _ (c .before .before .before .before .before .before .file-shape .ensures) (c .before .before .before .enum-told .given .1)
 
--- src/translation.rt:76:1
 returns-2 : tie.Need-returns-2
 returns-2 c = translation-read _ _ _ _ (opened _ _ _ _ (c .before .before .before .before .before .before .before .file-shape .ensures) (c .before .before .before .before .enum-told .given .1)) (c .before .before .run-ends .ensures) (c .references .ensures)
 

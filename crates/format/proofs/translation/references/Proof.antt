@@ -10,10 +10,6 @@ use Prim.Native.Nat.{_≤_, _-_}
 use borrow.Author.Needs.{needs}
 use Rattle.format.proofs.translation.references.Statement.{statement}
 use Rattle.format.proofs.translation.references.Tie as tie
-use Rattle.format.proofs.translation.references.Reads as reads
-use Rattle.format.proofs.translation.references.Lts as lts
-use Rattle.format.proofs.layout.due.Reads as due-reads
-use Rattle.format.proofs.translation.references_at.Reads as references-at-reads
 
 abbrev Inv-loop : tie.InvT-loop
 Inv-loop b starts count r₀ r = (r ≤ count) × (count ≡ due b) × Opened Translation b starts × Passed r (references b)
@@ -21,42 +17,33 @@ Inv-loop b starts count r₀ r = (r ≤ count) × (count ≡ due b) × Opened Tr
 abbrev μ-loop : tie.MeasureT-loop
 μ-loop b starts count r₀ r = count - r
 
--- src/translation.rt:63:9
 due-requires : tie.Need-due-requires Inv-loop μ-loop
 due-requires c κs = search needs
 
--- src/translation.rt:65:5
 loop-holds : tie.Need-loop-holds Inv-loop μ-loop
 loop-holds c = (search needs, c .due .ensures .0, c .before .before .pre, passed-none _)
 
--- src/translation.rt:66:13
 references-at-requires : tie.Need-references-at-requires Inv-loop μ-loop
 references-at-requires c κs = (c .before .loop .inv .2, omega arith)
 
 enum-told : tie.Need-enum-told Inv-loop μ-loop
 enum-told c = c .match .keys1
 
--- src/translation.rt:68:13
 enum-told-2 : tie.Need-enum-told-2 Inv-loop μ-loop
 enum-told-2 c = c .match .keys2
 
--- src/translation.rt:68:13
 returns : tie.Need-returns Inv-loop μ-loop
 returns c = passed-refused _ _ _ _ _ _ _ (c .before .before .before .before .loop .inv .1) (c .before .before .before .loop-test .taken) (c .before .before .before .before .loop .inv .3) (c .before .before .references-at .ensures) (c .enum-told2 .given .1)
 
--- src/translation.rt:70:9
 add-r : tie.Need-add-r Inv-loop μ-loop
 add-r c = search needs
 
--- src/translation.rt:65:5
 loop-less : tie.Need-loop-less Inv-loop μ-loop
 loop-less c = search needs
 
--- src/translation.rt:65:5
 loop-again : tie.Need-loop-again Inv-loop μ-loop
 loop-again c = (search needs, c .before .before .before .before .loop .inv .1, c .before .before .before .before .loop .inv .2, passed-more _ _ _ (c .before .before .before .before .loop .inv .3) (c .before .before .references-at .ensures) (c .enum-told .given .1))
 
--- src/translation.rt:59:1
 returns-2 : tie.Need-returns-2 Inv-loop μ-loop
 returns-2 c = passed-all _ _ _ _ (c .before .loop .inv .1) (c .before .loop .inv .0) (c .loop-test .left) (c .before .loop .inv .3)
 

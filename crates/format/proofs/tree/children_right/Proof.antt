@@ -12,11 +12,6 @@ use Prim.Native.Nat.{_≤_, _<_, _-_}
 use borrow.Author.Needs.{needs}
 use Rattle.format.proofs.tree.children_right.Statement.{statement}
 use Rattle.format.proofs.tree.children_right.Tie as tie
-use Rattle.format.proofs.tree.children_right.Reads as reads
-use Rattle.format.proofs.tree.children_right.Lts as lts
-use Rattle.format.proofs.records.wide.Reads as wide-reads
-use Rattle.format.proofs.references.child.Reads as child-reads
-use Rattle.format.proofs.references.children.Reads as children-reads
 
 abbrev Inv-loop : tie.InvT-loop
 Inv-loop b owners k rec count j₀ j = (j ≤ count) × (count ≡ children rec) × (k < 1024) × (k < nodes b) × Owners b owners × Each j (λ i. ltb (child rec i) k && eqb (ownerOf Sheet b (child rec i)) (ownerOf Sheet b k))
@@ -24,51 +19,39 @@ Inv-loop b owners k rec count j₀ j = (j ≤ count) × (count ≡ children rec)
 abbrev μ-loop : tie.MeasureT-loop
 μ-loop b owners k rec count j₀ j = count - j
 
--- src/tree.rt:32:9
 children-requires : tie.Need-children-requires Inv-loop μ-loop
 children-requires c κs = search needs
 
--- src/tree.rt:34:5
 loop-holds : tie.Need-loop-holds Inv-loop μ-loop
 loop-holds c = (search needs, c .children .ensures, c .before .before .before .pre .2, c .before .before .before .pre .1, c .before .before .before .pre .0, each-none _)
 
--- src/tree.rt:35:22
 child-requires : tie.Need-child-requires Inv-loop μ-loop
 child-requires c κs = search needs
 
--- src/tree.rt:35:13
 wide-requires : tie.Need-wide-requires Inv-loop μ-loop
 wide-requires c κs = search needs
 
--- src/tree.rt:37:13
 returns : tie.Need-returns Inv-loop μ-loop
 returns c = each-fails _ _ _ _ (c .before .before .before .before .loop .inv .1) (c .before .before .before .loop-test .taken) (child-not-smaller _ _ _ _ _ (c .before .wide .ensures .0 ∙ c .before .before .child .ensures) (c .if1 .taken))
 
--- src/tree.rt:39:12
 element-copy-out-if2 : tie.Need-element-copy-out-if2 Inv-loop μ-loop
 element-copy-out-if2 c = search needs
 
--- src/tree.rt:39:25
 element-copy-out-if2-2 : tie.Need-element-copy-out-if2-2 Inv-loop μ-loop
 element-copy-out-if2-2 c = search needs
 
--- src/tree.rt:40:13
 returns-2 : tie.Need-returns-2 Inv-loop μ-loop
 returns-2 c = each-fails _ _ _ _ (c .before .before .before .before .before .before .before .loop .inv .1) (c .before .before .before .before .before .before .loop-test .taken) (child-elsewhere _ _ _ _ _ (c .before .before .before .before .wide .ensures .0 ∙ c .before .before .before .before .before .child .ensures) _ (c .before .before .before .before .before .before .before .loop .inv .4) (c .before .before .before .before .before .before .before .loop .inv .3) (c .before .before .before .if1 .left) (c .if2 .taken))
 
--- src/tree.rt:42:9
 add-j : tie.Need-add-j Inv-loop μ-loop
 add-j c = search needs
 
--- src/tree.rt:34:5
 loop-less : tie.Need-loop-less Inv-loop μ-loop
 loop-less c = search needs
 
--- src/tree.rt:34:5
 loop-again : tie.Need-loop-again Inv-loop μ-loop
 loop-again c = (search needs, c .before .before .before .before .before .before .before .loop .inv .1, c .before .before .before .before .before .before .before .loop .inv .2, c .before .before .before .before .before .before .before .loop .inv .3, c .before .before .before .before .before .before .before .loop .inv .4, each-more _ _ (c .before .before .before .before .before .before .before .loop .inv .5) (child-right _ _ _ _ _ (c .before .before .before .before .wide .ensures .0 ∙ c .before .before .before .before .before .child .ensures) _ (c .before .before .before .before .before .before .before .loop .inv .4) (c .before .before .before .before .before .before .before .loop .inv .3) (c .before .before .before .if1 .left) (c .if2 .left)))
 
--- src/tree.rt:28:1
 returns-3 : tie.Need-returns-3 Inv-loop μ-loop
 returns-3 c = each-all _ _ _ _ (c .before .loop .inv .1) (c .before .loop .inv .0) (c .loop-test .left) (c .before .loop .inv .5)
 

@@ -8,10 +8,6 @@ use Prim.Native.Nat.{_≤_, _-_, suc}
 use borrow.Author.Needs.{needs}
 use Rattle.format.proofs.tree.clauses_rise.Statement.{statement}
 use Rattle.format.proofs.tree.clauses_rise.Tie as tie
-use Rattle.format.proofs.tree.clauses_rise.Reads as reads
-use Rattle.format.proofs.tree.clauses_rise.Lts as lts
-use Rattle.format.proofs.references.clause_constructor.Reads as clause-constructor-reads
-use Rattle.format.proofs.references.clauses.Reads as clauses-reads
 
 abbrev Inv-loop : tie.InvT-loop
 Inv-loop rec count j₀ j = (j ≤ count - 1) × (count ≡ clauses rec) × Each j (λ i. ltb (clauseConstructor rec i) (clauseConstructor rec (suc i)))
@@ -19,47 +15,36 @@ Inv-loop rec count j₀ j = (j ≤ count - 1) × (count ≡ clauses rec) × Each
 abbrev μ-loop : tie.MeasureT-loop
 μ-loop rec count j₀ j = count - j
 
--- src/tree.rt:51:9
 clauses-requires : tie.Need-clauses-requires Inv-loop μ-loop
 clauses-requires c κs = search needs
 
--- src/tree.rt:53:5
 loop-holds : tie.Need-loop-holds Inv-loop μ-loop
 loop-holds c = (search needs, c .clauses .ensures, each-none _)
 
--- src/tree.rt:53:11
 add-loop : tie.Need-add-loop Inv-loop μ-loop
 add-loop c = search needs
 
--- src/tree.rt:54:36
 add-clause-constructor : tie.Need-add-clause-constructor Inv-loop μ-loop
 add-clause-constructor c = search needs
 
--- src/tree.rt:54:12
 clause-constructor-requires : tie.Need-clause-constructor-requires Inv-loop μ-loop
 clause-constructor-requires c κs = search needs
 
--- src/tree.rt:54:46
 clause-constructor-requires-2 : tie.Need-clause-constructor-requires-2 Inv-loop μ-loop
 clause-constructor-requires-2 c κs = search needs
 
--- src/tree.rt:55:13
 returns : tie.Need-returns Inv-loop μ-loop
 returns c = rise-fails _ _ _ (c .before .before .before .before .loop .inv .1) (c .before .before .before .loop-test .taken) (clauses-fall _ _ _ _ (c .before .before .clause-constructor .ensures) (c .before .clause-constructor2 .ensures) (c .if1 .taken))
 
--- src/tree.rt:57:9
 add-j : tie.Need-add-j Inv-loop μ-loop
 add-j c = search needs
 
--- src/tree.rt:53:5
 loop-less : tie.Need-loop-less Inv-loop μ-loop
 loop-less c = search needs
 
--- src/tree.rt:53:5
 loop-again : tie.Need-loop-again Inv-loop μ-loop
 loop-again c = (search needs, c .before .before .before .before .loop .inv .1, each-more _ _ (c .before .before .before .before .loop .inv .2) (clauses-rise-here _ _ _ _ (c .before .before .clause-constructor .ensures) (c .before .clause-constructor2 .ensures) (c .if1 .left)))
 
--- src/tree.rt:48:1
 returns-2 : tie.Need-returns-2 Inv-loop μ-loop
 returns-2 c = rise-all _ _ _ (c .before .loop .inv .1) (c .before .loop .inv .0) (c .loop-test .left) (c .before .loop .inv .2)
 

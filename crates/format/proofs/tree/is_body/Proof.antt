@@ -3,36 +3,25 @@ use Rattle.format.proofs.TreeSteps.{node-in-table, owner-in-table, body
 use borrow.Author.Needs.{needs}
 use Rattle.format.proofs.tree.is_body.Statement.{statement}
 use Rattle.format.proofs.tree.is_body.Tie as tie
-use Rattle.format.proofs.tree.is_body.Reads as reads
-use Rattle.format.proofs.tree.is_body.Lts as lts
-use Rattle.format.proofs.records.wide.Reads as wide-reads
-use Rattle.format.proofs.records.wide8.Reads as wide8-reads
 
--- src/tree.rt:24:5
 add-result : tie.Need-add-result
 add-result c = search needs
 
--- src/tree.rt:24:30
 element-copy-out-wide8 : tie.Need-element-copy-out-wide8
 element-copy-out-wide8 c = node-in-table _ _ _ _ _ (c .before .pre)
 
--- src/tree.rt:24:24
 wide8-requires : tie.Need-wide8-requires
 wide8-requires c κs = search needs
 
--- src/tree.rt:24:19
 mul-wide : tie.Need-mul-wide
 mul-wide c = search needs
 
--- src/tree.rt:24:19
 element-copy-out-wide : tie.Need-element-copy-out-wide
 element-copy-out-wide c = owner-in-table _ _ _ _ _ (c .before .before .before .pre) _ (c .wide8 .ensures .0)
 
--- src/tree.rt:24:14
 wide-requires : tie.Need-wide-requires
 wide-requires c κs = search needs
 
--- src/tree.rt:20:1
 returns : tie.Need-returns
 returns c = body-test _ _ _ _ _ (c .before .before .before .before .before .pre) _ _ (c .before .before .wide8 .ensures .0) (c .wide .ensures .0)
 

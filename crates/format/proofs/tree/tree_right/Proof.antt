@@ -4,73 +4,49 @@ use borrow.Author.Tests.{not-true, not-false}
 use borrow.Author.Needs.{needs}
 use Rattle.format.proofs.tree.tree_right.Statement.{statement}
 use Rattle.format.proofs.tree.tree_right.Tie as tie
-use Rattle.format.proofs.tree.tree_right.Reads as reads
-use Rattle.format.proofs.tree.tree_right.Lts as lts
-use Rattle.format.proofs.layout.first_node.Reads as first-node-reads
-use Rattle.format.proofs.records.indexed.Reads as indexed-reads
-use Rattle.format.proofs.records.kind.Reads as kind-reads
-use Rattle.format.proofs.records.wide8.Reads as wide8-reads
-use Rattle.format.proofs.tree.children_right.Reads as children-right-reads
-use Rattle.format.proofs.tree.clauses_rise.Reads as clauses-rise-reads
-use Rattle.format.proofs.tree.is_body.Reads as is-body-reads
 
--- src/tree.rt:67:34
 first-node-requires : tie.Need-first-node-requires
 first-node-requires c κs = search needs
 
--- src/tree.rt:67:34
 add-indexed : tie.Need-add-indexed
 add-indexed c = search needs
 
--- src/tree.rt:67:9
 indexed-requires : tie.Need-indexed-requires
 indexed-requires c κs = search needs
 
--- src/tree.rt:68:9
 children-right-requires : tie.Need-children-right-requires
 children-right-requires c κs = (c .before .before .before .pre .0 .owned, c .before .before .before .pre .0 .below, node-in-table _ _ _ _ _ (c .before .before .before .pre .0))
 
--- src/tree.rt:69:9
 returns : tie.Need-returns
 returns c = tree-child-wrong _ _ _ (node-record _ _ _ _ _ (c .before .before .before .before .before .pre .0) _ _ (c .before .before .before .first-node .ensures .0) (c .before .before .indexed .ensures)) _ (c .before .children-right .ensures) (not-true _ (c .if1 .taken))
 
--- src/tree.rt:71:8
 is-body-requires : tie.Need-is-body-requires
 is-body-requires c κs = search needs
 
--- src/tree.rt:72:12
 kind-requires : tie.Need-kind-requires
 kind-requires c κs = search needs
 
--- src/tree.rt:73:13
 clauses-rise-requires : tie.Need-clauses-rise-requires
 clauses-rise-requires c κs = search needs
 
--- src/tree.rt:73:13
 returns-2 : tie.Need-returns-2
 returns-2 c = tree-case-body _ _ _ (node-record _ _ _ _ _ (c .before .before .before .before .before .before .before .before .before .before .pre .0) _ _ (c .before .before .before .before .before .before .before .before .first-node .ensures .0) (c .before .before .before .before .before .before .before .indexed .ensures)) _ (c .before .before .before .before .before .before .children-right .ensures) (not-false _ (c .before .before .before .before .before .if1 .left)) _ (c .before .before .before .before .is-body .ensures) _ _ (c .before .before .before .if2 .taken) (c .before .before .kind .ensures) (c .before .if3 .taken) (c .clauses-rise .ensures)
 
--- src/tree.rt:75:9
 returns-3 : tie.Need-returns-3
 returns-3 c = tree-body _ _ _ (node-record _ _ _ _ _ (c .before .before .before .before .before .before .before .before .before .pre .0) _ _ (c .before .before .before .before .before .before .before .first-node .ensures .0) (c .before .before .before .before .before .before .indexed .ensures)) _ (c .before .before .before .before .before .children-right .ensures) (not-false _ (c .before .before .before .before .if1 .left)) _ (c .before .before .before .is-body .ensures) _ (c .before .before .if2 .taken) (c .before .kind .ensures) (c .if3 .left)
 
--- src/tree.rt:77:14
 element-copy-out-wide8 : tie.Need-element-copy-out-wide8
 element-copy-out-wide8 c = node-in-table _ _ _ _ _ (c .before .before .before .before .before .before .before .pre .0)
 
--- src/tree.rt:77:8
 wide8-requires : tie.Need-wide8-requires
 wide8-requires c κs = search needs
 
--- src/tree.rt:78:9
 returns-4 : tie.Need-returns-4
 returns-4 c = tree-times-wrong _ _ _ (node-record _ _ _ _ _ (c .before .before .before .before .before .before .before .before .before .before .pre .0) _ _ (c .before .before .before .before .before .before .before .before .first-node .ensures .0) (c .before .before .before .before .before .before .before .indexed .ensures)) _ (c .before .before .before .before .before .before .children-right .ensures) (not-false _ (c .before .before .before .before .before .if1 .left)) _ (c .before .before .before .before .is-body .ensures) _ (c .before .before .before .before .before .before .before .before .before .before .pre .1) (c .before .before .before .before .before .before .before .before .before .before .pre .0 .below) _ (c .before .wide8 .ensures .0) (c .before .before .before .if2 .left) (c .if4 .taken)
 
--- src/tree.rt:80:5
 kind-requires-2 : tie.Need-kind-requires-2
 kind-requires-2 c κs = search needs
 
--- src/tree.rt:63:1
 returns-5 : tie.Need-returns-5
 returns-5 c = tree-inner _ _ _ (node-record _ _ _ _ _ (c .before .before .before .before .before .before .before .before .before .before .before .pre .0) _ _ (c .before .before .before .before .before .before .before .before .before .first-node .ensures .0) (c .before .before .before .before .before .before .before .before .indexed .ensures)) _ (c .before .before .before .before .before .before .before .children-right .ensures) (not-false _ (c .before .before .before .before .before .before .if1 .left)) _ (c .before .before .before .before .before .is-body .ensures) _ (c .before .before .before .before .before .before .before .before .before .before .before .pre .1) (c .before .before .before .before .before .before .before .before .before .before .before .pre .0 .below) _ (c .before .before .wide8 .ensures .0) _ (c .before .before .before .before .if2 .left) (c .before .if4 .left) (c .kind2 .ensures)
 

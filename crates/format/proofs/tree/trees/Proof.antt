@@ -9,12 +9,6 @@ use Prim.Native.Nat.{_-_}
 use borrow.Author.Needs.{needs}
 use Rattle.format.proofs.tree.trees.Statement.{statement}
 use Rattle.format.proofs.tree.trees.Tie as tie
-use Rattle.format.proofs.tree.trees.Reads as reads
-use Rattle.format.proofs.tree.trees.Lts as lts
-use Rattle.format.proofs.layout.first_node.Reads as first-node-reads
-use Rattle.format.proofs.layout.nodes.Reads as nodes-reads
-use Rattle.format.proofs.records.wide.Reads as wide-reads
-use Rattle.format.proofs.tree.tree_right.Reads as tree-right-reads
 
 abbrev Inv-loop : tie.InvT-loop
 Inv-loop b starts ends owners times first count k₀ k = (Ruling b starts ends owners first count k (tree b)) × TimesOf b times
@@ -22,47 +16,36 @@ Inv-loop b starts ends owners times first count k₀ k = (Ruling b starts ends o
 abbrev μ-loop : tie.MeasureT-loop
 μ-loop b starts ends owners times first count k₀ k = count - k
 
--- src/tree.rt:88:9
 first-node-requires : tie.Need-first-node-requires Inv-loop μ-loop
 first-node-requires c κs = search needs
 
--- src/tree.rt:89:22
 nodes-requires : tie.Need-nodes-requires Inv-loop μ-loop
 nodes-requires c κs = search needs
 
--- src/tree.rt:89:9
 wide-requires : tie.Need-wide-requires Inv-loop μ-loop
 wide-requires c κs = search needs
 
--- src/tree.rt:91:5
 loop-holds : tie.Need-loop-holds Inv-loop μ-loop
 loop-holds c = (record { file = c .before .before .before .before .pre .0; runs = c .before .before .before .before .pre .1; owned = c .before .before .before .before .pre .2; start = c .before .before .first-node .ensures .0; low = c .before .before .first-node .ensures .1; counts = c .wide .ensures .0 ∙ c .before .nodes .ensures; narrow = c .wide .ensures .1; reached = search needs; passed = passed-none _ }, c .before .before .before .before .pre .3)
 
--- src/tree.rt:92:13
 tree-right-requires : tie.Need-tree-right-requires Inv-loop μ-loop
 tree-right-requires c κs = (ruling-node _ _ _ _ _ _ _ _ (c .before .loop .inv .0) (c .loop-test .taken), c .before .loop .inv .1)
 
--- src/tree.rt:95:24
 add-t12 : tie.Need-add-t12 Inv-loop μ-loop
 add-t12 c = search needs
 
--- src/tree.rt:93:13
 returns : tie.Need-returns Inv-loop μ-loop
 returns c = ruling-refused _ _ _ _ _ _ _ _ (c .before .before .before .loop .inv .0) _ _ (c .before .before .loop-test .taken) (tree-refused _ _ _ _ (c .before .before .before .loop .inv .0 .start) (c .before .tree-right .ensures) (not-true _ (c .if1 .taken)))
 
--- src/tree.rt:98:9
 add-k : tie.Need-add-k Inv-loop μ-loop
 add-k c = search needs
 
--- src/tree.rt:91:5
 loop-less : tie.Need-loop-less Inv-loop μ-loop
 loop-less c = search needs
 
--- src/tree.rt:91:5
 loop-again : tie.Need-loop-again Inv-loop μ-loop
 loop-again c = (ruling-more _ _ _ _ _ _ _ _ (c .before .before .before .loop .inv .0) _ (c .before .before .loop-test .taken) (tree-accepted _ _ _ (c .before .tree-right .ensures) (not-false _ (c .if1 .left))) refl, c .before .before .before .loop .inv .1)
 
--- src/tree.rt:84:1
 returns-2 : tie.Need-returns-2 Inv-loop μ-loop
 returns-2 c = ruling-done _ _ _ _ _ _ _ _ (c .before .loop .inv .0) (c .loop-test .left)
 

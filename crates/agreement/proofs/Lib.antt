@@ -1,0 +1,15 @@
+pub mod Demand3
+pub mod Runs
+pub mod Allowances
+pub mod Outcomes
+pub mod Sound
+pub mod Complete
+pub mod Meant
+pub mod Becomes
+pub mod Corresponds
+pub mod Unique
+pub mod CellsToLabels
+pub mod FoundVisits
+pub mod LabelsToCells
+pub mod Arrivals
+pub mod Contexts

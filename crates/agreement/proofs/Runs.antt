@@ -1,0 +1,111 @@
+-- Runs of an accepted sheet's translation: what they are refused for, that they have the rule's answer otherwise, and that this
+-- is a stop or the sheet's own.
+use mathlib.Core.Path.{_≡_, refl, sym, ap, _∙_}
+use Prim.Native.Nat.{ℕ, _*_}
+use mathlib.Core.List.{List}
+use mathlib.Core.Bool.{Bool, true, false, _&&_, true≢false}
+use lib.IntN.{ℤ}
+use lib.ListN.{length}
+use lib.Dec.{leb}
+use borrow.Author.Tests.{eq-eqb}
+use Rattle.definitions.specs.Numbers.{badAllowance}
+use Rattle.definitions.specs.Verdicts.{_andThen_, require}
+use Rattle.definitions.specs.Layouts.{readings}
+use Rattle.definitions.specs.Shape.{within}
+use Rattle.definitions.specs.Checks.{sheetVerdict}
+use Rattle.definitions.specs.Outcomes.{Outcome}
+use Rattle.definitions.specs.Translate.{translation}
+use Rattle.definitions.specs.Cells.{evaluation}
+use Rattle.definitions.specs.Run.{Answer, answerOf, refusal, runVerdict, answerAfter, runAnswer}
+use Rattle.definitions.specs.Meaning.{OwnAnswer}
+use Rattle.definitions.specs.declared.Verdict.{Verdict}
+use Rattle.definitions.specs.declared.Verdict.the-variants.{Accepted, Refused}
+use Rattle.readback.proofs.Records.{translation-readings}
+use Rattle.readback.proofs.Accepted.{translation-accepted}
+use Rattle.agreement.specs.Answers.{isStop, isAnswer, ruleOutcome, answerOutcome, sheetRun, Unanswered, is-refused, is-stopped, RunEnds, without-answer, with-own}
+use Rattle.agreement.proofs.Outcomes.{answer-no-stop}
+use Rattle.agreement.proofs.Allowances.{rule-sound}
+
+-- a run that is not refused has the rule's answer at its own allowances, and a run that is refused has the refusal
+pub run-rule : (t : List ℕ) (rs : List ℤ) (steps nesting most lent : ℕ) → runVerdict t rs nesting most lent ≡ Accepted
+    → runAnswer t rs steps nesting most lent ≡ answerOf t steps (evaluation t rs steps nesting most)
+unfolding runAnswer answerAfter
+run-rule t rs steps nesting most lent v = rw v refl
+
+pub run-refusal : (t : List ℕ) (rs : List ℤ) (steps nesting most lent : ℕ) {n p : ℕ} → runVerdict t rs nesting most lent ≡ Refused n p
+    → runAnswer t rs steps nesting most lent ≡ refusal n p
+unfolding runAnswer answerAfter
+run-refusal t rs steps nesting most lent v = rw v refl
+
+-- the outcome and value of the rule's answer
+rule-answer : (t : List ℕ) (rs : List ℤ) (steps nesting most : ℕ)
+    → answerOutcome (answerOf t steps (evaluation t rs steps nesting most)) ≡ ruleOutcome t rs steps nesting most
+unfolding answerOutcome answerOf ruleOutcome
+rule-answer t rs steps nesting most = refl
+
+outcome-of : (a : Answer) → answerOutcome a .outcome ≡ a .outcome
+unfolding answerOutcome
+outcome-of a = refl
+
+-- of a sheet that is accepted, with as many readings as it asks for, a run is refused for its allowances only
+pub run-verdict : (b : List ℕ) → sheetVerdict b ≡ Accepted → (rs : List ℤ) → length rs ≡ readings b → (nesting most lent : ℕ)
+    → runVerdict (translation b) rs nesting most lent
+    ≡ require (within 1 1024 nesting && leb most 8192 && leb (4 * most) lent) badAllowance 0
+unfolding runVerdict require _andThen_
+run-verdict b accepted rs asked nesting most lent =
+    rw (translation-accepted b accepted, translation-readings b accepted, eq-eqb (length rs) (readings b) asked) refl
+
+refused-for : (t : Bool) {n p : ℕ} → require t badAllowance 0 ≡ Refused n p → n ≡ badAllowance
+unfolding require
+refused-for true e = cc
+refused-for false e = cc
+
+module _ (b : List ℕ) (accepted : sheetVerdict b ≡ Accepted) (rs : List ℤ) (steps nesting most : ℕ) (before : List ℕ) where
+  -- the outcome and value of a run that is not refused are the rule's
+  rule-ends : runVerdict (translation b) rs nesting most (length before) ≡ Accepted
+      → answerOutcome (sheetRun b rs steps nesting most before) ≡ ruleOutcome (translation b) rs steps nesting most
+  unfolding sheetRun
+  rule-ends v =
+      ap answerOutcome (run-rule (translation b) rs steps nesting most (length before) v)
+      ∙ rule-answer (translation b) rs steps nesting most
+
+  run-ends-by : (v : Verdict) → runVerdict (translation b) rs nesting most (length before) ≡ v
+      → (x : Bool) → isStop (sheetRun b rs steps nesting most before .outcome) ≡ x
+      → RunEnds b rs steps nesting most before
+  unfolding sheetRun
+  run-ends-by (Refused n p) v x h = without-answer (is-refused v (run-refusal (translation b) rs steps nesting most (length before) v))
+  run-ends-by Accepted v true h = without-answer (is-stopped v h)
+  run-ends-by Accepted v false h =
+      let e = rule-ends v in
+      let a = sheetRun b rs steps nesting most before in
+      let q : isStop (ruleOutcome (translation b) rs steps nesting most .outcome) ≡ false =
+      ap (λ (o : Outcome). isStop (o .outcome)) (sym e) ∙ ap isStop (outcome-of a) ∙ h in
+      with-own v (rw e (rule-sound b accepted rs steps nesting most q))
+
+  -- a run is refused or stopped, or has the sheet's own outcome and value
+  pub run-ends : RunEnds b rs steps nesting most before
+  run-ends = run-ends-by (runVerdict (translation b) rs nesting most (length before)) refl (isStop (sheetRun b rs steps nesting most before .outcome)) refl
+
+  -- a number, constructor or run fault is the sheet's own
+  own-by : length rs ≡ readings b → isAnswer (sheetRun b rs steps nesting most before .outcome) ≡ true → RunEnds b rs steps nesting most before
+      → OwnAnswer b rs (answerOutcome (sheetRun b rs steps nesting most before))
+  unfolding refusal isAnswer within
+  own-by asked h (without-answer (is-refused v e)) =
+      let n = refused-for (within 1 1024 nesting && leb most 8192 && leb (4 * most) (length before))
+      (sym (run-verdict b accepted rs asked nesting most (length before)) ∙ v) in
+      absurd (true≢false (sym h ∙ rw (e, n) refl))
+  own-by asked h (without-answer (is-stopped v s)) =
+      absurd (true≢false (sym s ∙ answer-no-stop (sheetRun b rs steps nesting most before .outcome) h))
+  own-by asked h (with-own v o) = o
+
+  pub run-own-answer : length rs ≡ readings b → isAnswer (sheetRun b rs steps nesting most before .outcome) ≡ true
+      → OwnAnswer b rs (answerOutcome (sheetRun b rs steps nesting most before))
+  run-own-answer asked h = own-by asked h run-ends
+
+  -- where the sheet has no answer of its own, it is stopped or refused
+  unanswered-by : ((a : Outcome) → ¬ OwnAnswer b rs a) → RunEnds b rs steps nesting most before → Unanswered b rs steps nesting most before
+  unanswered-by none (without-answer u) = u
+  unanswered-by none (with-own v o) = absurd (none _ o)
+
+  pub run-unanswered : ((a : Outcome) → ¬ OwnAnswer b rs a) → Unanswered b rs steps nesting most before
+  run-unanswered none = unanswered-by none run-ends

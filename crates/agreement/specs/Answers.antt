@@ -1,0 +1,67 @@
+-- What the rule and a run answer, as demand 3 speaks of it: an answer is a number, a constructor or a run fault; a stop is
+-- none.
+use mathlib.Core.Path.{_≡_}
+use Prim.Native.Nat.{ℕ}
+use mathlib.Core.List.{List}
+use mathlib.Core.Bool.{Bool, true, false, _||_}
+use lib.IntN.{ℤ}
+use lib.ListN.{length}
+use lib.Dec.{eqb}
+use Rattle.definitions.specs.Numbers.{noStep, noNesting, noCell, numberWanted, noField, isNumber, isConstructor}
+use Rattle.definitions.specs.Shape.{within}
+use Rattle.definitions.specs.Outcomes.{Outcome}
+use Rattle.definitions.specs.Translate.{translation}
+use Rattle.definitions.specs.Rule.{Ending, value, ended}
+use Rattle.definitions.specs.Cells.{evaluation}
+use Rattle.definitions.specs.Run.{Answer, endingOutcome, refusal, runVerdict, runAnswer}
+use Rattle.definitions.specs.Meaning.{OwnAnswer}
+use Rattle.definitions.specs.declared.Verdict.the-variants.{Accepted, Refused}
+
+-- whether an outcome's number is a stop's: 11, 12, 13
+unfoldable pub isStop : ℕ → Bool
+isStop n = eqb n noStep || eqb n noNesting || eqb n noCell
+
+-- whether it is a number's, a constructor's or a run fault's: 0, 100, 14 to 19
+unfoldable pub isAnswer : ℕ → Bool
+isAnswer n = eqb n isNumber || eqb n isConstructor || within numberWanted noField n
+
+-- whether a visit was stopped
+abbrev pub stopped : {C : Type 0} → Ending C → Bool
+stopped (value v) = false
+stopped (ended n) = isStop n
+
+-- the outcome and value of the evaluation rule at a step, a nesting and a cell allowance, taken without ceilings
+unfoldable pub ruleOutcome : List ℕ → List ℤ → ℕ → ℕ → ℕ → Outcome
+ruleOutcome t rs steps nesting most = endingOutcome t (evaluation t rs steps nesting most .ending)
+
+-- the rule gives this outcome and value at some allowances
+pub record RuleGives (t : List ℕ) (rs : List ℤ) (a : Outcome) : Type 0 where
+  pub steps : ℕ
+  pub nesting : ℕ
+  pub most : ℕ
+  pub gives : ruleOutcome t rs steps nesting most ≡ a
+
+-- the outcome and value of a run's answer
+unfoldable pub answerOutcome : Answer → Outcome
+answerOutcome a = record { outcome = a .outcome; value = a .value }
+
+-- the answer of a run of a sheet's translation, over lent cells that held these bytes before
+unfoldable pub sheetRun : List ℕ → List ℤ → ℕ → ℕ → ℕ → List ℕ → Answer
+sheetRun b rs steps nesting most before = runAnswer (translation b) rs steps nesting most (length before)
+
+-- a run that is refused or stopped
+pub data Unanswered (b : List ℕ) (rs : List ℤ) (steps nesting most : ℕ) (before : List ℕ) : Type 0 where
+  is-refused : {n p : ℕ}
+      → runVerdict (translation b) rs nesting most (length before) ≡ Refused n p
+      → sheetRun b rs steps nesting most before ≡ refusal n p
+      → Unanswered b rs steps nesting most before
+  is-stopped : runVerdict (translation b) rs nesting most (length before) ≡ Accepted
+      → isStop (sheetRun b rs steps nesting most before .outcome) ≡ true
+      → Unanswered b rs steps nesting most before
+
+-- how a run ends: refused or stopped, or with the sheet's own outcome and value
+pub data RunEnds (b : List ℕ) (rs : List ℤ) (steps nesting most : ℕ) (before : List ℕ) : Type 0 where
+  without-answer : Unanswered b rs steps nesting most before → RunEnds b rs steps nesting most before
+  with-own : runVerdict (translation b) rs nesting most (length before) ≡ Accepted
+      → OwnAnswer b rs (answerOutcome (sheetRun b rs steps nesting most before))
+      → RunEnds b rs steps nesting most before

@@ -1,0 +1,4 @@
+pub mod Answers
+pub mod Visits
+pub mod Contexts
+pub mod Corresponds

@@ -1,0 +1,91 @@
+-- The comparisons, and the operator that a code names.
+use mathlib.Core.Path.{_≡_, refl, sym, ap, _∙_}
+use Prim.Native.Nat.{ℕ, suc, _-_, _^_, _≤_, _<_}
+use mathlib.Core.Bool.{Bool, true, false, not, _&&_}
+use native.Mathlib.Omega.{arith}
+use lib.IntN.{ℤ, pos, negsuc, _+ℤ_, _-ℤ_, _*ℤ_}
+use lib.Signed.{mag, ltZ}
+use lib.Dec.{ltb}
+use borrow.Author.Tests.{ne-eqb, le-ltb, lt-ltb, ltb-false}
+use mir.Syntax.{Width, w32}
+use mir.Val.{bits, hbits, toZ, ofZ, SFits}
+use mir.ValLaws.{toZ-ofZ}
+use Rattle.definitions.specs.Operators.{gives, reduced, quotient, truth, equal, computed}
+
+-- numbers as they are read back
+module _ (w : Width) (x y : ℤ) (f : SFits w x) (g : SFits w y) where
+  pub read-both : {A : Type 0} (h : ℤ → ℤ → A) → h (toZ w (ofZ w x)) (toZ w (ofZ w y)) ≡ h x y
+  read-both h = ap (λ (z : ℤ). h z (toZ w (ofZ w y))) (toZ-ofZ w x f) ∙ ap (h x) (toZ-ofZ w y g)
+
+  pub less-true : ltZ (toZ w (ofZ w x)) (toZ w (ofZ w y)) ≡ true → pos 1 ≡ truth (ltZ x y)
+  unfolding truth
+  less-true e = ap truth (sym e ∙ read-both ltZ)
+
+  pub less-false : ltZ (toZ w (ofZ w x)) (toZ w (ofZ w y)) ≡ false → pos 0 ≡ truth (ltZ x y)
+  unfolding truth
+  less-false e = ap truth (sym e ∙ read-both ltZ)
+
+not-less-self : (x : ℤ) → ltZ x x ≡ false
+not-less-self (pos n) = le-ltb n n (omega arith)
+not-less-self (negsuc n) = le-ltb n n (omega arith)
+
+equal-self : (x : ℤ) → equal x x ≡ true
+unfolding equal
+equal-self x = rw (not-less-self x) refl
+
+apart : (a b : ℕ) → (a ≡ b → ⊥) → (t : Bool) → ltb a b ≡ t → (not (ltb a b) && not (ltb b a)) ≡ false
+apart a b k true e = rw e refl
+apart a b k false e =
+    let h : b ≤ a = ltb-false a b e in
+    let l : b < a = omega arith in
+    rw (e, lt-ltb b a l) refl
+
+unequal : (w : Width) (x y : ℤ) → SFits w x → SFits w y → (ofZ w x ≡ ofZ w y → ⊥) → equal x y ≡ false
+unfolding equal
+unequal w (pos a) (pos b) f g k = apart a b k (ltb a b) refl
+unequal w (pos a) (negsuc b) f g k = refl
+unequal w (negsuc a) (pos b) f g k = refl
+unequal w (negsuc a) (negsuc b) f g k = apart b a (λ e. k (ap (λ (n : ℕ). 2 ^ bits w - suc n) (sym e))) (ltb b a) refl
+
+module _ (w : Width) (x y : ℤ) (f : SFits w x) (g : SFits w y) where
+  pub equal-true : ofZ w x ≡ ofZ w y → pos 1 ≡ truth (equal x y)
+  unfolding truth
+  equal-true e =
+      let s : x ≡ y = sym (toZ-ofZ w x f) ∙ ap (toZ w) e ∙ toZ-ofZ w y g in
+      ap truth (sym (equal-self x) ∙ ap (equal x) s)
+
+  pub equal-false : (ofZ w x ≡ ofZ w y → ⊥) → pos 0 ≡ truth (equal x y)
+  unfolding truth
+  equal-false k = ap truth (sym (unequal w x y f g k))
+
+-- the result of an operator on numbers as they are read back
+pub number-answer : (w : Width) (x y r : ℤ) (h : ℤ → ℤ → ℤ) → SFits w x → SFits w y → mag r < 2 ^ hbits w → r ≡ h (toZ w (ofZ w x)) (toZ w (ofZ w y))
+    → gives (toZ w (ofZ w r)) ≡ gives (h x y)
+number-answer w x y r h f g k e = ap gives (toZ-ofZ w r (record { sfits = k }) ∙ e ∙ read-both w x y f g h)
+
+-- the operator that a code names
+module _ (code : ℕ) (x y : ℤ) where
+  pub code-add : code ≡ 0 → gives (reduced w32 (x +ℤ y)) ≡ computed code x y
+  unfolding computed
+  code-add e = rw e refl
+
+  pub code-subtract : code ≡ 1 → gives (reduced w32 (x -ℤ y)) ≡ computed code x y
+  unfolding computed
+  code-subtract e = rw e refl
+
+  pub code-multiply : code ≡ 2 → gives (reduced w32 (x *ℤ y)) ≡ computed code x y
+  unfolding computed
+  code-multiply e = rw e refl
+
+  pub code-divide : code ≡ 3 → quotient w32 x y ≡ computed code x y
+  unfolding computed
+  code-divide e = rw e refl
+
+  pub code-less : code ≡ 4 → gives (truth (ltZ x y)) ≡ computed code x y
+  unfolding computed
+  code-less e = rw e refl
+
+  pub code-equal : (code ≡ 0 → ⊥) → (code ≡ 1 → ⊥) → (code ≡ 2 → ⊥) → (code ≡ 3 → ⊥) → (code ≡ 4 → ⊥)
+      → gives (truth (equal x y)) ≡ computed code x y
+  unfolding computed
+  code-equal a b c d e = rw (ne-eqb code 0 a, ne-eqb code 1 b, ne-eqb code 2 c, ne-eqb code 3 d, ne-eqb code 4 e) refl

@@ -1,0 +1,111 @@
+-- How numbers and their bits go through 64 bits, and how an operator on the bits gives the number.
+use mathlib.Core.Path.{_≡_, refl, sym, ap, _∙_, subst}
+use Prim.Native.Nat.{ℕ, suc, _+_, _*_, _%_, _^_, _≤_, _<_}
+use mathlib.Core.Bool.{Bool, true, false}
+use native.Mathlib.Omega.{arith}
+use native.Mathlib.Nat.{mod-eq-of-lt, mul-le-mul}
+use lib.IntN.{ℤ, pos, negsuc, natAbs, _+ℤ_, _-ℤ_, _*ℤ_}
+use lib.Signed.{ltZ, nonNeg}
+use lib.Dec.{T}
+use borrow.Author.Tests.{le-ltb, ltb-true}
+use mir.Syntax.{Width, w32, w64}
+use mir.Val.{bits, toZ, ofZ, Fits, SFits}
+use mir.ValLaws.{toZ-ofZ, toZ-fits}
+use Rattle.definitions.specs.Operators.{residue, reduced}
+use Rattle.laws.proofs.Bytes.{wide-difference, high-signed, high-fits, wide-fits}
+use Rattle.operators.proofs.Residues.{residue-below, residue-sum, residue-product, residue-difference}
+
+-- a number of 32 bits is one of 64
+pub widened : (x : ℤ) → SFits w32 x → SFits w64 (toZ w32 (ofZ w32 x))
+widened x f = rw (toZ-ofZ w32 x f) (record { sfits = let h = f .sfits in omega arith })
+
+wide-back : (x : ℤ) → SFits w32 x → toZ w64 (ofZ w64 (toZ w32 (ofZ w32 x))) ≡ x
+wide-back x f = toZ-ofZ w64 (toZ w32 (ofZ w32 x)) (widened x f) ∙ toZ-ofZ w32 x f
+
+-- 2 ^ 32 above a negative number are its bits
+negative-bits : (x : ℤ) → SFits w32 x → ltZ x (pos 0) ≡ true → x +ℤ pos 4294967296 ≡ pos (residue w32 x)
+unfolding residue
+negative-bits (pos n) f e = absurd (omega (arith, ltb-true n 0 e))
+negative-bits (negsuc n) f e =
+    let h : n < 2147483648 = f .sfits in
+    let k : n < 4294967296 = omega arith in
+    rw (le-ltb 4294967296 (suc n) (omega arith), mod-eq-of-lt k) refl
+
+positive-bits : (x : ℤ) → SFits w32 x → ltZ x (pos 0) ≡ false → x ≡ pos (residue w32 x)
+unfolding residue
+positive-bits (pos n) f e = let h : n < 2147483648 = f .sfits in let k : n < 4294967296 = omega arith in ap pos (sym (mod-eq-of-lt k))
+positive-bits (negsuc n) f e = absurd (let z : _≡_ {A = Bool} true false = e in let y : _≡_ {A = ℕ} 0 1 = cc in omega arith)
+
+module _ (x : ℤ) (f : SFits w32 x) where
+  low-test : {t : Bool} → ltZ (toZ w32 (ofZ w32 x)) (pos 0) ≡ t → ltZ x (pos 0) ≡ t
+  low-test {t} e = subst (λ (z : ℤ). ltZ z (pos 0) ≡ t) (toZ-ofZ w32 x f) e
+
+  -- the sum in 64 bits of a negative number and 2 ^ 32
+  wide-sum : ltZ (toZ w32 (ofZ w32 x)) (pos 0) ≡ true → toZ w64 (ofZ w64 (toZ w32 (ofZ w32 x))) +ℤ pos 4294967296 ≡ pos (residue w32 x)
+  wide-sum e = ap (λ (z : ℤ). z +ℤ pos 4294967296) (wide-back x f) ∙ negative-bits x f (low-test e)
+
+  pub sum-fits : ltZ (toZ w32 (ofZ w32 x)) (pos 0) ≡ true → SFits w64 (toZ w64 (ofZ w64 (toZ w32 (ofZ w32 x))) +ℤ pos 4294967296)
+  sum-fits e =
+      subst (λ (z : ℤ). SFits w64 z) (sym (wide-sum e))
+      (record { sfits = let h : residue w32 x < 4294967296 = residue-below w32 x in omega arith })
+
+  pub sum-bits : ltZ (toZ w32 (ofZ w32 x)) (pos 0) ≡ true
+      → toZ w64 (ofZ w64 (toZ w64 (ofZ w64 (toZ w32 (ofZ w32 x))) +ℤ pos 4294967296)) ≡ pos (residue w32 x)
+  sum-bits e = toZ-ofZ w64 _ (sum-fits e) ∙ wide-sum e
+
+  pub own-bits : ltZ (toZ w32 (ofZ w32 x)) (pos 0) ≡ false → toZ w32 (ofZ w32 x) ≡ pos (residue w32 x)
+  own-bits e = toZ-ofZ w32 x f ∙ positive-bits x f (low-test e)
+
+  -- a number that is the bits may be cast
+  pub bits-cast : (z : ℤ) → z ≡ pos (residue w32 x) → T (nonNeg z) × Fits w32 (natAbs z)
+  bits-cast z e = subst (λ (v : ℤ). T (nonNeg v) × Fits w32 (natAbs v)) (sym e) (tt, record { fits = residue-below w32 x })
+
+-- bits from 2 ^ 31 on, read as 2 ^ 32 less
+pub high-cast : (n : ℕ) → 2147483648 ≤ n → n < 4294967296 → SFits w32 (toZ w64 (ofZ w64 (toZ w64 n -ℤ pos 4294967296)))
+high-cast n h k = rw (toZ-ofZ w64 (toZ w64 n -ℤ pos 4294967296) (wide-fits n k)) (high-fits n h k)
+
+pub high-number : (n : ℕ) → 2147483648 ≤ n → n < 4294967296
+    → toZ w32 (ofZ w32 (toZ w64 (ofZ w64 (toZ w64 n -ℤ pos 4294967296)))) ≡ toZ w32 n
+high-number n h k =
+    toZ-ofZ w32 _ (high-cast n h k)
+    ∙ toZ-ofZ w64 (toZ w64 n -ℤ pos 4294967296) (wide-fits n k)
+    ∙ wide-difference n k
+    ∙ high-signed n h
+
+-- a product of 32-bit numbers has 64 bits
+pub product-fits : (a b : ℕ) → a < 4294967296 → b < 4294967296 → Fits w64 (a * b)
+product-fits a b h k =
+    let p : a ≤ 4294967295 = omega arith in
+    let q : b ≤ 4294967295 = omega arith in
+    let m : a * b ≤ 4294967295 * 4294967295 = mul-le-mul p q in
+    record { fits = omega arith }
+
+-- the operators on bits, at every width: what a number's bits were is read back, and the result's bits are the number's
+module _ (w : Width) where
+  bits-read : (x : ℤ) (a : ℕ) → SFits w x → a ≡ residue w (toZ w (ofZ w x)) → a ≡ residue w x
+  bits-read x a f e = e ∙ ap (residue w) (toZ-ofZ w x f)
+
+  number-read : (z r : ℤ) (n : ℕ) → n ≡ residue w z → r ≡ toZ w n → toZ w (ofZ w r) ≡ reduced w z
+  unfolding reduced
+  number-read z r n e q =
+      let s : r ≡ toZ w (residue w z) = q ∙ ap (toZ w) e in
+      ap (λ (v : ℤ). toZ w (ofZ w v)) s
+      ∙ toZ-ofZ w (toZ w (residue w z)) (toZ-fits w (residue w z) (record { fits = residue-below w z }))
+
+  module _ (x y r : ℤ) (a b n : ℕ) (f : SFits w x) (g : SFits w y) (ea : a ≡ residue w (toZ w (ofZ w x))) (eb : b ≡ residue w (toZ w (ofZ w y))) where
+    pub sum-number : n ≡ (a + b) % 2 ^ bits w → r ≡ toZ w n → toZ w (ofZ w r) ≡ reduced w (x +ℤ y)
+    sum-number e =
+        number-read (x +ℤ y) r n
+        (e ∙ ap (λ (v : ℕ). (v + b) % 2 ^ bits w) (bits-read x a f ea) ∙ ap (λ (v : ℕ). (residue w x + v) % 2 ^ bits w) (bits-read y b g eb)
+        ∙ residue-sum w x y)
+
+    pub product-number : n ≡ a * b % 2 ^ bits w → r ≡ toZ w n → toZ w (ofZ w r) ≡ reduced w (x *ℤ y)
+    product-number e =
+        number-read (x *ℤ y) r n
+        (e ∙ ap (λ (v : ℕ). v * b % 2 ^ bits w) (bits-read x a f ea) ∙ ap (λ (v : ℕ). residue w x * v % 2 ^ bits w) (bits-read y b g eb)
+        ∙ residue-product w x y)
+
+    pub difference-number : n < 2 ^ bits w → (n + b) % 2 ^ bits w ≡ a → r ≡ toZ w n → toZ w (ofZ w r) ≡ reduced w (x -ℤ y)
+    difference-number h e =
+        number-read (x -ℤ y) r n
+        (residue-difference w x y n h (ap (λ (v : ℕ). (n + v) % 2 ^ bits w) (sym (bits-read y b g eb)) ∙ e ∙ bits-read x a f ea))

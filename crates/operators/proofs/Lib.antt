@@ -1,0 +1,4 @@
+pub mod Residues
+pub mod Conversions
+pub mod Division
+pub mod Answers

@@ -1,0 +1,186 @@
+-- Remainders modulo 2 ^ w: how they go through sums, differences and products, at every width.
+use mathlib.Core.Path.{_≡_, refl, sym, ap, _∙_}
+use Prim.Native.Nat.{ℕ, zero, suc, _+_, _-_, _*_, _/_, _%_, _^_, _≤_, _<_}
+use mathlib.Core.Bool.{Bool, true, false, cond}
+use native.Mathlib.Omega.{arith}
+use native.Mathlib.Nat.{mod-lt, mod-mod, mod-eq-of-lt, mod-self, zero-mod, add-mod, add-mul-mod-self-right, mod-add-div', add-assoc, add-comm, add-zero, zero-add, mul-comm, mul-add, add-mul, mul-zero, zero-mul, mul-right-comm}
+use native.Mathlib.Numerals.{add-one}
+use lib.Pow.{pow-pos}
+use lib.IntN.{ℤ, pos, negsuc, negℤ, subℕ, _+ℤ_, _-ℤ_, _*ℤ_, -ℤ-+ℤ-cancel}
+use lib.Dec.{ltb}
+use borrow.Author.Tests.{ltb-true, ltb-false}
+use mir.Syntax.{Width}
+use mir.Val.{bits, toZ, ofZ, SFits}
+use mir.ValLaws.{toZ-ofZ, half-full}
+use Rattle.definitions.specs.Operators.{residue, reduced}
+
+-- two numbers with the same remainder modulo m
+record Same (m a b : ℕ) : Type 0 where
+  pub same : a % m ≡ b % m
+
+module _ {m a b : ℕ} where
+  back : Same m a b → Same m b a
+  back p = record { same = sym (p .same) }
+
+  then : {c : ℕ} → Same m a b → Same m b c → Same m a c
+  then p q = record { same = p .same ∙ q .same }
+
+  -- sums and products of numbers with the same remainders have the same remainder
+  plus : {c d : ℕ} → Same m a b → Same m c d → Same m (a + c) (b + d)
+  plus {c} {d} p q =
+      record { same = add-mod a c m ∙ ap (λ (x : ℕ). (x + c % m) % m) (p .same) ∙ ap (λ (x : ℕ). (b % m + x) % m) (q .same) ∙ sym (add-mod b d m) }
+
+equal-same : {m a b : ℕ} → a ≡ b → Same m a b
+equal-same {m} e = record { same = ap (λ (x : ℕ). x % m) e }
+
+-- a number's remainder, by its quotient
+remainder-same : (m a : ℕ) → Same m (a % m) a
+remainder-same m a = record { same = mod-mod a m }
+
+times-remainder : (m a c : ℕ) → Same m (a * c) (a % m * c)
+times-remainder m a c =
+    let e : a * c ≡ a % m * c + a / m * c * m =
+    sym (ap (λ (x : ℕ). x * c) (mod-add-div' a m))
+    ∙ add-mul (a % m) (a / m * m) c
+    ∙ ap (λ (x : ℕ). a % m * c + x) (mul-right-comm (a / m) m c) in
+    record { same = ap (λ (x : ℕ). x % m) e ∙ add-mul-mod-self-right (a % m * c) (a / m * c) m }
+
+times : {m a b : ℕ} (c : ℕ) → Same m a b → Same m (a * c) (b * c)
+times {m} {a} {b} c p =
+    then (times-remainder m a c)
+    (then (equal-same (ap (λ (x : ℕ). x * c) (p .same))) (back (times-remainder m b c)))
+
+times-left : {m a b : ℕ} (c : ℕ) → Same m a b → Same m (c * a) (c * b)
+times-left {m} {a} {b} c p = then (equal-same (mul-comm c a)) (then (times c p) (equal-same (mul-comm b c)))
+
+-- a multiple of m goes
+add-none : {m c : ℕ} (a : ℕ) → Same m c 0 → Same m (a + c) a
+add-none a p = then (plus (equal-same refl) p) (equal-same (add-zero a))
+
+-- what is added on both sides goes
+cancel : {m a b : ℕ} (c : ℕ) → 0 < m → Same m (a + c) (b + c) → Same m a b
+cancel {m} {a} {b} c h p =
+    let d = m - c % m in
+    let below : c % m < m = mod-lt c h in
+    let none : Same m (c + d) 0 =
+    then (plus (back (remainder-same m c)) (equal-same refl))
+    (then (equal-same (omega arith)) (record { same = mod-self m ∙ sym (zero-mod m) })) in
+    then (back (add-none a none))
+    (then (equal-same (sym (add-assoc a c d)))
+    (then (plus p (equal-same refl)) (then (equal-same (add-assoc b c d)) (add-none b none))))
+
+-- two numbers below m with the same remainder are equal
+below-same : {m a b : ℕ} → a < m → b < m → Same m a b → a ≡ b
+below-same h k p = sym (mod-eq-of-lt h) ∙ p .same ∙ mod-eq-of-lt k
+
+-- r stands for a number modulo m: with the size of a negative number it makes a multiple of m
+abbrev Stands : ℕ → ℤ → ℕ → Type 0
+Stands m (pos n) r = Same m n r
+Stands m (negsuc n) r = Same m (suc n + r) 0
+
+stands-same : (m : ℕ) (z : ℤ) {r s : ℕ} → Stands m z r → Same m r s → Stands m z s
+stands-same m (pos n) p q = then p q
+stands-same m (negsuc n) p q = then (plus (equal-same refl) (back q)) p
+
+-- what stands for a number is determined modulo m
+stands-once : (m : ℕ) (z : ℤ) {r s : ℕ} → 0 < m → Stands m z r → Stands m z s → Same m r s
+stands-once m (pos n) h p q = then (back p) q
+stands-once m (negsuc n) {r} {s} h p q =
+    cancel (suc n) h (then (equal-same (add-comm r (suc n))) (then p (then (back q) (equal-same (add-comm (suc n) s)))))
+
+negated-stands : (m n r : ℕ) → Same m (n + r) 0 → Stands m (negℤ (pos n)) r
+negated-stands m zero r p = back (then (equal-same (sym (zero-add r))) p)
+negated-stands m (suc n) r p = p
+
+-- sums
+difference-by : (m a b r s : ℕ) → Same m a r → Same m (b + s) 0 → (t : Bool) → ltb a b ≡ t
+    → Stands m (cond t (negsuc (b - suc a)) (pos (a - b))) (r + s)
+difference-by m a b r s p q true e =
+    let h : a < b = ltb-true a b e in
+    let k = suc (b - suc a) in
+    then (plus (equal-same refl) (plus (back p) (equal-same refl))) (then (equal-same (omega arith)) q)
+difference-by m a b r s p q false e =
+    let h : b ≤ a = ltb-false a b e in
+    then (back (add-none (a - b) q)) (then (equal-same (omega arith)) (plus p (equal-same refl)))
+
+difference-stands : (m a b r s : ℕ) → Same m a r → Same m (b + s) 0 → Stands m (subℕ a b) (r + s)
+difference-stands m a b r s p q = difference-by m a b r s p q (ltb a b) refl
+
+sum-stands : (m : ℕ) → 0 < m → (x y : ℤ) (r s : ℕ) → Stands m x r → Stands m y s → Stands m (x +ℤ y) (r + s)
+sum-stands m h (pos a) (pos b) r s p q = plus p q
+sum-stands m h (pos a) (negsuc b) r s p q = difference-stands m a (suc b) r s p q
+sum-stands m h (negsuc a) (pos b) r s p q = rw (add-comm r s) (difference-stands m b (suc a) s r q p)
+sum-stands m h (negsuc a) (negsuc b) r s p q = then (equal-same (omega arith)) (plus p q)
+
+-- products
+product-stands : (m : ℕ) → 0 < m → (x y : ℤ) (r s : ℕ) → Stands m x r → Stands m y s → Stands m (x *ℤ y) (r * s)
+product-stands m h (pos a) (pos b) r s p q = then (times b p) (times-left r q)
+product-stands m h (pos a) (negsuc b) r s p q =
+    negated-stands m (a * suc b) (r * s)
+    (then (plus (equal-same refl) (times s (back p)))
+    (then (equal-same (sym (mul-add a (suc b) s))) (then (times-left a q) (equal-same (mul-zero a)))))
+product-stands m h (negsuc a) (pos b) r s p q =
+    negated-stands m (suc a * b) (r * s)
+    (then (plus (equal-same refl) (times-left r (back q)))
+    (then (equal-same (sym (add-mul (suc a) r b))) (then (times b p) (equal-same (zero-mul b)))))
+product-stands m h (negsuc a) (negsuc b) r s p q =
+    cancel (suc a * s) h
+    (then (equal-same (sym (mul-add (suc a) (suc b) s)))
+    (then (times-left (suc a) q)
+    (then (equal-same (mul-zero (suc a) ∙ sym (zero-mul s)))
+    (then (times s (back p)) (equal-same (add-mul (suc a) r s ∙ add-comm (suc a * s) (r * s)))))))
+
+-- remainders modulo 2 ^ w
+module _ (w : Width) where
+  residue-stands : (z : ℤ) → Stands (2 ^ bits w) z (residue w z)
+  unfolding residue
+  residue-stands (pos n) = back (remainder-same (2 ^ bits w) n)
+  residue-stands (negsuc n) =
+      let m = 2 ^ bits w in
+      let below : n % m < m = mod-lt n (pow-pos (bits w)) in
+      let size : Same m (suc n) (suc (n % m)) =
+      then (equal-same (sym (add-one n)))
+      (then (plus (back (remainder-same m n)) (equal-same refl)) (equal-same (add-one (n % m)))) in
+      then (plus size (equal-same refl)) (then (equal-same (omega arith)) (record { same = mod-self m ∙ sym (zero-mod m) }))
+
+  pub residue-below : (z : ℤ) → residue w z < 2 ^ bits w
+  unfolding residue
+  residue-below (pos n) = mod-lt n (pow-pos (bits w))
+  residue-below (negsuc n) = let h : 0 < 2 ^ bits w = pow-pos (bits w) in omega arith
+
+  residue-is : (z : ℤ) (r : ℕ) → r < 2 ^ bits w → Stands (2 ^ bits w) z r → r ≡ residue w z
+  residue-is z r h p = below-same h (residue-below z) (stands-once (2 ^ bits w) z (pow-pos (bits w)) p (residue-stands z))
+
+  -- an operator on the bits that stands for an operator on numbers works on remainders
+  over-operator : (f : ℕ → ℕ → ℕ) (g : ℤ → ℤ → ℤ)
+      → ((m : ℕ) → 0 < m → (x y : ℤ) (r s : ℕ) → Stands m x r → Stands m y s → Stands m (g x y) (f r s))
+      → (x y : ℤ) → f (residue w x) (residue w y) % 2 ^ bits w ≡ residue w (g x y)
+  over-operator f g stands x y =
+      let m = 2 ^ bits w in
+      let v = f (residue w x) (residue w y) in
+      residue-is (g x y) (v % m) (mod-lt v (pow-pos (bits w)))
+      (stands-same m (g x y) (stands m (pow-pos (bits w)) x y (residue w x) (residue w y) (residue-stands x) (residue-stands y))
+      (back (remainder-same m v)))
+
+  pub residue-sum : (x y : ℤ) → (residue w x + residue w y) % 2 ^ bits w ≡ residue w (x +ℤ y)
+  residue-sum = over-operator (λ a b. a + b) (λ a b. a +ℤ b) sum-stands
+
+  pub residue-product : (x y : ℤ) → residue w x * residue w y % 2 ^ bits w ≡ residue w (x *ℤ y)
+  residue-product = over-operator (λ a b. a * b) (λ a b. a *ℤ b) product-stands
+
+  -- the number that, with the second's remainder added, wraps back to the first's
+  pub residue-difference : (x y : ℤ) (r : ℕ) → r < 2 ^ bits w → (r + residue w y) % 2 ^ bits w ≡ residue w x → r ≡ residue w (x -ℤ y)
+  residue-difference x y r h e =
+      below-same h (residue-below (x -ℤ y))
+      (cancel (residue w y) (pow-pos (bits w))
+      (record { same = e ∙ ap (residue w) (sym (-ℤ-+ℤ-cancel x y)) ∙ sym (residue-sum (x -ℤ y) y) }))
+
+  -- a number that the width holds is its own remainder, read back
+  pub residue-held : (z : ℤ) → SFits w z → residue w z ≡ ofZ w z
+  unfolding residue
+  residue-held (pos n) f = mod-eq-of-lt (half-full w (f .sfits))
+  residue-held (negsuc n) f = rw (mod-eq-of-lt (half-full w (f .sfits))) refl
+
+  pub reduced-held : (z : ℤ) → SFits w z → reduced w z ≡ z
+  unfolding reduced
+  reduced-held z f = ap (toZ w) (residue-held z f) ∙ toZ-ofZ w z f

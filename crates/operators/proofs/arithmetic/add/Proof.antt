@@ -1,0 +1,31 @@
+-- `operators::arithmetic::add` meets its contract: the sum of the bits, reduced, is the bits of the sum.
+use Rattle.operators.proofs.Conversions.{sum-number}
+use mir.Syntax.{w32}
+use borrow.Author.Needs.{needs}
+use Rattle.operators.proofs.arithmetic.add.Statement.{statement}
+use Rattle.operators.proofs.arithmetic.add.Tie as tie
+
+bits-of-requires : tie.Need-bits-of-requires
+bits-of-requires c κs = search needs
+
+bits-of-requires-2 : tie.Need-bits-of-requires-2
+bits-of-requires-2 c κs = search needs
+
+wrapping-add-u32-requires : tie.Need-wrapping-add-u32-requires
+wrapping-add-u32-requires c κs = search needs
+
+number-of-requires : tie.Need-number-of-requires
+number-of-requires c κs = search needs
+
+returns : tie.Need-returns
+returns c = sum-number w32 _ _ _ _ _ _ (c .before .before .before .before .fits .x) (c .before .before .before .before .fits .y) (c .before .before .before .bits-of .ensures) (c .before .before .bits-of2 .ensures) (c .before .wrapping-add-u32 .ensures) (c .number-of .ensures)
+
+pub add-spec : {M : Type 1} → statement M
+add-spec =
+    tie.close
+    (tie.spec
+    bits-of-requires
+    bits-of-requires-2
+    wrapping-add-u32-requires
+    number-of-requires
+    returns)

@@ -1,0 +1,28 @@
+-- `operators::bits::bits_of` meets its contract: 2 ^ 32 above a negative number are its bits, and any other is its own.
+use lib.IntN.{natAbs}
+use mathlib.Core.Path.{ap}
+use Rattle.operators.proofs.Conversions.{widened, sum-fits, sum-bits, own-bits, bits-cast}
+use Rattle.operators.proofs.bits.bits_of.Statement.{statement}
+use Rattle.operators.proofs.bits.bits_of.Tie as tie
+
+cast-result : tie.Need-cast-result
+cast-result c = widened _ (c .before .fits .x)
+
+add-result : tie.Need-add-result
+add-result c = sum-fits _ (c .before .fits .x) (c .if1 .taken)
+
+cast-result-2 : tie.Need-cast-result-2
+cast-result-2 c = bits-cast (c .before .args .x) (c .before .fits .x) _ (sum-bits _ (c .before .fits .x) (c .if1 .taken))
+
+cast-result-3 : tie.Need-cast-result-3
+cast-result-3 c = bits-cast (c .before .args .x) (c .before .fits .x) _ (own-bits _ (c .before .fits .x) (c .if1 .left))
+
+returns : tie.Need-returns
+returns c = ap natAbs (sum-bits _ (c .before .fits .x) (c .if1 .taken))
+
+returns-2 : tie.Need-returns-2
+returns-2 c = ap natAbs (own-bits _ (c .before .fits .x) (c .if1 .left))
+
+pub bits-of-spec : {M : Type 1} → statement M
+bits-of-spec =
+    tie.close (tie.spec cast-result add-result cast-result-2 cast-result-3 returns returns-2)

@@ -1,0 +1,12 @@
+-- The order of refusals, tried on files with several faults: one statement over the list, by one computation.
+use mathlib.Core.Path.{_≡_, refl}
+use mathlib.Core.List.{List, map}
+use Rattle.definitions.specs.Checks.{sheetVerdict}
+use Rattle.definitions.specs.declared.Verdict.{Verdict}
+use Rattle.sheets.specs.Orders.{Order, orders}
+use Rattle.sheets.proofs.Opened.{opened}
+
+-- the reader's verdict on each file is the one that the order picks
+pub orders-hold : map (λ (o : Order). sheetVerdict (o .sheet)) orders ≡ map (λ (o : Order). o .verdict) orders
+unfolding opened orders
+orders-hold = refl
