@@ -1,0 +1,60 @@
+-- What the writer writes into its space: words of two bytes, the lower byte first, and records, whose first word is their
+-- length in bytes.
+use Prim.Native.Nat.{ℕ, zero, suc, _+_, _*_, _/_, _%_}
+use mathlib.Core.List.{List, [], _∷_, _++_}
+use mathlib.Core.Bool.{Bool, cond}
+use mathlib.Core.Path.{_≡_}
+use lib.Dec.{leb, ltb}
+use lib.ListN.{length, getD}
+use lib.Seq.{sets}
+
+-- how many bytes the space has: one more than document 01 allows the larger of its two files
+abbrev pub spaceBytes : ℕ
+spaceBytes = 40961
+
+-- a word fits at the places below this one
+abbrev pub wordPlaces : ℕ
+wordPlaces = 40960
+
+-- the two bytes of a word, the lower first
+unfoldable pub wordBytes : ℕ → List ℕ
+wordBytes w = (w % 256) ∷ (w / 256) ∷ []
+
+-- the bytes of words, one after the other
+unfoldable pub bytesOf : List ℕ → List ℕ
+bytesOf [] = []
+bytesOf (w ∷ ws) = wordBytes w ++ bytesOf ws
+
+-- the words of a record: its length in bytes, then those that are given
+unfoldable pub recordWords : List ℕ → List ℕ
+recordWords ws = (2 + 2 * length ws) ∷ ws
+
+-- whether bytes fit the space from a place on
+unfoldable pub fits : ℕ → List ℕ → Bool
+fits at bytes = leb (at + length bytes) spaceBytes
+
+-- a space with bytes set from a place on, all of them where they fit and else none
+unfoldable pub written : List ℕ → ℕ → List ℕ → List ℕ
+written file at bytes = cond (fits at bytes) (sets file at bytes) file
+
+-- the place after bytes that fit, and else the same place
+unfoldable pub after : ℕ → List ℕ → ℕ
+after at bytes = cond (fits at bytes) (at + length bytes) at
+
+-- bytes were written at a place: the space at entry and at exit, and the next place
+pub record Written (entry : List ℕ) (at : ℕ) (bytes exit : List ℕ) (next : ℕ) : Type 0 where
+  pub content : exit ≡ written entry at bytes
+  pub place : next ≡ after at bytes
+
+-- the word at a place
+unfoldable pub wordAt : List ℕ → ℕ → ℕ
+wordAt file at = getD file at 0 + 256 * getD file (at + 1) 0
+
+-- the place after the record at a place, by its length; the walk ends where no word is left
+unfoldable pub skipped : List ℕ → ℕ → ℕ
+skipped file at = cond (ltb at wordPlaces) (at + wordAt file at) wordPlaces
+
+-- where record r starts
+unfoldable pub startOf : List ℕ → ℕ → ℕ
+startOf file zero = 0
+startOf file (suc r) = skipped file (startOf file r)

@@ -1,0 +1,87 @@
+// Files of records in memory: words of two bytes, the lower byte first, and records, whose first word is their length.
+// Every function is total: what does not fit is not written.
+ghost use mathlib.Core.Path.{_≡_};
+ghost use Prim.Native.Nat.{_+_, _*_, _<_};
+ghost use Rattle.file_writer.specs.Writing.{wordBytes, bytesOf, recordWords, written, Written, skipped, startOf};
+
+// How many bytes the space has: one more than document 01 allows the larger of its two files.
+const SPACE_BYTES: usize = 40961;
+
+// A word fits at the places below this one.
+const WORD_PLACES: usize = 40960;
+
+// The space that a file is written in.
+pub type Space = [u8; SPACE_BYTES];
+
+// Writes a word at a place, and answers the place after it. Where it does not fit, nothing changes.
+pub fn put(file: &mut Space, at: usize, word: u16) -> usize
+    ensures { λ r. ⌜ Written (now (file .entry)) at (wordBytes word) (now (file .exit)) r ⌝ }
+{
+    if at < WORD_PLACES {
+        file[at] = (word % 256) as u8;
+        file[at + 1] = (word / 256) as u8;
+        at + 2
+    } else {
+        at
+    }
+}
+
+// Writes a record at a place, its length and then its other words, and answers the place after it. Where it does not fit,
+// nothing changes.
+pub fn record(file: &mut Space, at: usize, words: &[u16]) -> usize
+    ensures { λ r. ⌜ Written (now (file .entry)) at (bytesOf (recordWords (now (words .entry)))) (now (file .exit)) r ⌝ }
+{
+    if WORD_PLACES / 2 <= words.len() {
+        return at;
+    }
+    let size = 2 + 2 * words.len();
+    if SPACE_BYTES - size < at {
+        return at;
+    }
+    let mut next = put(file, at, size as u16);
+    let mut i: usize = 0;
+    while i < words.len() {
+        next = put(file, next, words[i]);
+        i += 1;
+    }
+    next
+}
+
+// A byte as a number.
+fn wide(byte: u8) -> usize
+    ensures { λ r. ⌜ (r ≡ byte) × (r < 256) ⌝ }
+{
+    byte as usize
+}
+
+// The place after the record at a place, by its length.
+fn skip(file: &Space, at: usize) -> usize
+    ensures { λ r. ⌜ (r ≡ skipped (now (file .entry)) at) × (r < 106496) ⌝ }
+{
+    if at < WORD_PLACES {
+        at + (wide(file[at]) + 256 * wide(file[at + 1]))
+    } else {
+        WORD_PLACES
+    }
+}
+
+// Where record `r` starts, by walking over the lengths.
+fn start(file: &Space, r: usize) -> usize
+    ensures { λ at. ⌜ (at ≡ startOf (now (file .entry)) r) × (at < 106496) ⌝ }
+{
+    let mut at: usize = 0;
+    let mut i: usize = 0;
+    while i < r {
+        at = skip(file, at);
+        i += 1;
+    }
+    at
+}
+
+// Sets word `j` of record `r`, of which word 0 is the length, word 1 the kind and the others the fields.
+pub fn change(file: &mut Space, r: usize, j: u16, word: u16)
+    ensures { λ _. ⌜ now (file .exit) ≡ written (now (file .entry)) (startOf (now (file .entry)) r + 2 * j) (wordBytes word) ⌝ }
+{
+    let at = start(file, r) + 2 * j as usize;
+    put(file, at, word);
+}

@@ -1,0 +1,50 @@
+-- `reader_trials::series::pairs` is safe and ends: the count falls.
+use borrow.Author.Needs.{needs}
+use Prim.Native.Nat.{_≤_, _-_}
+use Rattle.reader_trials.proofs.series.pairs.Statement.{statement}
+use Rattle.reader_trials.proofs.series.pairs.Tie as tie
+
+abbrev Inv-loop : tie.InvT-loop
+Inv-loop file₀ at count next₀ i₀ file next i = i ≤ count
+
+abbrev μ-loop : tie.MeasureT-loop
+μ-loop file₀ at count next₀ i₀ file next i = count - i
+
+loop-holds : tie.Need-loop-holds Inv-loop μ-loop
+loop-holds c = search needs
+
+put-requires : tie.Need-put-requires Inv-loop μ-loop
+put-requires c κs = search needs
+
+sub-put : tie.Need-sub-put Inv-loop μ-loop
+sub-put c = search needs
+
+put-requires-2 : tie.Need-put-requires-2 Inv-loop μ-loop
+put-requires-2 c κs = search needs
+
+add-i : tie.Need-add-i Inv-loop μ-loop
+add-i c = search needs
+
+loop-less : tie.Need-loop-less Inv-loop μ-loop
+loop-less c = search needs
+
+loop-again : tie.Need-loop-again Inv-loop μ-loop
+loop-again c = search needs
+
+returns : tie.Need-returns Inv-loop μ-loop
+returns c = search needs
+
+pub pairs-spec : {M : Type 1} → statement M
+pairs-spec =
+    tie.close
+    (tie.spec
+    Inv-loop
+    μ-loop
+    loop-holds
+    put-requires
+    sub-put
+    put-requires-2
+    add-i
+    loop-less
+    loop-again
+    returns)
