@@ -1,0 +1,4 @@
+pub mod Writing
+pub mod Places
+pub mod Walks
+pub mod Records
