@@ -138,7 +138,7 @@ fn names_at(b: &[u8], starts: &[u16; 1601], owners: &[u8; 1024], r: usize) -> Ve
 }
 
 // The checks 5 and 7 of every record.
-pub fn names(b: &[u8], starts: &[u16; 1601], owners: &[u8; 1024]) -> Verdict
+pub(crate) fn names(b: &[u8], starts: &[u16; 1601], owners: &[u8; 1024]) -> Verdict
     requires { ⌜ Opened Sheet (now b) (now starts) × Owners (now b) (now owners) ⌝ }
     ensures { λ v. ⌜ v ≡ firstOf (due (now (b .entry))) (λ r. references (now (b .entry)) r andThen arguments (now (b .entry)) r) ⌝ }
 {

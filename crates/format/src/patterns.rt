@@ -101,7 +101,7 @@ fn pattern_right(b: &[u8], starts: &[u16; 1601], held: &[u32; 1024], k: usize) -
 }
 
 // The pattern rules of every node.
-pub fn patterns(
+pub(crate) fn patterns(
     b: &[u8],
     starts: &[u16; 1601],
     ends: &[u16; 64],

@@ -15,7 +15,7 @@ use crate::records::wide;
 use definitions::Layout;
 
 // The table of the ends of runs.
-pub fn run_ends(y: Layout, b: &[u8], starts: &[u16; 1601]) -> [u16; 64]
+pub(crate) fn run_ends(y: Layout, b: &[u8], starts: &[u16; 1601]) -> [u16; 64]
     requires { ⌜ Opened y (now b) (now starts) ⌝ }
     ensures { λ r. ⌜ RunEnds y (now (b .entry)) r ⌝ }
 {
@@ -42,7 +42,7 @@ fn owner_after(ends: &[u16; 64], f: usize, k: usize) -> usize
 }
 
 // The table of owners of a sheet's nodes.
-pub fn run_owners(b: &[u8], ends: &[u16; 64]) -> [u8; 1024]
+pub(crate) fn run_owners(b: &[u8], ends: &[u16; 64]) -> [u8; 1024]
     requires { ⌜ (fileShape Sheet (now b) ≡ Accepted) × RunEnds Sheet (now b) (now ends) ⌝ }
     ensures { λ r. ⌜ Owners (now (b .entry)) r ⌝ }
 {

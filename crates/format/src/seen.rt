@@ -59,7 +59,7 @@ fn note_children(rec: &[u8], p: u16, times: &mut [u8; 1024], parents: &mut [u16;
 }
 
 // The tables of children of a sheet.
-pub fn children_seen(b: &[u8], starts: &[u16; 1601]) -> SeenChildren
+pub(crate) fn children_seen(b: &[u8], starts: &[u16; 1601]) -> SeenChildren
     requires { ⌜ Opened Sheet (now b) (now starts) ⌝ }
     ensures { λ r. ⌜ Seen (now (b .entry)) (nodes (now (b .entry))) (r .times) (r .parents) ⌝ }
 {

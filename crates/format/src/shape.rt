@@ -228,7 +228,7 @@ fn walk(y: Layout, b: &[u8]) -> Shaped
 }
 
 // The checks of a file up to the left-over bytes, and the index of its records.
-pub fn file_shape(y: Layout, b: &[u8]) -> Shaped
+pub(crate) fn file_shape(y: Layout, b: &[u8]) -> Shaped
     ensures { λ w. ⌜ Walked y (now (b .entry)) (w .verdict) (w .starts) ⌝ }
 {
     if file_limit(y) < b.len() {

@@ -26,7 +26,7 @@ use crate::sheet_kinds;
 use definitions::Verdict;
 
 // Whether node `k` is the body of its function.
-pub fn is_body(
+pub(crate) fn is_body(
     b: &[u8],
     starts: &[u16; 1601],
     ends: &[u16; 64],
@@ -103,7 +103,7 @@ fn tree_right(
 }
 
 // The child, case and clause order rules of every node.
-pub fn trees(
+pub(crate) fn trees(
     b: &[u8],
     starts: &[u16; 1601],
     ends: &[u16; 64],

@@ -38,13 +38,13 @@ fn as_translation(file: &[u8], size: usize) {
 }
 
 // A trial of the reader of sheets, and one whose name ends with a number.
-pub fn sheet(name: &[u8], file: &[u8], size: usize) {
+pub(crate) fn sheet(name: &[u8], file: &[u8], size: usize) {
     io::write_all(1, b"sheet, ");
     io::write_all(1, name);
     as_sheet(file, size);
 }
 
-pub fn numbered_sheet(name: &[u8], number: u64, file: &[u8], size: usize) {
+pub(crate) fn numbered_sheet(name: &[u8], number: u64, file: &[u8], size: usize) {
     io::write_all(1, b"sheet, ");
     io::write_all(1, name);
     io::print_decimal(1, number);
@@ -52,13 +52,13 @@ pub fn numbered_sheet(name: &[u8], number: u64, file: &[u8], size: usize) {
 }
 
 // A trial of the reader of translations, and one whose name ends with a number.
-pub fn translation(name: &[u8], file: &[u8], size: usize) {
+pub(crate) fn translation(name: &[u8], file: &[u8], size: usize) {
     io::write_all(1, b"translation, ");
     io::write_all(1, name);
     as_translation(file, size);
 }
 
-pub fn numbered_translation(name: &[u8], number: u64, file: &[u8], size: usize) {
+pub(crate) fn numbered_translation(name: &[u8], number: u64, file: &[u8], size: usize) {
     io::write_all(1, b"translation, ");
     io::write_all(1, name);
     io::print_decimal(1, number);

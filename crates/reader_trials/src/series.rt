@@ -5,19 +5,19 @@ use file_writer::put;
 use file_writer::record;
 
 // A record of a kind with one, two, three or four fields.
-pub fn one_field(file: &mut Space, at: usize, kind: u16, a: u16) -> usize {
+pub(crate) fn one_field(file: &mut Space, at: usize, kind: u16, a: u16) -> usize {
     record(file, at, &[kind, a])
 }
 
-pub fn two_fields(file: &mut Space, at: usize, kind: u16, a: u16, b: u16) -> usize {
+pub(crate) fn two_fields(file: &mut Space, at: usize, kind: u16, a: u16, b: u16) -> usize {
     record(file, at, &[kind, a, b])
 }
 
-pub fn three_fields(file: &mut Space, at: usize, kind: u16, a: u16, b: u16, c: u16) -> usize {
+pub(crate) fn three_fields(file: &mut Space, at: usize, kind: u16, a: u16, b: u16, c: u16) -> usize {
     record(file, at, &[kind, a, b, c])
 }
 
-pub fn four_fields(
+pub(crate) fn four_fields(
     file: &mut Space,
     at: usize,
     kind: u16,
@@ -30,7 +30,7 @@ pub fn four_fields(
 }
 
 // The same record `count` times.
-pub fn repeat(file: &mut Space, at: usize, words: &[u16], count: usize) -> usize {
+pub(crate) fn repeat(file: &mut Space, at: usize, words: &[u16], count: usize) -> usize {
     let mut next = at;
     let mut i: usize = 0;
     while i < count {
@@ -41,7 +41,7 @@ pub fn repeat(file: &mut Space, at: usize, words: &[u16], count: usize) -> usize
 }
 
 // The words 0, count, 1, count - 1, .. count - 1, 1: the clauses of a case, or the actuals of a formal.
-pub fn pairs(file: &mut Space, at: usize, count: u16) -> usize {
+pub(crate) fn pairs(file: &mut Space, at: usize, count: u16) -> usize {
     let mut next = at;
     let mut i: u16 = 0;
     while i < count {
@@ -53,7 +53,7 @@ pub fn pairs(file: &mut Space, at: usize, count: u16) -> usize {
 }
 
 // Builds of constructor 1, `count` of them: the first has node 0 as its argument, each other the node before it.
-pub fn chain(file: &mut Space, at: usize, count: u16) -> usize {
+pub(crate) fn chain(file: &mut Space, at: usize, count: u16) -> usize {
     let mut next = at;
     let mut i: u16 = 0;
     while i < count {

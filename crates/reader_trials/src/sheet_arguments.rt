@@ -4,7 +4,7 @@ use file_writer::Space;
 
 // "argument count wrong, or `result` has parameters". Functions 0, 2 and 3 have 0, 3 and 1 parameters, constructors 0 and 2
 // have arity 3 and 1, and the call and the build have two arguments.
-pub fn trials(file: &mut Space) {
+pub(crate) fn trials(file: &mut Space) {
     changed(file, b"call with an argument too few", 19, 2, 2);
     changed(file, b"call with an argument too many", 19, 2, 3);
     changed(file, b"call of result with two arguments", 19, 2, 0);

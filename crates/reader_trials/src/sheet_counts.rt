@@ -5,7 +5,7 @@ use crate::sheets::every_kind;
 use file_writer::Space;
 use file_writer::change;
 
-pub fn trials(file: &mut Space) {
+pub(crate) fn trials(file: &mut Space) {
     head(file);
     arities_and_parameters(file);
     node_counts(file);

@@ -13,7 +13,7 @@ use file_writer::Space;
 use file_writer::put;
 use file_writer::record;
 
-pub fn trials(file: &mut Space) {
+pub(crate) fn trials(file: &mut Space) {
     fixed(file);
     stepped(file);
     one_clause_more(file);

@@ -8,7 +8,7 @@ use crate::sheets::with_changes;
 use file_writer::Space;
 use file_writer::change;
 
-pub fn trials(file: &mut Space) {
+pub(crate) fn trials(file: &mut Space) {
     within_a_record(file);
     within_a_cut_record(file);
     before_the_operator_code(file);

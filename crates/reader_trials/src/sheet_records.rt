@@ -7,7 +7,7 @@ use crate::sheets::cut;
 use crate::sheets::every_kind;
 use file_writer::Space;
 
-pub fn trials(file: &mut Space) {
+pub(crate) fn trials(file: &mut Space) {
     cuts(file);
     kinds_before_nodes(file);
     kinds_of_nodes(file);

@@ -5,7 +5,7 @@ use crate::sheets::every_kind;
 use file_writer::Space;
 use file_writer::change;
 
-pub fn trials(file: &mut Space) {
+pub(crate) fn trials(file: &mut Space) {
     names(file);
     parameter_in_result(file);
     nodes(file);

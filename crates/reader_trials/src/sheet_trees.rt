@@ -11,7 +11,7 @@ use crate::sheets::two_functions;
 use file_writer::Space;
 use file_writer::change;
 
-pub fn trials(file: &mut Space) {
+pub(crate) fn trials(file: &mut Space) {
     children_not_smaller(file);
     children_of_another_function(file);
     children_that_two_functions_name(file);

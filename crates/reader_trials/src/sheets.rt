@@ -12,7 +12,7 @@ use file_writer::change;
 use file_writer::record;
 
 // S of document 01: `result = g(7) - g(2)`, `g(a) = a + a`. 11 records, 92 bytes.
-pub fn s(file: &mut Space) -> usize {
+pub(crate) fn s(file: &mut Space) -> usize {
     let mut at = four_fields(file, 0, 1, 0, 0, 2, 8);
     at = two_fields(file, at, 3, 0, 5);
     at = two_fields(file, at, 3, 1, 3);
@@ -28,7 +28,7 @@ pub fn s(file: &mut Space) -> usize {
 
 // A sheet with every kind: 28 records, 220 bytes. 3 readings, 5 constructors (records 1 to 5), 4 functions (6 to 9) and
 // 18 nodes, of which node k is record 10 + k.
-pub fn every_kind(file: &mut Space) -> usize {
+pub(crate) fn every_kind(file: &mut Space) -> usize {
     let at = counted_parts(file);
     let at = first_run(file, at);
     other_runs(file, at)
@@ -76,24 +76,24 @@ fn other_runs(file: &mut Space, from: usize) -> usize {
 }
 
 // The sheet with every kind, with one word changed, and with two.
-pub fn with_change(file: &mut Space, r: usize, j: u16, word: u16) -> usize {
+pub(crate) fn with_change(file: &mut Space, r: usize, j: u16, word: u16) -> usize {
     let size = every_kind(file);
     change(file, r, j, word);
     size
 }
 
-pub fn with_changes(file: &mut Space, r: usize, j: u16, word: u16, s: usize, k: u16, other: u16) {
+pub(crate) fn with_changes(file: &mut Space, r: usize, j: u16, word: u16, s: usize, k: u16, other: u16) {
     with_change(file, r, j, word);
     change(file, s, k, other);
 }
 
 // The trials of the sheet with every kind: one word of it changed; a record given four lengths; the file cut.
-pub fn changed(file: &mut Space, name: &[u8], r: usize, j: u16, word: u16) {
+pub(crate) fn changed(file: &mut Space, name: &[u8], r: usize, j: u16, word: u16) {
     let size = with_change(file, r, j, word);
     sheet(name, file, size);
 }
 
-pub fn lengths(file: &mut Space, name: &[u8], r: usize, a: u16, b: u16, c: u16, d: u16) {
+pub(crate) fn lengths(file: &mut Space, name: &[u8], r: usize, a: u16, b: u16, c: u16, d: u16) {
     with_length(file, name, r, a);
     with_length(file, name, r, b);
     with_length(file, name, r, c);
@@ -105,13 +105,13 @@ fn with_length(file: &mut Space, name: &[u8], r: usize, length: u16) {
     numbered_sheet(name, length as u64, file, size);
 }
 
-pub fn cut(file: &mut Space, size: usize) {
+pub(crate) fn cut(file: &mut Space, size: usize) {
     every_kind(file);
     numbered_sheet(b"every kind cut to ", size as u64, file, size);
 }
 
 // The front of a sheet with 7 readings, constructors of arity 4 and 1, and one function; node k is record 4 + k.
-pub fn one_function(file: &mut Space, nodes: u16) -> usize {
+pub(crate) fn one_function(file: &mut Space, nodes: u16) -> usize {
     let mut at = four_fields(file, 0, 1, 7, 2, 1, nodes);
     at = one_field(file, at, 2, 4);
     at = one_field(file, at, 2, 1);
@@ -119,7 +119,7 @@ pub fn one_function(file: &mut Space, nodes: u16) -> usize {
 }
 
 // The same with two functions, the second with 3 parameters; node k is record 5 + k.
-pub fn two_functions(file: &mut Space, nodes: u16, first: u16, second: u16) -> usize {
+pub(crate) fn two_functions(file: &mut Space, nodes: u16, first: u16, second: u16) -> usize {
     let mut at = four_fields(file, 0, 1, 7, 2, 2, nodes);
     at = one_field(file, at, 2, 4);
     at = one_field(file, at, 2, 1);
@@ -129,7 +129,7 @@ pub fn two_functions(file: &mut Space, nodes: u16, first: u16, second: u16) -> u
 
 // The front of a sheet with a build and a call of eight arguments: constructors of arity 3 and 8, functions with 0 and 8
 // parameters and 17 nodes and 1, and the first eight nodes; node k is record 5 + k. 104 bytes.
-pub fn eight_numbers(file: &mut Space) -> usize {
+pub(crate) fn eight_numbers(file: &mut Space) -> usize {
     let mut at = four_fields(file, 0, 1, 7, 2, 2, 18);
     at = one_field(file, at, 2, 3);
     at = one_field(file, at, 2, 8);
@@ -140,7 +140,7 @@ pub fn eight_numbers(file: &mut Space) -> usize {
 
 // The front of a sheet with a case of many clauses: 64 constructors of arity 5 and one function; node 0 is a number, and
 // each further one a pattern variable. Node k is record 66 + k.
-pub fn many_patterns(file: &mut Space, nodes: u16, patterns: usize) -> usize {
+pub(crate) fn many_patterns(file: &mut Space, nodes: u16, patterns: usize) -> usize {
     let mut at = four_fields(file, 0, 1, 7, 64, 1, nodes);
     at = repeat(file, at, &[2, 5], 64);
     at = two_fields(file, at, 3, 0, nodes);

@@ -17,7 +17,7 @@ use file_writer::change;
 use file_writer::put;
 use file_writer::record;
 
-pub fn trials(file: &mut Space) {
+pub(crate) fn trials(file: &mut Space) {
     s(file);
     // "S: `result = g(7) - g(2)`, `g(a) = a + a`; nodes 7, call, 2, call, subtract; a, a, add. 92 bytes"
     sheet(b"S of 92 bytes", file, 92);

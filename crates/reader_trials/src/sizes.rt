@@ -10,7 +10,7 @@ use crate::sheets::s;
 use file_writer::Space;
 use file_writer::record;
 
-pub fn trials(file: &mut Space) {
+pub(crate) fn trials(file: &mut Space) {
     // "Empty file: 1, place 0."
     sheet(b"empty", file, 0);
     translation(b"empty", file, 0);

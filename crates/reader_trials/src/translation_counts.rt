@@ -5,7 +5,7 @@ use crate::translations::every_kind;
 use file_writer::Space;
 use file_writer::change;
 
-pub fn trials(file: &mut Space) {
+pub(crate) fn trials(file: &mut Space) {
     head(file);
     node_counts(file);
     wrapped_sum(file);

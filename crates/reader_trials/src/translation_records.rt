@@ -7,7 +7,7 @@ use crate::translations::cut;
 use crate::translations::every_kind;
 use file_writer::Space;
 
-pub fn trials(file: &mut Space) {
+pub(crate) fn trials(file: &mut Space) {
     cuts(file);
     kinds_before_nodes(file);
     kinds_of_nodes(file);

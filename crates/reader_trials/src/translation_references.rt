@@ -2,7 +2,7 @@
 use crate::translations::changed;
 use file_writer::Space;
 
-pub fn trials(file: &mut Space) {
+pub(crate) fn trials(file: &mut Space) {
     names(file);
     nodes(file);
     actuals(file);

@@ -11,7 +11,7 @@ use file_writer::change;
 use file_writer::record;
 
 // S of document 01, translated: 12 records, 96 bytes.
-pub fn translated_s(file: &mut Space) -> usize {
+pub(crate) fn translated_s(file: &mut Space) -> usize {
     let mut at = four_fields(file, 0, 33, 0, 1, 2, 8);
     at = one_field(file, at, 34, 5);
     at = one_field(file, at, 34, 3);
@@ -28,7 +28,7 @@ pub fn translated_s(file: &mut Space) -> usize {
 
 // A translation with every kind: 20 records, 158 bytes. 5 readings, 4 functions (records 1 to 4), 3 formals (5 to 7) and 12
 // nodes, of which node k is record 8 + k.
-pub fn every_kind(file: &mut Space) -> usize {
+pub(crate) fn every_kind(file: &mut Space) -> usize {
     let at = counted_parts(file);
     nodes(file, at)
 }
@@ -62,24 +62,24 @@ fn nodes(file: &mut Space, from: usize) -> usize {
 }
 
 // The translation with every kind, with one word changed, and with two.
-pub fn with_change(file: &mut Space, r: usize, j: u16, word: u16) -> usize {
+pub(crate) fn with_change(file: &mut Space, r: usize, j: u16, word: u16) -> usize {
     let size = every_kind(file);
     change(file, r, j, word);
     size
 }
 
-pub fn with_changes(file: &mut Space, r: usize, j: u16, word: u16, s: usize, k: u16, other: u16) {
+pub(crate) fn with_changes(file: &mut Space, r: usize, j: u16, word: u16, s: usize, k: u16, other: u16) {
     with_change(file, r, j, word);
     change(file, s, k, other);
 }
 
 // The trials of the translation with every kind: one word of it changed; a record given four lengths; the file cut.
-pub fn changed(file: &mut Space, name: &[u8], r: usize, j: u16, word: u16) {
+pub(crate) fn changed(file: &mut Space, name: &[u8], r: usize, j: u16, word: u16) {
     let size = with_change(file, r, j, word);
     translation(name, file, size);
 }
 
-pub fn lengths(file: &mut Space, name: &[u8], r: usize, a: u16, b: u16, c: u16, d: u16) {
+pub(crate) fn lengths(file: &mut Space, name: &[u8], r: usize, a: u16, b: u16, c: u16, d: u16) {
     with_length(file, name, r, a);
     with_length(file, name, r, b);
     with_length(file, name, r, c);
@@ -91,13 +91,13 @@ fn with_length(file: &mut Space, name: &[u8], r: usize, length: u16) {
     numbered_translation(name, length as u64, file, size);
 }
 
-pub fn cut(file: &mut Space, size: usize) {
+pub(crate) fn cut(file: &mut Space, size: usize) {
     every_kind(file);
     numbered_translation(b"every kind cut to ", size as u64, file, size);
 }
 
 // The front of a translation with 5 readings, no formal and one function; node k is record 2 + k.
-pub fn one_function(file: &mut Space, nodes: u16) -> usize {
+pub(crate) fn one_function(file: &mut Space, nodes: u16) -> usize {
     let at = four_fields(file, 0, 33, 5, 0, 1, nodes);
     one_field(file, at, 34, nodes)
 }

@@ -14,7 +14,7 @@ use file_writer::change;
 use file_writer::put;
 use file_writer::record;
 
-pub fn trials(file: &mut Space) {
+pub(crate) fn trials(file: &mut Space) {
     translated_s(file);
     // "96 translated; the formal lists nodes 0, 2"
     translation(b"S of 96 bytes", file, 96);
