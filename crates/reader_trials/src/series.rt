@@ -13,7 +13,14 @@ pub(crate) fn two_fields(file: &mut Space, at: usize, kind: u16, a: u16, b: u16)
     record(file, at, &[kind, a, b])
 }
 
-pub(crate) fn three_fields(file: &mut Space, at: usize, kind: u16, a: u16, b: u16, c: u16) -> usize {
+pub(crate) fn three_fields(
+    file: &mut Space,
+    at: usize,
+    kind: u16,
+    a: u16,
+    b: u16,
+    c: u16,
+) -> usize {
     record(file, at, &[kind, a, b, c])
 }
 

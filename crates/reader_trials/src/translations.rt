@@ -68,7 +68,15 @@ pub(crate) fn with_change(file: &mut Space, r: usize, j: u16, word: u16) -> usiz
     size
 }
 
-pub(crate) fn with_changes(file: &mut Space, r: usize, j: u16, word: u16, s: usize, k: u16, other: u16) {
+pub(crate) fn with_changes(
+    file: &mut Space,
+    r: usize,
+    j: u16,
+    word: u16,
+    s: usize,
+    k: u16,
+    other: u16,
+) {
     with_change(file, r, j, word);
     change(file, s, k, other);
 }
