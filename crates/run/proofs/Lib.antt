@@ -1,0 +1,4 @@
+pub mod Lockstep
+pub mod Held
+pub mod Labels
+pub mod Runs

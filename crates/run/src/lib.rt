@@ -1,0 +1,2 @@
+// The run of a translation (document 01, "Run").
+pub mod state;

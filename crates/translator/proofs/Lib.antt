@@ -1,0 +1,6 @@
+pub mod Writing
+pub mod SheetTables
+pub mod FormalSteps
+pub mod NodeSteps
+pub mod Promises
+pub mod Examples

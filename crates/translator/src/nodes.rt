@@ -1,0 +1,135 @@
+// The records of nodes: node numbers stay.
+ghost use mathlib.Core.Path.{_≡_};
+ghost use Prim.Native.Nat.{_<_};
+ghost use Rattle.definitions.specs.Lists.{joined};
+ghost use Rattle.definitions.specs.Layouts.{nodes, ownerOf};
+ghost use Rattle.definitions.specs.Translate.{formalOf, scrutineeOf, nodeWords};
+ghost use Rattle.definitions.specs.declared.Layout.the-variants.{Sheet};
+ghost use Rattle.translator.specs.Writing.{Wrote};
+ghost use Rattle.translator.specs.Tables.{Tables, NodeRead, ReadTables, OwnerFormals};
+use crate::kinds::CALL;
+use crate::kinds::FORMAL;
+use crate::kinds::NUMBER;
+use crate::kinds::SELECT;
+use crate::tables::count_calls;
+use crate::tables::wide32;
+use crate::words::put_copy;
+use crate::words::put_one;
+use crate::words::put_two;
+use format::layout::first_node;
+use format::layout::nodes;
+use format::records::field;
+use format::records::indexed;
+use format::records::kind;
+use format::records::wide;
+use format::records::wide8;
+use format::sheet_kinds;
+
+// The scrutinee of the case that is the body of node `k`'s function.
+fn scrutinee(b: &[u8], starts: &[u16; 1601], ends: &[u16; 64], owners: &[u8; 1024], k: usize) -> u16
+    requires { ⌜ ReadTables (now b) (now starts) (now ends) (now owners) × (k < nodes (now b)) ⌝ }
+    ensures { λ r. ⌜ r ≡ scrutineeOf (now (b .entry)) k ⌝ }
+{
+    let end = wide(ends[wide8(owners[k])]);
+    field(indexed(b, starts, first_node(b) + (end - 1)), 0)
+}
+
+// The formal of the parameter at position `i` of the function that owns node `k`.
+fn formal(b: &[u8], owners: &[u8; 1024], firsts: &[u32; 65], k: usize, i: u16) -> usize
+    requires { ⌜ OwnerFormals (now b) (now owners) (now firsts) k ⌝ }
+    ensures { λ r. ⌜ r ≡ formalOf (now (b .entry)) (ownerOf Sheet (now (b .entry)) k) i ⌝ }
+{
+    wide32(firsts[wide8(owners[k])]) + wide(i)
+}
+
+// Writes node `k`, whose record is `rec`.
+fn put_read(
+    b: &[u8],
+    starts: &[u16; 1601],
+    ends: &[u16; 64],
+    owners: &[u8; 1024],
+    callees: &[u32; 1024],
+    firsts: &[u32; 65],
+    rec: &[u8],
+    k: usize,
+    out: &mut [u8],
+    at: usize,
+) -> usize
+    requires { ⌜ NodeRead (now b) (now starts) (now ends) (now owners) (now callees) (now firsts) (now rec) k ⌝ }
+    ensures { λ r. ⌜ Wrote (now (out .entry)) at (nodeWords (now (b .entry)) k) r (now (out .exit)) ⌝ }
+{
+    let kd = kind(rec);
+    let x = field(rec, 0);
+    if kd == sheet_kinds::NUMBER {
+        return put_two(out, at, NUMBER, wide(x), wide(field(rec, 1)));
+    }
+    if kd == sheet_kinds::PARAMETER {
+        return put_one(out, at, FORMAL, formal(b, owners, firsts, k, x));
+    }
+    if kd == sheet_kinds::PATTERN_VARIABLE {
+        return put_two(
+            out,
+            at,
+            SELECT,
+            wide(scrutinee(b, starts, ends, owners, k)),
+            wide(x) + 1,
+        );
+    }
+    if kd == sheet_kinds::CALL {
+        return put_two(out, at, CALL, count_calls(callees, x, k), wide(x));
+    }
+    put_copy(out, at, rec)
+}
+
+// Writes node `k`.
+fn put_node(
+    b: &[u8],
+    starts: &[u16; 1601],
+    ends: &[u16; 64],
+    owners: &[u8; 1024],
+    callees: &[u32; 1024],
+    firsts: &[u32; 65],
+    k: usize,
+    out: &mut [u8],
+    at: usize,
+) -> usize
+    requires { ⌜ Tables (now b) (now starts) (now ends) (now owners) (now callees) (now firsts) × (k < nodes (now b)) ⌝ }
+    ensures { λ r. ⌜ Wrote (now (out .entry)) at (nodeWords (now (b .entry)) k) r (now (out .exit)) ⌝ }
+{
+    put_read(
+        b,
+        starts,
+        ends,
+        owners,
+        callees,
+        firsts,
+        indexed(b, starts, first_node(b) + k),
+        k,
+        out,
+        at,
+    )
+}
+
+// Writes every node.
+pub fn put_nodes(
+    b: &[u8],
+    starts: &[u16; 1601],
+    ends: &[u16; 64],
+    owners: &[u8; 1024],
+    callees: &[u32; 1024],
+    firsts: &[u32; 65],
+    out: &mut [u8],
+    at: usize,
+) -> usize
+    requires { ⌜ Tables (now b) (now starts) (now ends) (now owners) (now callees) (now firsts) ⌝ }
+    ensures { λ r. ⌜ Wrote (now (out .entry)) at (joined (nodes (now (b .entry))) (nodeWords (now (b .entry)))) r (now (out .exit)) ⌝ }
+{
+    let count = wide(nodes(b));
+    let mut next = at;
+    let mut k: usize = 0;
+    while k < count {
+        next = put_node(b, starts, ends, owners, callees, firsts, k, out, next);
+        k += 1;
+    }
+    next
+}

@@ -1,0 +1,89 @@
+// Words written into the output, two bytes each, and records of them. Places count bytes. A byte past the output's end is
+// dropped, and no place is counted past the greatest length of a translation.
+ghost use mathlib.Core.Path.{_≡_};
+ghost use mathlib.Core.List.{[], _∷_};
+ghost use Prim.Native.Nat.{_+_, _*_, _≤_};
+ghost use lib.ListN.{length, set};
+ghost use Rattle.definitions.specs.Records.{kindOf, fieldCount};
+ghost use Rattle.definitions.specs.Translate.{recordWords};
+ghost use Rattle.translator.specs.Writing.{Wrote, fieldWords};
+use format::records::field;
+use format::records::field_count;
+use format::records::kind;
+use format::records::wide;
+
+// "Translation, at most 40,960 bytes".
+const LAST_PLACE: usize = 40960;
+
+// A kind of node of a translation is as far above the sheet's.
+const KIND_STEP: usize = 32;
+
+// Sets a byte of the output, where it has one at that place.
+fn set_byte(out: &mut [u8], at: usize, x: u8)
+    ensures { λ r. ⌜ now (out .exit) ≡ set (now (out .entry)) at x ⌝ }
+{
+    if at < out.len() {
+        out[at] = x;
+    }
+}
+
+// Writes a word, the lower byte first; what is above 16 bits is dropped. The answer is the place after it.
+pub fn put(out: &mut [u8], at: usize, w: usize) -> usize
+    ensures { λ r. ⌜ Wrote (now (out .entry)) at (w ∷ []) r (now (out .exit)) ⌝ }
+{
+    if LAST_PLACE <= at {
+        return at;
+    }
+    set_byte(out, at, (w % 256) as u8);
+    set_byte(out, at + 1, (w / 256 % 256) as u8);
+    at + 2
+}
+
+// Writes the length and the kind of a record of `count` fields.
+pub fn put_start(out: &mut [u8], at: usize, kind: usize, count: usize) -> usize
+    requires { ⌜ count ≤ 65535 ⌝ }
+    ensures { λ r. ⌜ Wrote (now (out .entry)) at ((4 + 2 * count) ∷ kind ∷ []) r (now (out .exit)) ⌝ }
+{
+    let fields = put(out, at, 4 + 2 * count);
+    put(out, fields, kind)
+}
+
+// Writes a record of one field.
+pub fn put_one(out: &mut [u8], at: usize, kind: usize, x: usize) -> usize
+    ensures { λ r. ⌜ Wrote (now (out .entry)) at (recordWords kind (x ∷ [])) r (now (out .exit)) ⌝ }
+{
+    let first = put_start(out, at, kind, 1);
+    put(out, first, x)
+}
+
+// Writes a record of two fields.
+pub fn put_two(out: &mut [u8], at: usize, kind: usize, x: usize, y: usize) -> usize
+    ensures { λ r. ⌜ Wrote (now (out .entry)) at (recordWords kind (x ∷ y ∷ [])) r (now (out .exit)) ⌝ }
+{
+    let first = put_start(out, at, kind, 2);
+    let second = put(out, first, x);
+    put(out, second, y)
+}
+
+// Writes the fields of a record.
+fn put_fields(out: &mut [u8], at: usize, rec: &[u8]) -> usize
+    ensures { λ r. ⌜ Wrote (now (out .entry)) at (fieldWords (now (rec .entry))) r (now (out .exit)) ⌝ }
+{
+    let count = field_count(rec);
+    let mut next = at;
+    let mut j: usize = 0;
+    while j < count {
+        next = put(out, next, wide(field(rec, j)));
+        j += 1;
+    }
+    next
+}
+
+// Writes a record with the same fields: its kind is 32 above.
+pub fn put_copy(out: &mut [u8], at: usize, rec: &[u8]) -> usize
+    requires { ⌜ fieldCount (now rec) ≤ 65535 ⌝ }
+    ensures { λ r. ⌜ Wrote (now (out .entry)) at (recordWords (32 + kindOf (now (rec .entry))) (fieldWords (now (rec .entry)))) r (now (out .exit)) ⌝ }
+{
+    let fields = put_start(out, at, KIND_STEP + wide(kind(rec)), field_count(rec));
+    put_fields(out, fields, rec)
+}
