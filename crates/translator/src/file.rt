@@ -61,7 +61,7 @@ fn put_functions(b: &[u8], starts: &[u16; 1601], out: &mut [u8], at: usize) -> u
 }
 
 // Writes the translation from the output's start on; the answer is its length.
-pub fn put_file(
+pub(crate) fn put_file(
     b: &[u8],
     starts: &[u16; 1601],
     ends: &[u16; 64],

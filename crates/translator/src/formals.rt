@@ -109,7 +109,7 @@ fn put_function_formals(
 }
 
 // Writes the formals of every function.
-pub fn put_formals(
+pub(crate) fn put_formals(
     b: &[u8],
     starts: &[u16; 1601],
     callees: &[u32; 1024],

@@ -111,7 +111,7 @@ fn put_node(
 }
 
 // Writes every node.
-pub fn put_nodes(
+pub(crate) fn put_nodes(
     b: &[u8],
     starts: &[u16; 1601],
     ends: &[u16; 64],

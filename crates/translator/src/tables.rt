@@ -28,7 +28,7 @@ fn callee(rec: &[u8]) -> u32
 }
 
 // The table of callees.
-pub fn callees(b: &[u8], starts: &[u16; 1601]) -> [u32; 1024]
+pub(crate) fn callees(b: &[u8], starts: &[u16; 1601]) -> [u32; 1024]
     requires { ⌜ Opened Sheet (now b) (now starts) ⌝ }
     ensures { λ r. ⌜ Callees (now (b .entry)) r ⌝ }
 {
@@ -44,7 +44,7 @@ pub fn callees(b: &[u8], starts: &[u16; 1601]) -> [u32; 1024]
 }
 
 // Whether the table says that node `k` calls function `f`.
-pub fn is_marked(callees: &[u32; 1024], f: u16, k: usize) -> bool
+pub(crate) fn is_marked(callees: &[u32; 1024], f: u16, k: usize) -> bool
     requires { ⌜ k < 1024 ⌝ }
     ensures { λ t. ⌜ t ≡ marked (now (callees .entry)) f k ⌝ }
 {
@@ -59,7 +59,7 @@ fn one_if(t: bool) -> usize
 }
 
 // How many of the first `n` nodes call function `f`.
-pub fn count_calls(callees: &[u32; 1024], f: u16, n: usize) -> usize
+pub(crate) fn count_calls(callees: &[u32; 1024], f: u16, n: usize) -> usize
     requires { ⌜ n ≤ 1024 ⌝ }
     ensures { λ r. ⌜ (r ≡ countOf n (marked (now (callees .entry)) f)) × (r ≤ n) ⌝ }
 {
@@ -73,7 +73,7 @@ pub fn count_calls(callees: &[u32; 1024], f: u16, n: usize) -> usize
 }
 
 // The table of first formals.
-pub fn first_formals(b: &[u8], starts: &[u16; 1601]) -> [u32; 65]
+pub(crate) fn first_formals(b: &[u8], starts: &[u16; 1601]) -> [u32; 65]
     requires { ⌜ Opened Sheet (now b) (now starts) ⌝ }
     ensures { λ r. ⌜ FirstFormals (now (b .entry)) r ⌝ }
 {
@@ -90,7 +90,7 @@ pub fn first_formals(b: &[u8], starts: &[u16; 1601]) -> [u32; 65]
 }
 
 // A number of 32 bits as a number of the machine's width.
-pub fn wide32(x: u32) -> usize
+pub(crate) fn wide32(x: u32) -> usize
     ensures { λ r. ⌜ (r ≡ x) × (r ≤ 4294967295) ⌝ }
 {
     x as usize

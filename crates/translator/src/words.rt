@@ -28,7 +28,7 @@ fn set_byte(out: &mut [u8], at: usize, x: u8)
 }
 
 // Writes a word, the lower byte first; what is above 16 bits is dropped. The answer is the place after it.
-pub fn put(out: &mut [u8], at: usize, w: usize) -> usize
+pub(crate) fn put(out: &mut [u8], at: usize, w: usize) -> usize
     ensures { λ r. ⌜ Wrote (now (out .entry)) at (w ∷ []) r (now (out .exit)) ⌝ }
 {
     if LAST_PLACE <= at {
@@ -40,7 +40,7 @@ pub fn put(out: &mut [u8], at: usize, w: usize) -> usize
 }
 
 // Writes the length and the kind of a record of `count` fields.
-pub fn put_start(out: &mut [u8], at: usize, kind: usize, count: usize) -> usize
+pub(crate) fn put_start(out: &mut [u8], at: usize, kind: usize, count: usize) -> usize
     requires { ⌜ count ≤ 65535 ⌝ }
     ensures { λ r. ⌜ Wrote (now (out .entry)) at ((4 + 2 * count) ∷ kind ∷ []) r (now (out .exit)) ⌝ }
 {
@@ -49,7 +49,7 @@ pub fn put_start(out: &mut [u8], at: usize, kind: usize, count: usize) -> usize
 }
 
 // Writes a record of one field.
-pub fn put_one(out: &mut [u8], at: usize, kind: usize, x: usize) -> usize
+pub(crate) fn put_one(out: &mut [u8], at: usize, kind: usize, x: usize) -> usize
     ensures { λ r. ⌜ Wrote (now (out .entry)) at (recordWords kind (x ∷ [])) r (now (out .exit)) ⌝ }
 {
     let first = put_start(out, at, kind, 1);
@@ -57,7 +57,7 @@ pub fn put_one(out: &mut [u8], at: usize, kind: usize, x: usize) -> usize
 }
 
 // Writes a record of two fields.
-pub fn put_two(out: &mut [u8], at: usize, kind: usize, x: usize, y: usize) -> usize
+pub(crate) fn put_two(out: &mut [u8], at: usize, kind: usize, x: usize, y: usize) -> usize
     ensures { λ r. ⌜ Wrote (now (out .entry)) at (recordWords kind (x ∷ y ∷ [])) r (now (out .exit)) ⌝ }
 {
     let first = put_start(out, at, kind, 2);
@@ -80,7 +80,7 @@ fn put_fields(out: &mut [u8], at: usize, rec: &[u8]) -> usize
 }
 
 // Writes a record with the same fields: its kind is 32 above.
-pub fn put_copy(out: &mut [u8], at: usize, rec: &[u8]) -> usize
+pub(crate) fn put_copy(out: &mut [u8], at: usize, rec: &[u8]) -> usize
     requires { ⌜ fieldCount (now rec) ≤ 65535 ⌝ }
     ensures { λ r. ⌜ Wrote (now (out .entry)) at (recordWords (32 + kindOf (now (rec .entry))) (fieldWords (now (rec .entry)))) r (now (out .exit)) ⌝ }
 {
