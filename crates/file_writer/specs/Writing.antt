@@ -1,7 +1,6 @@
--- What the writer writes into its space: words of two bytes, the lower byte first, and records, whose first word is their
--- length in bytes.
+-- What the writer writes into its space: words of two bytes, the lower byte first. A record's first word is its length in bytes.
 use Prim.Native.Nat.{ℕ, zero, suc, _+_, _*_, _/_, _%_}
-use mathlib.Core.List.{List, [], _∷_, _++_}
+use mathlib.Core.List.{List, [], _∷_}
 use mathlib.Core.Bool.{Bool, cond}
 use mathlib.Core.Path.{_≡_}
 use lib.Dec.{leb, ltb}
@@ -19,15 +18,6 @@ wordPlaces = 40960
 -- the two bytes of a word, the lower first
 unfoldable pub wordBytes : ℕ → List ℕ
 wordBytes w = (w % 256) ∷ (w / 256) ∷ []
-
--- the bytes of words, one after the other
-unfoldable pub bytesOf : List ℕ → List ℕ
-bytesOf [] = []
-bytesOf (w ∷ ws) = wordBytes w ++ bytesOf ws
-
--- the words of a record: its length in bytes, then those that are given
-unfoldable pub recordWords : List ℕ → List ℕ
-recordWords ws = (2 + 2 * length ws) ∷ ws
 
 -- whether bytes fit the space from a place on
 unfoldable pub fits : ℕ → List ℕ → Bool

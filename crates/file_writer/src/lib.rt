@@ -1,8 +1,8 @@
-// Files of records in memory: words of two bytes, the lower byte first, and records, whose first word is their length.
-// Every function is total: what does not fit is not written.
+// Files of records in memory: words of two bytes, the lower byte first; a record's first word is its length. Every function is
+// total: what does not fit is not written.
 ghost use mathlib.Core.Path.{_≡_};
 ghost use Prim.Native.Nat.{_+_, _*_, _<_};
-ghost use Rattle.file_writer.specs.Writing.{wordBytes, bytesOf, recordWords, written, Written, skipped, startOf};
+ghost use Rattle.file_writer.specs.Writing.{wordBytes, written, Written, skipped, startOf};
 
 // How many bytes the space has: one more than document 01 allows the larger of its two files.
 const SPACE_BYTES: usize = 40961;
@@ -24,27 +24,6 @@ pub fn put(file: &mut Space, at: usize, word: u16) -> usize
     } else {
         at
     }
-}
-
-// Writes a record at a place, its length and then its other words, and answers the place after it. Where it does not fit,
-// nothing changes.
-pub fn record(file: &mut Space, at: usize, words: &[u16]) -> usize
-    ensures { λ r. ⌜ Written (now (file .entry)) at (bytesOf (recordWords (now (words .entry)))) (now (file .exit)) r ⌝ }
-{
-    if WORD_PLACES / 2 <= words.len() {
-        return at;
-    }
-    let size = 2 + 2 * words.len();
-    if SPACE_BYTES - size < at {
-        return at;
-    }
-    let mut next = put(file, at, size as u16);
-    let mut i: usize = 0;
-    while i < words.len() {
-        next = put(file, next, words[i]);
-        i += 1;
-    }
-    next
 }
 
 // A byte as a number.

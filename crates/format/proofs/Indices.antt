@@ -25,6 +25,15 @@ pub start-past : (starts : List ℕ) (r : ℕ) → 1601 ≤ r → 0 ≡ startIn 
 unfolding startIn
 start-past starts r h = rw (le-ltb r 1601 h) refl
 
+-- past the end, the record at place 0
+pub record-past : (b starts rec : List ℕ) (r : ℕ) → 1601 ≤ r → rec ≡ recordAt b 0 → rec ≡ recordAt b (startIn starts r)
+record-past b starts rec r h e = e ∙ ap (recordAt b) (start-past starts r h)
+
+-- a field of the record that an index shows a number of records after a first one
+pub shown-field : (b starts : List ℕ) (first g i x : ℕ) (rec : List ℕ) → g ≡ first → rec ≡ recordAt b (startIn starts (g + i)) → x ≡ field rec 0
+    → x ≡ field (recordAt b (startIn starts (first + i))) 0
+shown-field b starts first g i x rec e f h = h ∙ rw (f, e) refl
+
 -- the record at an entry's place is the record of that number
 pub same-record : (b starts : List ℕ) (n r : ℕ) → Indexed b starts n → r < n → recordAt b (startIn starts r) ≡ recordOf b r
 unfolding recordOf

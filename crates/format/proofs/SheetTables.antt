@@ -14,16 +14,18 @@ use Rattle.accepted.proofs.Owners.{owner-below}
 use Rattle.format.specs.Index.{Opened, Owners, RunEnds, NamesAt, startIn}
 use Rattle.format.proofs.Indices.{indexed-field, opened-record}
 
--- a function's parameter count and a constructor's arity
-pub opened-parameters : (b starts : List ℕ) (f g x : ℕ) (rec : List ℕ) → Opened Sheet b starts → f < functions b → g ≡ firstFunction Sheet b
-    → rec ≡ recordAt b (startIn starts (g + f)) → x ≡ field rec 0 → x ≡ parameters b f
-opened-parameters b starts f g x rec o h e q p =
-    indexed-field b starts (due b) (g + f) 0 x rec (o .index) (omega (arith, e, h)) q p ∙ rw e refl
+-- a function's parameter count and a constructor's arity, as the index shows them
+pub opened-parameters : (b starts : List ℕ) (f x : ℕ) → Opened Sheet b starts → f < functions b
+    → x ≡ field (recordAt b (startIn starts (firstFunction Sheet b + f))) 0 → x ≡ parameters b f
+opened-parameters b starts f x o h e =
+    indexed-field b starts (due b) (firstFunction Sheet b + f) 0 x (recordAt b (startIn starts (firstFunction Sheet b + f))) (o .index)
+    (omega (arith, h)) refl e
 
-pub opened-arity : (b starts : List ℕ) (c g x : ℕ) (rec : List ℕ) → Opened Sheet b starts → c < items b → g ≡ firstItem Sheet b
-    → rec ≡ recordAt b (startIn starts (g + c)) → x ≡ field rec 0 → x ≡ arity b c
-opened-arity b starts c g x rec o h e q p =
-    indexed-field b starts (due b) (g + c) 0 x rec (o .index) (omega (arith, e, h)) q p ∙ rw e refl
+pub opened-arity : (b starts : List ℕ) (c x : ℕ) → Opened Sheet b starts → c < items b
+    → x ≡ field (recordAt b (startIn starts (firstItem Sheet b + c))) 0 → x ≡ arity b c
+opened-arity b starts c x o h e =
+    indexed-field b starts (due b) (firstItem Sheet b + c) 0 x (recordAt b (startIn starts (firstItem Sheet b + c))) (o .index)
+    (omega (arith, h)) refl e
 
 -- the owner of the node of record r
 module _ (b starts owners : List ℕ) (r : ℕ) (w : NamesAt b starts owners r) where
@@ -33,8 +35,12 @@ module _ (b starts owners : List ℕ) (r : ℕ) (w : NamesAt b starts owners r) 
   pub node-narrow : (f : ℕ) → f ≡ firstNode b → r - f < 1024
   node-narrow f e = omega (arith, e, node-below, nodes-limit Sheet b (w .file .accepted))
 
-  pub owner-is : (k x : ℕ) → k ≡ r - firstNode b → x ≡ getD owners k 0 → x ≡ ownerOf Sheet b (r - firstNode b)
+  owner-is : (k x : ℕ) → k ≡ r - firstNode b → x ≡ getD owners k 0 → x ≡ ownerOf Sheet b (r - firstNode b)
   owner-is k x e f = f ∙ rw e (w .owned .entry (r - firstNode b) node-below)
 
-  pub owner-few : (k x : ℕ) → k ≡ r - firstNode b → x ≡ getD owners k 0 → x < functions b
+  owner-few : (k x : ℕ) → k ≡ r - firstNode b → x ≡ getD owners k 0 → x < functions b
   owner-few k x e f = rw (owner-is k x e f) (owner-below Sheet b (w .file .accepted) (r - firstNode b) node-below)
+
+  pub owner-parameters : (k x : ℕ) → k ≡ r - firstNode b → x ≡ getD owners k 0 → (y : ℕ) → y ≡ field (recordAt b (startIn starts (firstFunction Sheet b + x))) 0
+      → y ≡ parameters b (ownerOf Sheet b (r - firstNode b))
+  owner-parameters k x e f y g = opened-parameters b starts x y (w .file) (owner-few k x e f) g ∙ ap (parameters b) (owner-is k x e f)

@@ -1,14 +1,14 @@
 // The references and argument counts of sheets.
 ghost use mathlib.Core.Path.{_≡_};
-ghost use Prim.Native.Nat.{_<_, _-_};
+ghost use Prim.Native.Nat.{_+_, _-_};
 ghost use mathlib.Core.Bool.{true};
-ghost use Rattle.definitions.specs.Records.{recordOf, fieldCount};
-ghost use Rattle.definitions.specs.Layouts.{functions, items, firstNode, due, ownerOf};
-ghost use Rattle.definitions.specs.References.{parameters, arity, namesInRange, references};
+ghost use Rattle.definitions.specs.Records.{recordAt, recordOf, field, fieldCount};
+ghost use Rattle.definitions.specs.Layouts.{firstItem, firstFunction, firstNode, due, ownerOf};
+ghost use Rattle.definitions.specs.References.{parameters, namesInRange, references};
 ghost use Rattle.definitions.specs.Checks.{argumentsMatch, arguments};
 ghost use Rattle.definitions.specs.Verdicts.{_andThen_, firstOf};
 ghost use Rattle.definitions.specs.declared.Layout.the-variants.{Sheet};
-ghost use Rattle.format.specs.Index.{Opened, Owners, NamesAt};
+ghost use Rattle.format.specs.Index.{Opened, Owners, NamesAt, startIn};
 use crate::layout::due;
 use crate::layout::first_function;
 use crate::layout::first_item;
@@ -21,6 +21,7 @@ use crate::numbers;
 use crate::records::field;
 use crate::records::field_count;
 use crate::records::indexed;
+use crate::records::indexed_from;
 use crate::records::kind;
 use crate::records::wide;
 use crate::records::wide8;
@@ -30,20 +31,21 @@ use crate::sheet_kinds;
 use definitions::Layout;
 use definitions::Verdict;
 
-// A function's parameter count.
+// A function's parameter count: field 0 of the record that the index shows for it.
 pub fn parameters(b: &[u8], starts: &[u16; 1601], f: usize) -> u16
-    requires { ⌜ Opened Sheet (now b) (now starts) × (f < functions (now b)) ⌝ }
-    ensures { λ r. ⌜ r ≡ parameters (now (b .entry)) f ⌝ }
+    ensures { λ r. ⌜ r ≡ field (recordAt (now (b .entry)) (startIn (now (starts .entry)) (firstFunction Sheet (now (b .entry)) + f))) 0 ⌝ }
 {
-    field(indexed(b, starts, first_function(Layout::Sheet, b) + f), 0)
+    field(
+        indexed_from(b, starts, first_function(Layout::Sheet, b), f),
+        0,
+    )
 }
 
-// A constructor's arity.
+// A constructor's arity: field 0 of the record that the index shows for it.
 pub fn arity(b: &[u8], starts: &[u16; 1601], k: usize) -> u16
-    requires { ⌜ Opened Sheet (now b) (now starts) × (k < items (now b)) ⌝ }
-    ensures { λ r. ⌜ r ≡ arity (now (b .entry)) k ⌝ }
+    ensures { λ r. ⌜ r ≡ field (recordAt (now (b .entry)) (startIn (now (starts .entry)) (firstItem Sheet (now (b .entry)) + k))) 0 ⌝ }
 {
-    field(indexed(b, starts, first_item(Layout::Sheet, b) + k), 0)
+    field(indexed_from(b, starts, first_item(Layout::Sheet, b), k), 0)
 }
 
 // The parameter count of the function that owns the node of record `r`.

@@ -1,6 +1,6 @@
 // Records: where they stand, and a record as a part of the caller's file.
 ghost use mathlib.Core.Path.{_≡_};
-ghost use Prim.Native.Nat.{_≤_};
+ghost use Prim.Native.Nat.{_+_, _≤_};
 ghost use Rattle.format.specs.Index.{startIn};
 ghost use Rattle.definitions.specs.Records.{whole, next, startOf, recordAt, recordOf, kindOf, field, fieldCount};
 use crate::bytes::word;
@@ -95,6 +95,25 @@ pub fn indexed<'a>(b: &'a [u8], starts: &[u16; 1601], r: usize) -> &'a [u8]
     ensures { λ p. ⌜ now p ≡ recordAt (now (b .entry)) (startIn (now (starts .entry)) r) ⌝ }
 {
     record_at(b, start_in(starts, r))
+}
+
+// Record `first + i` by an index, also where no number of the machine's width is that sum: past the index it shows the record
+// at place 0.
+pub(crate) fn indexed_from<'a>(
+    b: &'a [u8],
+    starts: &[u16; 1601],
+    first: usize,
+    i: usize,
+) -> &'a [u8]
+    ensures { λ p. ⌜ now p ≡ recordAt (now (b .entry)) (startIn (now (starts .entry)) (first + i)) ⌝ }
+{
+    if 1601 <= first {
+        return record_at(b, 0);
+    }
+    if 1601 <= i {
+        return record_at(b, 0);
+    }
+    indexed(b, starts, first + i)
 }
 
 // A record's kind.

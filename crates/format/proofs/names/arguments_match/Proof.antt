@@ -1,6 +1,7 @@
 -- `format::names::arguments_match` meets its contract, kind by kind.
 use mathlib.Core.Path.{_∙_}
 use Rattle.laws.proofs.Arguments.{callee-below, constructor-below, match-result, match-call, match-build, match-other}
+use Rattle.format.proofs.SheetTables.{opened-parameters, opened-arity}
 use borrow.Author.Needs.{needs}
 use Rattle.format.proofs.names.arguments_match.Statement.{statement}
 use Rattle.format.proofs.names.arguments_match.Tie as tie
@@ -27,13 +28,13 @@ wide-requires : tie.Need-wide-requires
 wide-requires c κs = search needs
 
 parameters-requires : tie.Need-parameters-requires
-parameters-requires c κs = (c .before .before .before .before .before .before .before .before .before .pre .0, callee-below _ _ _ _ _ (c .before .before .before .before .kind .ensures) (c .wide .ensures .0 ∙ c .before .field2 .ensures) (c .before .before .before .before .before .before .before .before .before .pre .1) (c .before .before .before .if2 .taken))
+parameters-requires c κs = search needs
 
 wide-requires-2 : tie.Need-wide-requires-2
 wide-requires-2 c κs = search needs
 
 returns-2 : tie.Need-returns-2
-returns-2 c = match-call _ _ _ _ (c .before .before .before .before .before .before .before .before .first-function .ensures .0) (c .before .before .before .before .before .before .before .if1 .left) _ (c .before .before .before .before .before .before .kind .ensures) _ _ _ (c .before .before .before .before .before .if2 .taken) (c .before .before .before .before .argument-count .ensures) (c .before .before .wide .ensures .0 ∙ c .before .before .before .field2 .ensures) (c .wide2 .ensures .0 ∙ c .before .parameters .ensures)
+returns-2 c = match-call _ _ _ _ (c .before .before .before .before .before .before .before .before .first-function .ensures .0) (c .before .before .before .before .before .before .before .if1 .left) _ (c .before .before .before .before .before .before .kind .ensures) _ _ _ (c .before .before .before .before .before .if2 .taken) (c .before .before .before .before .argument-count .ensures) (c .before .before .wide .ensures .0 ∙ c .before .before .before .field2 .ensures) (c .wide2 .ensures .0 ∙ opened-parameters _ _ _ _ (c .before .before .before .before .before .before .before .before .before .before .before .pre .0) (callee-below _ _ _ _ _ (c .before .before .before .before .before .before .kind .ensures) (c .before .before .wide .ensures .0 ∙ c .before .before .before .field2 .ensures) (c .before .before .before .before .before .before .before .before .before .before .before .pre .1) (c .before .before .before .before .before .if2 .taken)) (c .before .parameters .ensures))
 
 argument-count-requires-2 : tie.Need-argument-count-requires-2
 argument-count-requires-2 c κs = search needs
@@ -45,13 +46,13 @@ wide-requires-3 : tie.Need-wide-requires-3
 wide-requires-3 c κs = search needs
 
 arity-requires : tie.Need-arity-requires
-arity-requires c κs = (c .before .before .before .before .before .before .before .before .before .before .pre .0, constructor-below _ _ _ _ _ (c .before .before .before .before .before .kind .ensures) (c .wide3 .ensures .0 ∙ c .before .field3 .ensures) (c .before .before .before .before .before .before .before .before .before .before .pre .1) (c .before .before .before .if3 .taken))
+arity-requires c κs = search needs
 
 wide-requires-4 : tie.Need-wide-requires-4
 wide-requires-4 c κs = search needs
 
 returns-3 : tie.Need-returns-3
-returns-3 c = match-build _ _ _ _ (c .before .before .before .before .before .before .before .before .before .first-function .ensures .0) (c .before .before .before .before .before .before .before .before .if1 .left) _ (c .before .before .before .before .before .before .before .kind .ensures) _ _ _ (c .before .before .before .before .before .if3 .taken) (c .before .before .before .before .argument-count2 .ensures) (c .before .before .wide3 .ensures .0 ∙ c .before .before .before .field3 .ensures) (c .wide4 .ensures .0 ∙ c .before .arity .ensures)
+returns-3 c = match-build _ _ _ _ (c .before .before .before .before .before .before .before .before .before .first-function .ensures .0) (c .before .before .before .before .before .before .before .before .if1 .left) _ (c .before .before .before .before .before .before .before .kind .ensures) _ _ _ (c .before .before .before .before .before .if3 .taken) (c .before .before .before .before .argument-count2 .ensures) (c .before .before .wide3 .ensures .0 ∙ c .before .before .before .field3 .ensures) (c .wide4 .ensures .0 ∙ opened-arity _ _ _ _ (c .before .before .before .before .before .before .before .before .before .before .before .before .pre .0) (constructor-below _ _ _ _ _ (c .before .before .before .before .before .before .before .kind .ensures) (c .before .before .wide3 .ensures .0 ∙ c .before .before .before .field3 .ensures) (c .before .before .before .before .before .before .before .before .before .before .before .before .pre .1) (c .before .before .before .before .before .if3 .taken)) (c .before .arity .ensures))
 
 returns-4 : tie.Need-returns-4
 returns-4 c = search match-other

@@ -1,7 +1,5 @@
 -- `format::names::owner_parameters` meets its contract; a record before the nodes stands for node 0, as the definition's difference does.
-use Rattle.format.proofs.SheetTables.{node-narrow, owner-is, owner-few}
-use Rattle.definitions.specs.References.{parameters}
-use mathlib.Core.Path.{_∙_, ap}
+use Rattle.format.proofs.SheetTables.{node-narrow, owner-parameters}
 use native.Mathlib.Omega.{arith}
 use borrow.Author.Needs.{needs}
 use Rattle.format.proofs.names.owner_parameters.Statement.{statement}
@@ -17,7 +15,7 @@ wide8-requires : tie.Need-wide8-requires
 wide8-requires c κs = search needs
 
 parameters-requires : tie.Need-parameters-requires
-parameters-requires c κs = (c .before .before .before .before .before .pre .file, owner-few _ _ _ _ (c .before .before .before .before .before .pre) 0 _ (omega arith) (c .wide8 .ensures .0))
+parameters-requires c κs = search needs
 
 element-copy-out-wide8-2 : tie.Need-element-copy-out-wide8-2
 element-copy-out-wide8-2 c = node-narrow _ _ _ _ (c .before .before .before .pre) _ (c .before .first-node .ensures .0)
@@ -26,13 +24,13 @@ wide8-requires-2 : tie.Need-wide8-requires-2
 wide8-requires-2 c κs = search needs
 
 parameters-requires-2 : tie.Need-parameters-requires-2
-parameters-requires-2 c κs = (c .before .before .before .before .before .pre .file, owner-few _ _ _ _ (c .before .before .before .before .before .pre) _ _ (omega arith) (c .wide82 .ensures .0))
+parameters-requires-2 c κs = search needs
 
 returns : tie.Need-returns
-returns c = c .parameters .ensures ∙ ap (parameters (c .before .before .before .before .before .before .args .b .now)) (owner-is _ _ _ _ (c .before .before .before .before .before .before .pre) 0 _ (omega arith) (c .before .wide8 .ensures .0))
+returns c = owner-parameters _ _ _ _ (c .before .before .before .before .before .before .pre) 0 _ (omega arith) (c .before .wide8 .ensures .0) _ (c .parameters .ensures)
 
 returns-2 : tie.Need-returns-2
-returns-2 c = c .parameters2 .ensures ∙ ap (parameters (c .before .before .before .before .before .before .args .b .now)) (owner-is _ _ _ _ (c .before .before .before .before .before .before .pre) _ _ (omega arith) (c .before .wide82 .ensures .0))
+returns-2 c = owner-parameters _ _ _ _ (c .before .before .before .before .before .before .pre) _ _ (omega arith) (c .before .wide82 .ensures .0) _ (c .parameters2 .ensures)
 
 pub owner-parameters-spec : {M : Type 1} → statement M
 owner-parameters-spec =

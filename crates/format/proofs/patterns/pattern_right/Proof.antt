@@ -1,6 +1,6 @@
 -- `format::patterns::pattern_right` meets its contract: the position is below the arity of the clause's constructor.
 use Rattle.format.proofs.PatternSteps.{entry-in-table, constructor-there, pattern-other, pattern-outside, pattern-held}
-use Rattle.definitions.specs.References.{arity}
+use Rattle.format.proofs.SheetTables.{opened-arity}
 use Prim.Native.Nat.{ℕ, _-_, _<_, _≤_}
 use native.Mathlib.Omega.{arith}
 use mathlib.Core.Path.{refl, _∙_, ap, sym}
@@ -45,13 +45,13 @@ sub-arity : tie.Need-sub-arity
 sub-arity c = search needs
 
 arity-requires : tie.Need-arity-requires
-arity-requires c κs = (c .before .before .before .before .before .before .before .before .before .before .pre .0, constructor-there _ _ _ _ (c .before .before .before .before .before .before .before .before .before .before .pre .0) (c .before .before .before .before .before .before .before .before .before .before .pre .1) (c .before .before .before .before .before .before .before .before .before .before .pre .2) (c .before .before .before .before .before .before .before .before .before .before .pre .3) _ (c .wide32 .ensures .0) (omega (arith, c .wide32 .ensures .0, c .before .before .before .if2 .left)))
+arity-requires c κs = search needs
 
 wide-requires-2 : tie.Need-wide-requires-2
 wide-requires-2 c κs = search needs
 
 returns-3 : tie.Need-returns-3
-returns-3 c = pattern-held _ _ _ _ (c .before .before .before .before .before .before .before .before .before .before .before .before .pre .0) (c .before .before .before .before .before .before .before .before .before .before .before .before .pre .1) (c .before .before .before .before .before .before .before .before .before .before .before .before .pre .2) (c .before .before .before .before .before .before .before .before .before .before .before .before .pre .3) _ (c .before .before .before .before .before .before .before .before .before .before .first-node .ensures .0) _ (c .before .before .before .before .before .before .before .before .before .indexed .ensures) _ (c .before .before .before .before .before .before .before .before .kind .ensures) (c .before .before .before .before .before .before .before .if1 .left) _ (c .before .before .wide32 .ensures .0) _ _ (omega (arith, c .before .before .wide32 .ensures .0, c .before .before .before .before .before .if2 .left)) (c .before .before .before .wide .ensures .0 ∙ c .before .before .before .before .field .ensures) (c .wide2 .ensures .0 ∙ c .before .arity .ensures)
+returns-3 c = pattern-held _ _ _ _ (c .before .before .before .before .before .before .before .before .before .before .before .before .pre .0) (c .before .before .before .before .before .before .before .before .before .before .before .before .pre .1) (c .before .before .before .before .before .before .before .before .before .before .before .before .pre .2) (c .before .before .before .before .before .before .before .before .before .before .before .before .pre .3) _ (c .before .before .before .before .before .before .before .before .before .before .first-node .ensures .0) _ (c .before .before .before .before .before .before .before .before .before .indexed .ensures) _ (c .before .before .before .before .before .before .before .before .kind .ensures) (c .before .before .before .before .before .before .before .if1 .left) _ (c .before .before .wide32 .ensures .0) _ _ (omega (arith, c .before .before .wide32 .ensures .0, c .before .before .before .before .before .if2 .left)) (c .before .before .before .wide .ensures .0 ∙ c .before .before .before .before .field .ensures) (c .wide2 .ensures .0 ∙ opened-arity _ _ _ _ (c .before .before .before .before .before .before .before .before .before .before .before .before .pre .0) (constructor-there _ _ _ _ (c .before .before .before .before .before .before .before .before .before .before .before .before .pre .0) (c .before .before .before .before .before .before .before .before .before .before .before .before .pre .1) (c .before .before .before .before .before .before .before .before .before .before .before .before .pre .2) (c .before .before .before .before .before .before .before .before .before .before .before .before .pre .3) _ (c .before .before .wide32 .ensures .0) (omega (arith, c .before .before .wide32 .ensures .0, c .before .before .before .before .before .if2 .left))) (c .before .arity .ensures))
 
 pub pattern-right-spec : {M : Type 1} → statement M
 pattern-right-spec =

@@ -1,5 +1,6 @@
 -- `translator::formals::put_function_formals` meets its contract. The loop's invariant: the formals of the positions passed are written.
 use native.Mathlib.Omega.{arith}
+use Rattle.format.proofs.SheetTables.{opened-parameters}
 use Rattle.translator.proofs.Writing.{wrote-none, wrote-more, wrote-all}
 use Rattle.translator.proofs.SheetTables.{nodes-few, counted-calls, calls-of, parameters-same}
 use Rattle.translator.specs.Writing.{Wrote}
@@ -43,7 +44,7 @@ wide-requires-2 c κs = search needs
 
 -- src/formals.rt:61:26
 parameters-requires : tie.Need-parameters-requires Inv-loop μ-loop
-parameters-requires c κs = ((c .before .before .before .before .before .before .pre) .0 .file, omega (arith, (c .before .before .before .before .before .before .pre) .1, (c .wide2) .ensures .0))
+parameters-requires c κs = search needs
 
 -- src/formals.rt:61:9
 wide-requires-3 : tie.Need-wide-requires-3 Inv-loop μ-loop
@@ -76,7 +77,7 @@ same-length c = (c .before .loop) .inv .1 .kept
 -- src/formals.rt:56:1
 returns : tie.Need-returns Inv-loop μ-loop
 unfolding formalWords
-returns c = wrote-all _ _ _ _ _ _ _ _ (parameters-same _ _ _ _ _ ((c .before .before .wide3) .ensures .0) ((c .before .before .before .parameters) .ensures) ((c .before .before .before .before .wide2) .ensures .0)) ((c .before .loop) .inv .0) ((c .loop-test) .left) ((c .before .loop) .inv .1)
+returns c = wrote-all _ _ _ _ _ _ _ _ (parameters-same _ _ _ _ _ ((c .before .before .wide3) .ensures .0) (opened-parameters _ _ _ _ ((c .before .before .before .before .before .before .before .before .before .before .pre) .0 .file) (omega (arith, (c .before .before .before .before .before .before .before .before .before .before .pre) .1, (c .before .before .before .before .wide2) .ensures .0)) ((c .before .before .before .parameters) .ensures)) ((c .before .before .before .before .wide2) .ensures .0)) ((c .before .loop) .inv .0) ((c .loop-test) .left) ((c .before .loop) .inv .1)
 
 pub put-function-formals-spec : {M : Type 1} → statement M
 put-function-formals-spec =

@@ -1,6 +1,7 @@
 -- `translator::tables::first_formals` meets its contract. The loop's invariant: the sums over the functions passed are in the table.
 use native.Mathlib.Omega.{arith}
 use mathlib.Core.Path.{refl, _∙_}
+use Rattle.format.proofs.SheetTables.{opened-parameters}
 use Rattle.translator.proofs.SheetTables.{Summing, summing-begins, summing-goes-on, summing-done}
 use Prim.Native.Nat.{_-_}
 use borrow.Author.Needs.{needs}
@@ -60,7 +61,7 @@ loop-less c = search needs
 
 -- src/tables.rt:78:5
 loop-again : tie.Need-loop-again Inv-loop μ-loop
-loop-again c = summing-goes-on _ _ _ _ _ _ ((c .before .before .loop) .inv) ((c .before .loop-test) .taken) ((c .parameters) .ensures) (omega arith)
+loop-again c = summing-goes-on _ _ _ _ _ _ ((c .before .before .loop) .inv) ((c .before .loop-test) .taken) (opened-parameters _ _ _ _ (c .before .before .before .before .before .before .pre) (omega (arith, (c .before .before .loop) .inv .counted, (c .before .loop-test) .taken)) ((c .parameters) .ensures)) (omega arith)
 
 -- src/tables.rt:70:1
 returns : tie.Need-returns Inv-loop μ-loop

@@ -1,0 +1,72 @@
+// A trial of a reader: a file with some of its words changed is read, and a line says what the reader answers.
+use crate::files::SPACE_BYTES;
+use crate::files::change_words;
+use crate::files::copy;
+use crate::shown::show_number;
+use crate::shown::show_part;
+use crate::shown::show_refusal;
+use crate::text::entry_end;
+use crate::text::number;
+use crate::text::numbers_end;
+use definitions::Layout;
+use definitions::Verdict;
+use file_writer::Space;
+use format::sheet::read_sheet;
+use format::translation::read_translation;
+
+// What the reader of a layout says of a file.
+fn verdict(layout: Layout, file: &[u8]) -> Verdict {
+    match layout {
+        Layout::Sheet => {
+            let read = read_sheet(file);
+            let verdict = read.verdict;
+            verdict
+        }
+        Layout::Translation => {
+            let read = read_translation(file);
+            let verdict = read.verdict;
+            verdict
+        }
+    }
+}
+
+// The same of the first `size` bytes. Where there are not as many, the answer is a number that no refusal has.
+fn verdict_of(layout: Layout, file: &[u8], size: usize) -> Verdict {
+    if size <= file.len() {
+        return verdict(layout, &file[0..size]);
+    }
+    Verdict::Refused {
+        number: 0,
+        place: 0,
+    }
+}
+
+// The same with a whole space.
+fn verdict_in(layout: Layout, file: &Space, size: usize) -> Verdict {
+    verdict_of(layout, file, size)
+}
+
+// The end of a line.
+fn show(verdict: Verdict) {
+    match verdict {
+        Verdict::Accepted => {
+            io::write_all(1, b"accepted");
+        }
+        Verdict::Refused { number, place } => {
+            show_refusal(number, place);
+        }
+    }
+    io::write_all(1, b"\n");
+}
+
+// A trial. The entry has the number of bytes that are read, the changes, and after a comma what the trial is.
+pub(crate) fn try_reader(text: &[u8], from: usize, layout: Layout, base: &Space) {
+    let mut file = [0u8; SPACE_BYTES];
+    copy(base, &mut file);
+    change_words(text, from, &mut file);
+    let size = number(text, from) as usize;
+    show_number(b"  ", size, b" bytes");
+    show_part(text, numbers_end(text, from), entry_end(text, from));
+    io::write_all(1, b": ");
+    show(verdict_in(layout, &file, size));
+}
