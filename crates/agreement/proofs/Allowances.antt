@@ -16,7 +16,7 @@ use Rattle.definitions.specs.Translate.{translation}
 use Rattle.definitions.specs.Rule.{Reached, visited}
 use Rattle.definitions.specs.Cells.{Cell, byCells, evaluation}
 use Rattle.definitions.specs.Run.{endingOutcome}
-use Rattle.definitions.specs.Meaning.{Setting, End, Means, outcomeOf, OwnAnswer}
+use Rattle.agreement.specs.Meaning.{Setting, End, Means, outcomeOf, OwnAnswer}
 use Rattle.definitions.specs.declared.Layout.the-variants.{Sheet, Translation}
 use Rattle.definitions.specs.declared.Verdict.the-variants.{Accepted}
 use Rattle.accepted.proofs.Head.{functions-least}

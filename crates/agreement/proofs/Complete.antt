@@ -14,8 +14,8 @@ use Rattle.definitions.specs.Checks.{sheetVerdict}
 use Rattle.definitions.specs.Translate.{formalOf, translation}
 use Rattle.definitions.specs.Rule.{Ending, constructor, ended}
 use Rattle.definitions.specs.Rule
-use Rattle.definitions.specs.Meaning.{Setting, Closure, argumentOf, heldField, End, value, fault, integer, built}
-use Rattle.definitions.specs.Meaning.{Means, number-itself, reading-value, parameter-argument, call-body, build-itself, case-chosen, case-unmatched, case-number, case-fault, pattern-field, if-nonzero, if-zero, if-constructor, if-fault, operator-numbers, left-constructor, left-fault, right-constructor, right-fault}
+use Rattle.agreement.specs.Meaning.{Setting, Closure, argumentOf, heldField, End, value, fault, integer, built}
+use Rattle.agreement.specs.Meaning.{Means, number-itself, reading-value, parameter-argument, call-body, build-itself, case-chosen, case-unmatched, case-number, case-fault, pattern-field, if-nonzero, if-zero, if-constructor, if-fault, operator-numbers, left-constructor, left-fault, right-constructor, right-fault}
 use Rattle.definitions.specs.declared.Layout.the-variants.{Sheet, Translation}
 use Rattle.definitions.specs.declared.Verdict.the-variants.{Accepted}
 use Rattle.accepted.specs.Child.{left, right, condition, ifNonzero, ifZero}

@@ -16,7 +16,7 @@ use Rattle.definitions.specs.TranslationNodes.{translationNodeOf, actual, tuple
 use Rattle.definitions.specs.Checks.{clauseWithin, sheetVerdict}
 use Rattle.definitions.specs.Translate.{labelOf, formalOf, scrutineeOf, translation}
 use Rattle.definitions.specs.Rule.{value, constructor}
-use Rattle.definitions.specs.Meaning.{Setting, empty, entered, holding, closureAt, argumentOf, heldField}
+use Rattle.agreement.specs.Meaning.{Setting, empty, entered, holding, closureAt, argumentOf, heldField}
 use Rattle.definitions.specs.declared.Layout.the-variants.{Sheet}
 use Rattle.definitions.specs.declared.Verdict.the-variants.{Accepted}
 use Rattle.accepted.specs.Child.{Child, ifNonzero, ifZero, argument, component, scrutinee, clause, isCase}

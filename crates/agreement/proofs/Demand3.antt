@@ -11,7 +11,7 @@ use Rattle.definitions.specs.Layouts.{readings}
 use Rattle.definitions.specs.Outcomes.{Outcome}
 use Rattle.definitions.specs.Checks.{sheetVerdict}
 use Rattle.definitions.specs.Translate.{translation}
-use Rattle.definitions.specs.Meaning.{OwnAnswer}
+use Rattle.agreement.specs.Meaning.{OwnAnswer}
 use Rattle.definitions.specs.declared.Verdict.the-variants.{Accepted}
 use Rattle.agreement.specs.Answers.{isAnswer, ruleOutcome, RuleGives, answerOutcome, sheetRun, Unanswered}
 use Rattle.agreement.proofs.Outcomes.{answer-no-stop}

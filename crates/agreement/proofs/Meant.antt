@@ -15,8 +15,8 @@ use Rattle.definitions.specs.SheetNodes.{SheetNode, parameter, patternVariable,
 use Rattle.definitions.specs.TranslationNodes.{translationNodeOf, actual, tupleFields}
 use Rattle.definitions.specs.Translate.{formalOf, translation}
 use Rattle.definitions.specs.Rule.{Ending, value, ended, integer, constructor}
-use Rattle.definitions.specs.Meaning.{Setting, End, endOf, Means}
-use Rattle.definitions.specs.Meaning
+use Rattle.agreement.specs.Meaning.{Setting, End, endOf, Means}
+use Rattle.agreement.specs.Meaning
 use Rattle.definitions.specs.declared.Layout.the-variants.{Sheet}
 use Rattle.agreement.specs.Visits.{Trace, NotNumber, constructor-came, ended-before, NotConstructor, number-came, ended-first, endingOf, Visits}
 use Rattle.agreement.specs.Corresponds.{At, Agrees, integers, constructors, ends, Meant}

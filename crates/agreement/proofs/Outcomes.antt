@@ -18,9 +18,9 @@ use Rattle.definitions.specs.Translate.{translation}
 use Rattle.definitions.specs.Rule.{Ending, value, ended, integer, constructor}
 use Rattle.definitions.specs.Cells.{Cell}
 use Rattle.definitions.specs.Run.{endingOutcome}
-use Rattle.definitions.specs.Meaning.{Setting, End, endOf, outcomeOf, OwnAnswer}
-use Rattle.definitions.specs.Meaning
-use Rattle.definitions.specs.Meaning.{Means, number-itself, reading-value, parameter-argument, call-body, build-itself, case-chosen, case-unmatched, case-number, case-fault, pattern-field, if-nonzero, if-zero, if-constructor, if-fault, operator-numbers, left-constructor, left-fault, right-constructor, right-fault}
+use Rattle.agreement.specs.Meaning.{Setting, End, endOf, outcomeOf, OwnAnswer}
+use Rattle.agreement.specs.Meaning
+use Rattle.agreement.specs.Meaning.{Means, number-itself, reading-value, parameter-argument, call-body, build-itself, case-chosen, case-unmatched, case-number, case-fault, pattern-field, if-nonzero, if-zero, if-constructor, if-fault, operator-numbers, left-constructor, left-fault, right-constructor, right-fault}
 use Rattle.definitions.specs.declared.Verdict.the-variants.{Accepted}
 use Rattle.readback.proofs.Nodes.{tag-read}
 use Rattle.agreement.specs.Answers.{isStop, isAnswer, stopped}

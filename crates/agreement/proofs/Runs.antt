@@ -17,7 +17,7 @@ use Rattle.definitions.specs.Outcomes.{Outcome}
 use Rattle.definitions.specs.Translate.{translation}
 use Rattle.definitions.specs.Cells.{evaluation}
 use Rattle.definitions.specs.Run.{Answer, answerOf, refusal, runVerdict, answerAfter, runAnswer}
-use Rattle.definitions.specs.Meaning.{OwnAnswer}
+use Rattle.agreement.specs.Meaning.{OwnAnswer}
 use Rattle.definitions.specs.declared.Verdict.{Verdict}
 use Rattle.definitions.specs.declared.Verdict.the-variants.{Accepted, Refused}
 use Rattle.readback.proofs.Records.{translation-readings}

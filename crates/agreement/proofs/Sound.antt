@@ -12,8 +12,8 @@ use Rattle.definitions.specs.TranslationNodes.{TranslationNode}
 use Rattle.definitions.specs.Checks.{sheetVerdict}
 use Rattle.definitions.specs.Translate.{translation}
 use Rattle.definitions.specs.Rule.{Ending}
-use Rattle.definitions.specs.Meaning.{Setting, endOf, Means}
-use Rattle.definitions.specs.Meaning
+use Rattle.agreement.specs.Meaning.{Setting, endOf, Means}
+use Rattle.agreement.specs.Meaning
 use Rattle.definitions.specs.declared.Layout.the-variants.{Translation}
 use Rattle.definitions.specs.declared.Verdict.the-variants.{Accepted}
 use Rattle.accepted.specs.Child.{left, right, condition}

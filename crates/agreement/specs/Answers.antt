@@ -14,7 +14,7 @@ use Rattle.definitions.specs.Translate.{translation}
 use Rattle.definitions.specs.Rule.{Ending, value, ended}
 use Rattle.definitions.specs.Cells.{evaluation}
 use Rattle.definitions.specs.Run.{Answer, endingOutcome, refusal, runVerdict, runAnswer}
-use Rattle.definitions.specs.Meaning.{OwnAnswer}
+use Rattle.agreement.specs.Meaning.{OwnAnswer}
 use Rattle.definitions.specs.declared.Verdict.the-variants.{Accepted, Refused}
 
 -- whether an outcome's number is a stop's: 11, 12, 13

@@ -12,8 +12,8 @@ use Rattle.definitions.specs.TranslationNodes.{translationNodeOf}
 use Rattle.definitions.specs.Checks.{clauseWithin}
 use Rattle.definitions.specs.Translate.{labelOf, translation}
 use Rattle.definitions.specs.Rule.{Ending, value, ended, integer, constructor}
-use Rattle.definitions.specs.Meaning.{Setting, empty, entered, holding, End, Means}
-use Rattle.definitions.specs.Meaning
+use Rattle.agreement.specs.Meaning.{Setting, empty, entered, holding, End, Means}
+use Rattle.agreement.specs.Meaning
 use Rattle.definitions.specs.declared.Layout.the-variants.{Sheet}
 use Rattle.agreement.specs.Visits.{Trace, Visits}
 

@@ -12,6 +12,7 @@ use mir.Val.{toZ, ofZ, SFits}
 use mir.ValLaws.{toZ-ofZ}
 use Rattle.definitions.specs.Bytes.{wordBytes, words32, bytesOf}
 use Rattle.definitions.specs.Operators.{residue}
+use Rattle.definitions.specs.Run.{refusal}
 use Rattle.definitions.specs.Verdicts.{require}
 use Rattle.definitions.specs.AnswerRecord.{answerWords, answerBytes}
 use Rattle.definitions.specs.declared.Verdict.the-variants.{Accepted, Refused}
@@ -66,3 +67,8 @@ record-written a l t h e =
       verdict = rw (le-leb 20 (length l) h) refl;
       bytes = rw (le-leb 20 (length l) h) (e ∙ over-front (answerBytes (answerOf a)) l 20 (answer-length a) h);
     }
+
+-- the answer of a refusal
+pub refusal-is : (n p : ℕ) → answerOf (record { outcome = Out.Refused n p; steps = 0; cells = 0 }) ≡ refusal n p
+unfolding answerOf refusal outcomeOf valueOf nodeOf contextOf
+refusal-is n p = refl

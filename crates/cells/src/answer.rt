@@ -2,7 +2,8 @@
 ghost use mathlib.Core.Path.{_≡_};
 ghost use mir.Syntax.{w32};
 ghost use Rattle.definitions.specs.Operators.{residue};
-ghost use Rattle.cells.specs.Answers.{outcomeOf, valueOf, nodeOf, contextOf, Writes};
+ghost use Rattle.definitions.specs.Run.{refusal};
+ghost use Rattle.cells.specs.Answers.{outcomeOf, valueOf, nodeOf, contextOf, answerOf, Writes};
 use crate::bytes::put_word;
 use crate::bytes::put_word32;
 use crate::numbers;
@@ -22,6 +23,17 @@ pub struct Answer {
     pub outcome: Outcome,
     pub steps: u32,
     pub cells: u16,
+}
+
+// The answer of a refusal.
+pub fn refused(number: u16, place: usize) -> Answer
+    ensures { λ r. ⌜ answerOf r ≡ refusal number place ⌝ }
+{
+    Answer {
+        outcome: Outcome::Refused { number, place },
+        steps: 0,
+        cells: 0,
+    }
 }
 
 // The outcome's number.

@@ -15,7 +15,6 @@ pub mod NodeFields
 pub mod SheetNodes
 pub mod TranslationNodes
 pub mod Outcomes
-pub mod Meaning
 pub mod Translate
 pub mod Rule
 pub mod Cells

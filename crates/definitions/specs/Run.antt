@@ -1,7 +1,7 @@
 -- A run (document 01, "Run", "Allowances", and table, 9 and 10): its answer, and the lent cells at its end.
 use Prim.Native.Nat.{ℕ, _+_, _*_, _-_}
 use mathlib.Core.List.{List, _++_}
-use mathlib.Core.Bool.{_&&_}
+use mathlib.Core.Bool.{Bool, _&&_}
 use lib.IntN.{ℤ, pos}
 use lib.ListN.{length, drop}
 use lib.Dec.{leb, eqb}
@@ -59,12 +59,16 @@ answerOf b steps r =
 unfoldable pub refusal : ℕ → ℕ → Answer
 refusal n p = record { outcome = n; value = pos p; steps = 0; node = 0; context = 0; cells = 0 }
 
--- what a run is refused for: "the file's own checks", 9, then 10; `lent` is how many cell bytes are lent
+-- "nesting 1..1,024; cells 0..8,192, with 4 bytes lent for each"; `lent` is how many cell bytes are lent
+abbrev pub allowancesFit : ℕ → ℕ → ℕ → Bool
+allowancesFit nesting most lent = within 1 1024 nesting && leb most 8192 && leb (4 * most) lent
+
+-- what a run is refused for: "the file's own checks", 9, then 10
 unfoldable pub runVerdict : List ℕ → List ℤ → ℕ → ℕ → ℕ → Verdict
 runVerdict b rs nesting most lent =
     translationVerdict b
     andThen require (eqb (length rs) (readings b)) badReadings 0
-    andThen require (within 1 1024 nesting && leb most 8192 && leb (4 * most) lent) badAllowance 0
+    andThen require (allowancesFit nesting most lent) badAllowance 0
 
 unfoldable pub answerAfter : Verdict → Answer → Answer
 answerAfter Accepted a = a

@@ -10,7 +10,7 @@ use Rattle.definitions.specs.Layouts.{bodyOf}
 use Rattle.definitions.specs.Operators.{isZero}
 use Rattle.definitions.specs.NodeFields.{chosen}
 use Rattle.definitions.specs.SheetNodes.{SheetNode, number, reading, parameter, patternVariable, operator, conditional, call, build, caseOf, sheetNodeOf}
-use Rattle.definitions.specs.Meaning.{Setting, entered, holding, Closure, argumentOf, heldField, integer, built, End, value, fault}
+use Rattle.agreement.specs.Meaning.{Setting, entered, holding, Closure, argumentOf, heldField, integer, built, End, value, fault}
 use Rattle.definitions.specs.declared.Layout.the-variants.{Sheet}
 use Rattle.meaning.specs.Evaluator.{Evaluator, numberDue, constructorDue, clauseDue, closureDue, endBy, endWithin}
 

@@ -7,7 +7,7 @@ use lib.IntN.{ℤ}
 use Rattle.definitions.specs.Layouts.{bodyOf}
 use Rattle.definitions.specs.Outcomes.{Outcome}
 use Rattle.definitions.specs.SheetNodes.{sheetNodeOf}
-use Rattle.definitions.specs.Meaning.{empty, outcomeOf, OwnAnswer}
+use Rattle.agreement.specs.Meaning.{empty, outcomeOf, OwnAnswer}
 use Rattle.definitions.specs.declared.Layout.the-variants.{Sheet}
 use Rattle.meaning.specs.Evaluator.{endWithin, ownWithin}
 use Rattle.meaning.proofs.Sound.{sound}

@@ -6,7 +6,7 @@ use mathlib.Core.Option.{none}
 use lib.IntN.{ℤ}
 use Rattle.definitions.specs.Layouts.{bodyOf}
 use Rattle.definitions.specs.SheetNodes.{call, sheetNodeOf}
-use Rattle.definitions.specs.Meaning.{Setting, entered}
+use Rattle.agreement.specs.Meaning.{Setting, entered}
 use Rattle.definitions.specs.declared.Layout.the-variants.{Sheet}
 use Rattle.meaning.specs.Evaluator.{endBy, endWithin}
 

@@ -8,8 +8,8 @@ use lib.IntN.{ℤ}
 use Rattle.definitions.specs.Operators.{computed, isZero}
 use Rattle.definitions.specs.NodeFields.{Clause, chosen}
 use Rattle.definitions.specs.SheetNodes.{SheetNode, number, reading, parameter, patternVariable, operator, conditional, call, build, caseOf, sheetNodeOf}
-use Rattle.definitions.specs.Meaning.{Setting, holding, Closure, argumentOf, heldField, integer, built, End, value, fault, endOf}
-use Rattle.definitions.specs.Meaning.{Means, number-itself, reading-value, parameter-argument, call-body, build-itself, case-chosen, case-unmatched, case-number, case-fault, pattern-field, if-nonzero, if-zero, if-constructor, if-fault, operator-numbers, left-constructor, left-fault, right-constructor, right-fault}
+use Rattle.agreement.specs.Meaning.{Setting, holding, Closure, argumentOf, heldField, integer, built, End, value, fault, endOf}
+use Rattle.agreement.specs.Meaning.{Means, number-itself, reading-value, parameter-argument, call-body, build-itself, case-chosen, case-unmatched, case-number, case-fault, pattern-field, if-nonzero, if-zero, if-constructor, if-fault, operator-numbers, left-constructor, left-fault, right-constructor, right-fault}
 use Rattle.meaning.specs.Evaluator.{Evaluator, numberDue, constructorDue, clauseDue, closureDue, endBy, endWithin}
 
 -- an end that is equal to one that is meant is meant

@@ -4,7 +4,7 @@ use Prim.Native.Nat.{ℕ}
 use mathlib.Core.List.{List}
 use lib.IntN.{ℤ}
 use Rattle.definitions.specs.SheetNodes.{SheetNode}
-use Rattle.definitions.specs.Meaning.{Setting, End, Means}
+use Rattle.agreement.specs.Meaning.{Setting, End, Means}
 use Rattle.meaning.proofs.Complete.{complete, atOneFuel}
 
 -- two ends of one node in one setting are equal

@@ -12,7 +12,7 @@ use Rattle.definitions.specs.Operators.{computed, isZero}
 use Rattle.definitions.specs.Outcomes.{Outcome}
 use Rattle.definitions.specs.NodeFields.{chosen}
 use Rattle.definitions.specs.SheetNodes.{SheetNode, number, reading, parameter, patternVariable, operator, conditional, call, build, caseOf, sheetNodeOf}
-use Rattle.definitions.specs.Meaning.{Setting, empty, entered, holding, Closure, argumentOf, heldField, integer, built, End, value, fault, endOf, outcomeOf}
+use Rattle.agreement.specs.Meaning.{Setting, empty, entered, holding, Closure, argumentOf, heldField, integer, built, End, value, fault, endOf, outcomeOf}
 use Rattle.definitions.specs.declared.Layout.the-variants.{Sheet}
 
 -- a way to work a node out in a setting, where it ends

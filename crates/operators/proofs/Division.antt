@@ -1,7 +1,7 @@
 -- Division by cases on the signs, at every width: the quotient is held unless the lowest number is divided by -1.
 use mathlib.Core.Path.{_≡_, refl, sym, ap, _∙_, subst}
 use Prim.Native.Nat.{ℕ, zero, suc, _-_, _/_, _^_, _≤_, _<_}
-use mathlib.Core.Bool.{false}
+use mathlib.Core.Bool.{true, false}
 use native.Mathlib.Omega.{arith}
 use native.Mathlib.Nat.{div-le-self, div-lt-self, div-one, mod-eq-of-lt}
 use lib.Pow.{pow-pos}
@@ -50,8 +50,12 @@ module _ (w : Width) where
             (λ e z. k (omega (arith, pow-bits w, e)) (omega (arith, pow-bits w, pow-pos (hbits w), z)));
       }
 
-  -- a number whose bits are not 0 is not zero
-  not-zero : (y : ℤ) → (ofZ w y ≡ 0 → ⊥) → isZero y ≡ false
+  -- whether a number is zero, by its bits
+  pub zero-bits : (y : ℤ) → SFits w y → ofZ w y ≡ 0 → isZero y ≡ true
+  unfolding isZero
+  zero-bits y f e = rw (is-zero y f e) refl
+
+  pub not-zero : (y : ℤ) → (ofZ w y ≡ 0 → ⊥) → isZero y ≡ false
   unfolding isZero
   not-zero (pos n) k = ne-eqb n 0 k
   not-zero (negsuc n) k = refl

@@ -2,3 +2,10 @@ pub mod Lockstep
 pub mod Held
 pub mod Labels
 pub mod Runs
+pub mod LookUps
+pub mod Outcomes
+pub mod Falls
+pub mod Endings
+pub mod Steps
+pub mod Nodes
+pub mod Answering

@@ -9,7 +9,7 @@ use Rattle.definitions.specs.Layouts.{bodyOf}
 use Rattle.definitions.specs.Checks.{sheetVerdict, translationVerdict}
 use Rattle.definitions.specs.Outcomes.{Outcome}
 use Rattle.definitions.specs.SheetNodes.{call, sheetNodeOf}
-use Rattle.definitions.specs.Meaning.{empty, OwnAnswer}
+use Rattle.agreement.specs.Meaning.{empty, OwnAnswer}
 use Rattle.definitions.specs.Translate.{translation}
 use Rattle.definitions.specs.Run.{Answer, runAnswer, runCells}
 use Rattle.definitions.specs.declared.Layout.the-variants.{Sheet}

@@ -12,7 +12,7 @@ use Rattle.definitions.specs.NodeFields
 use Rattle.definitions.specs.Operators
 use Rattle.definitions.specs.Outcomes
 use Rattle.definitions.specs.SheetNodes
-use Rattle.definitions.specs.Meaning
+use Rattle.agreement.specs.Meaning
 use Rattle.definitions.specs.Translate
 use Rattle.definitions.specs.TranslationNodes
 use Rattle.definitions.specs.Rule

@@ -8,7 +8,7 @@ use lib.IntN.{ℤ}
 use lib.ListN.{length, drop}
 use Rattle.definitions.specs.Checks.{sheetVerdict, translationVerdict}
 use Rattle.definitions.specs.Outcomes.{Outcome}
-use Rattle.definitions.specs.Meaning.{OwnAnswer}
+use Rattle.agreement.specs.Meaning.{OwnAnswer}
 use Rattle.definitions.specs.Translate.{translation}
 use Rattle.definitions.specs.Run.{Answer, runAnswer, runCells}
 use Rattle.definitions.specs.declared.Verdict.the-variants.{Accepted}

@@ -1,0 +1,75 @@
+// Translating a sheet and running it, in one call.
+ghost use mathlib.Core.Path.{_≡_};
+ghost use lib.ListN.{length};
+ghost use Rattle.definitions.specs.Checks.{sheetVerdict};
+ghost use Rattle.definitions.specs.Translate.{translation};
+ghost use Rattle.definitions.specs.declared.Verdict.the-variants.{Accepted};
+ghost use Rattle.join.specs.Promise.{Joins};
+use cells::answer::Answer;
+use cells::answer::refused;
+use format::layout;
+use format::records::wide;
+use run::allowances::allowed;
+use run::run;
+use translator::Translated;
+use translator::translate;
+
+// The refusals that are decided here: "short tray", "sensor count", "bad allowance".
+const SHORT_OUTPUT: u16 = 8;
+
+const BAD_READINGS: u16 = 9;
+
+const BAD_ALLOWANCE: u16 = 10;
+
+// The greatest length of a translation.
+const TRANSLATION_BYTES: usize = 40960;
+
+// Translates a sheet into a lent buffer and runs the translation on a list of readings, with allowances of steps, nesting and
+// cells, in lent cells. Every refusal is known before the first byte is written.
+pub fn translate_and_run(
+    sheet: &[u8],
+    out: &mut [u8],
+    readings: &[i32],
+    steps: u32,
+    nesting: u32,
+    most: u32,
+    cells: &mut [u8],
+) -> Answer
+    ensures { λ r. ⌜ Joins (now (sheet .entry)) (now (out .entry)) (now (readings .entry)) steps nesting most (now (cells .entry)) r (now (out .exit)) (now (cells .exit)) ⌝ }
+{
+    let mut own = [0u8; TRANSLATION_BYTES];
+    let translated = translate(sheet, &mut own);
+    match translated {
+        Translated::Refused { number, place } => refused(number, place),
+        Translated::Length(size) => {
+            run_accepted(sheet, size, out, readings, steps, nesting, most, cells)
+        }
+    }
+}
+
+// The same of an accepted sheet, whose translation has a known length.
+fn run_accepted(
+    sheet: &[u8],
+    size: usize,
+    out: &mut [u8],
+    readings: &[i32],
+    steps: u32,
+    nesting: u32,
+    most: u32,
+    cells: &mut [u8],
+) -> Answer
+    requires { ⌜ (sheetVerdict (now sheet) ≡ Accepted) × (size ≡ length (translation (now sheet))) ⌝ }
+    ensures { λ r. ⌜ Joins (now (sheet .entry)) (now (out .entry)) (now (readings .entry)) steps nesting most (now (cells .entry)) r (now (out .exit)) (now (cells .exit)) ⌝ }
+{
+    if out.len() < size {
+        return refused(SHORT_OUTPUT, 0);
+    }
+    if readings.len() != wide(layout::readings(sheet)) {
+        return refused(BAD_READINGS, 0);
+    }
+    if !allowed(nesting, most, cells.len()) {
+        return refused(BAD_ALLOWANCE, 0);
+    }
+    translate(sheet, out);
+    run(&out[..size], readings, steps, nesting, most, cells)
+}

@@ -1,0 +1,16 @@
+-- `run::state::ended` meets its contract.
+use Rattle.run.specs.States.{endingOf, valueOf}
+use mathlib.Core.Path.{refl}
+use borrow.Author.Needs.{needs}
+use Rattle.run.proofs.state.ended.Statement.{statement}
+use Rattle.run.proofs.state.ended.Tie as tie
+use Rattle.run.proofs.state.ended.Reads as reads
+use Rattle.run.proofs.state.ended.Lts as lts
+
+-- src/state.rt:27:1
+returns : tie.Need-returns
+unfolding endingOf valueOf
+returns c = record { ending = refl; steps = refl; cells = refl }
+
+pub ended-spec : {M : Type 1} → statement M
+ended-spec = tie.close (tie.spec returns)

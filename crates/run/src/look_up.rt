@@ -1,0 +1,108 @@
+// What a visit looks up: a node's record, a reading, a field or an actual, a clause, a body. Each in constant time, but for
+// the clause.
+ghost use mathlib.Core.Path.{_≡_};
+ghost use mathlib.Core.Bool.{cond};
+ghost use Rattle.definitions.specs.Operators.{isZero};
+ghost use Prim.Native.Nat.{_+_, _*_, _<_};
+ghost use Rattle.definitions.specs.Records.{field};
+ghost use lib.IntN.{pos};
+ghost use lib.ListN.{getD, getElem?};
+ghost use Rattle.definitions.specs.Layouts.{functions, items, nodes, due, bodyOf, nodeRecord, itemRecord};
+ghost use Rattle.definitions.specs.NodeFields.{fieldsFrom, clauseList, chosen};
+ghost use Rattle.definitions.specs.declared.Layout.the-variants.{Translation};
+ghost use Rattle.format.specs.Index.{Indexed};
+ghost use Rattle.run.specs.States.{foundOf, Ready};
+use definitions::Layout;
+use format::layout::first_item;
+use format::layout::first_node;
+use format::records::field;
+use format::records::field_count;
+use format::records::indexed;
+use format::records::wide;
+use format::references::clause_constructor;
+use format::references::clauses;
+
+// A node that was looked up, or none.
+pub enum Found {
+    Node(u16),
+    Nothing,
+}
+
+// The record of node `k`.
+pub(crate) fn node_record<'a>(b: &'a [u8], starts: &[u16; 1601], k: u16) -> &'a [u8]
+    requires { ⌜ Indexed (now b) (now starts) (due (now b)) × (k < nodes (now b)) ⌝ }
+    ensures { λ r. ⌜ now r ≡ nodeRecord (now (b .entry)) k ⌝ }
+{
+    indexed(b, starts, first_node(b) + wide(k))
+}
+
+// The record of formal `p`.
+pub(crate) fn formal_record<'a>(b: &'a [u8], starts: &[u16; 1601], p: u16) -> &'a [u8]
+    requires { ⌜ Indexed (now b) (now starts) (due (now b)) × (p < items (now b)) ⌝ }
+    ensures { λ r. ⌜ now r ≡ itemRecord Translation (now (b .entry)) p ⌝ }
+{
+    indexed(b, starts, first_item(Layout::Translation, b) + wide(p))
+}
+
+// The body of function `f`.
+pub(crate) fn body(b: &[u8], starts: &[u16; 1601], ends: &[u16; 64], f: u16) -> u16
+    requires { ⌜ Ready (now b) (now starts) (now ends) × (f < functions (now b)) ⌝ }
+    ensures { λ r. ⌜ r ≡ bodyOf Translation (now (b .entry)) f ⌝ }
+{
+    let end = wide(ends[wide(f)]);
+    (end - 1) as u16
+}
+
+// Reading `i`; 0 past the list.
+pub(crate) fn reading(readings: &[i32], i: u16) -> i32
+    ensures { λ r. ⌜ r ≡ getD (now (readings .entry)) i (pos 0) ⌝ }
+{
+    let at = wide(i);
+    if at < readings.len() { readings[at] } else { 0 }
+}
+
+// The node that field `i` after the first `j` fields of a record names, if there is one.
+pub(crate) fn field_after(rec: &[u8], j: usize, i: u16) -> Found
+    requires { ⌜ j < 2 ⌝ }
+    ensures { λ r. ⌜ foundOf r ≡ getElem? (fieldsFrom (now (rec .entry)) j) i ⌝ }
+{
+    let at = j + wide(i);
+    if at < field_count(rec) {
+        Found::Node(field(rec, at))
+    } else {
+        Found::Nothing
+    }
+}
+
+// The node of clause `j` of a case's record.
+fn clause_node(rec: &[u8], j: usize) -> u16
+    ensures { λ r. ⌜ r ≡ field (now (rec .entry)) (2 + 2 * j) ⌝ }
+{
+    if rec.len() / 4 <= j {
+        0
+    } else {
+        field(rec, 2 + 2 * j)
+    }
+}
+
+// The node of the first clause of a case's record with a tag, if there is one.
+pub(crate) fn clause(rec: &[u8], tag: u16) -> Found
+    ensures { λ r. ⌜ foundOf r ≡ chosen (clauseList (now (rec .entry))) tag ⌝ }
+{
+    let count = clauses(rec);
+    let mut j: usize = 0;
+    while j < count {
+        if clause_constructor(rec, j) == tag {
+            return Found::Node(clause_node(rec, j));
+        }
+        j += 1;
+    }
+    Found::Nothing
+}
+
+// The node that an if's record takes for a number: the second where it is not zero, else the third.
+pub(crate) fn branch(rec: &[u8], z: i32) -> u16
+    ensures { λ r. ⌜ r ≡ cond (isZero z) (field (now (rec .entry)) 2) (field (now (rec .entry)) 1) ⌝ }
+{
+    if z == 0 { field(rec, 2) } else { field(rec, 1) }
+}
