@@ -1,13 +1,12 @@
 -- Laws of a run's answer: its refusals in their order, and the answer of the rule.
 use mathlib.Core.Path.{_≡_, refl, sym, ap, _∙_}
-use Prim.Native.Nat.{ℕ, _+_, _*_, _-_, _≤_, _<_}
+use Prim.Native.Nat.{ℕ, _*_, _-_, _≤_, _<_}
 use mathlib.Core.List.{List}
-use mathlib.Core.Bool.{Bool, true, false, not, _&&_, and-eq-true-iff}
-use native.Mathlib.Omega.{arith}
-use lib.IntN.{ℤ, pos}
+use mathlib.Core.Bool.{Bool, true, false, _&&_, and-eq-true-iff}
+use lib.IntN.{ℤ}
 use lib.ListN.{length}
-use lib.Dec.{leb, eqb}
-use borrow.Author.Tests.{le-leb, lt-leb, leb-true, eq-eqb, ne-eqb, not-true, not-false}
+use lib.Dec.{leb}
+use borrow.Author.Tests.{le-leb, lt-leb, leb-true, eq-eqb, ne-eqb}
 use mir.Syntax.{w32}
 use mir.Val.{toZ, ofZ, SFits}
 use mir.ValLaws.{toZ-ofZ}
@@ -15,7 +14,6 @@ use Rattle.definitions.specs.Records.{field}
 use Rattle.definitions.specs.Layouts.{readings, nodes, functions, bodyOf, nodeRecord}
 use Rattle.definitions.specs.Shape.{within}
 use Rattle.definitions.specs.Verdicts.{_andThen_, require}
-use Rattle.definitions.specs.Checks.{translationVerdict}
 use Rattle.definitions.specs.Outcomes.{numberOutcome, constructorOutcome, endOutcome}
 use Rattle.definitions.specs.TranslationNodes.{tagOf}
 use Rattle.definitions.specs.Rule as Rule
@@ -33,7 +31,7 @@ use Rattle.format.specs.Index.{ReadTranslation}
 use Rattle.cells.specs.declared.answer.Outcome.{Outcome}
 use Rattle.cells.specs.declared.answer.Outcome.the-variants as answers
 use Rattle.cells.specs.declared.answer.Answer.{Answer}
-use Rattle.cells.specs.Answers.{outcomeOf, answerOf}
+use Rattle.cells.specs.Answers.{answerOf}
 use Rattle.cells.specs.Answers as Answers
 use Rattle.run.specs.declared.state.Value.{Value}
 use Rattle.run.specs.declared.state.Value.the-variants.{Number, Constructor}

@@ -1,5 +1,5 @@
 -- No visit of an accepted translation raises the steps left, and a constructor that it ends with is a node.
-use mathlib.Core.Path.{_≡_, refl, sym, ap, _∙_}
+use mathlib.Core.Path.{_≡_, refl, _∙_}
 use Prim.Native.Nat.{ℕ, zero, suc, _≤_, _<_}
 use mathlib.Core.List.{List}
 use mathlib.Core.Option.{Option, none, some}
@@ -16,7 +16,7 @@ use Rattle.definitions.specs.Layouts.{nodes, items, functions, bodyOf, nodeReco
 use Rattle.definitions.specs.Checks.{translationVerdict}
 use Rattle.definitions.specs.Listing.{labelAt, previousAt}
 use Rattle.definitions.specs.TranslationNodes.{TranslationNode, number, reading, formal, select, operator, conditional, call, tuple, caseOf, translationNodeOf, actual, tagOf, tupleFields}
-use Rattle.definitions.specs.Rule.{Value, integer, constructor, Ending, value, ended, State, Reached, Visit, reach, withStep, numberDue, constructorDue, nodeDue, resultOf, selected, evaluated, visited}
+use Rattle.definitions.specs.Rule.{integer, constructor, Ending, value, ended, State, Reached, Visit, reach, withStep, numberDue, constructorDue, nodeDue, resultOf, selected, evaluated, visited}
 use Rattle.definitions.specs.declared.Layout.the-variants.{Translation}
 use Rattle.definitions.specs.declared.Verdict.the-variants.{Accepted}
 use Rattle.definitions.specs.Records.{field}

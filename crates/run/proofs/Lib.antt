@@ -6,6 +6,9 @@ pub mod LookUps
 pub mod Outcomes
 pub mod Falls
 pub mod Endings
+pub mod NodeKinds
 pub mod Steps
+pub mod NumberSteps
+pub mod ConstructorSteps
 pub mod Nodes
 pub mod Answering

@@ -1,28 +1,27 @@
 -- Laws of what a visit looks up.
 use mathlib.Core.Path.{_≡_, refl, sym, ap, _∙_}
-use Prim.Native.Nat.{ℕ, zero, suc, pred, _+_, _-_, _*_, _/_, _≤_, _<_}
+use Prim.Native.Nat.{ℕ, zero, suc, _+_, _-_, _*_, _/_, _≤_, _<_}
 use mathlib.Core.List.{List, [], _∷_, _++_}
 use mathlib.Core.Option.{none, some, Option·none-ne-some, Option·some-ne-none}
 use mathlib.Core.Bool.{Bool, true, false, cond}
 use native.Mathlib.Omega.{arith}
-use native.Mathlib.Nat.{not-suc-le-zero, le-of-suc-le-suc}
 use lib.IntN.{ℤ, pos}
 use native.Mathlib.Numerals.{add-one}
 use lib.ListN.{length, getD, getElem?, List·getD-eq-default}
 use lib.Dec.{eqb}
 use borrow.Author.Tests.{eq-eqb, ne-eqb}
-use Rattle.definitions.specs.Records.{recordAt, recordOf, field, fieldCount}
+use Rattle.definitions.specs.Records.{recordAt, field, fieldCount}
 use Rattle.definitions.specs.Lists.{listed}
 use Rattle.definitions.specs.Operators.{isZero}
-use Rattle.definitions.specs.Layouts.{items, functions, nodes, firstNode, due, nodeRecord, itemRecord, runEnd, bodyOf}
+use Rattle.definitions.specs.Layouts.{items, functions, nodes, firstNode, due, nodeRecord, itemRecord, bodyOf}
 use Rattle.definitions.specs.References.{clauses, clauseConstructor}
 use Rattle.definitions.specs.NodeFields.{Clause, fieldsFrom, clauseList, chosen}
 use Rattle.definitions.specs.declared.Layout.the-variants.{Translation}
 use Rattle.laws.proofs.Records as Records
 use Rattle.laws.proofs.Lists.{listed-length, below-suc}
 use Rattle.accepted.proofs.Elements.{listed-element, element-past}
-use Rattle.accepted.proofs.Head.{functions-limit, nodes-limit}
-use Rattle.accepted.proofs.Owners.{body-before-end, end-within}
+use Rattle.accepted.proofs.Head.{functions-limit}
+use Rattle.accepted.proofs.Owners.{body-before-end}
 use Rattle.accepted.proofs.Checks.{translation-shape}
 use Rattle.format.specs.Index.{Indexed, startIn}
 use Rattle.format.proofs.Indices.{indexed-record}

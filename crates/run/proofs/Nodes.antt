@@ -1,9 +1,9 @@
 -- What a visit goes on to is there: the nodes, formals and functions that a record names; and the steps left fall.
-use mathlib.Core.Path.{_≡_, refl, sym, _∙_}
+use mathlib.Core.Path.{_≡_}
 use Prim.Native.Nat.{ℕ, _+_, _*_, _-_, _≤_, _<_}
 use mathlib.Core.List.{List}
 use mathlib.Core.Option.{some}
-use mathlib.Core.Bool.{Bool, true, false, cond}
+use mathlib.Core.Bool.{cond}
 use native.Mathlib.Omega.{arith}
 use lib.IntN.{ℤ}
 use lib.ListN.{getElem?}
@@ -11,8 +11,7 @@ use Rattle.definitions.specs.Records.{field}
 use Rattle.definitions.specs.Operators.{isZero}
 use Rattle.definitions.specs.NodeFields.{fieldsFrom, clauseList, chosen}
 use Rattle.definitions.specs.Layouts.{nodes, items, functions, bodyOf, nodeRecord, itemRecord}
-use Rattle.definitions.specs.Listing.{labelAt}
-use Rattle.definitions.specs.TranslationNodes.{actual, tagOf, tupleFields, conditional, caseOf, call}
+use Rattle.definitions.specs.TranslationNodes.{actual, tupleFields}
 use Rattle.definitions.specs.Rule.{reach}
 use Rattle.definitions.specs.declared.Layout.the-variants.{Translation}
 use Rattle.accepted.specs.Mention as Mention
@@ -27,8 +26,8 @@ use Rattle.run.specs.declared.look_up.Found.{Found}
 use Rattle.run.specs.declared.look_up.Found.the-variants.{Node}
 use Rattle.run.specs.States.{foundOf, endingOf, valueOf, stateOf, reachedOf, Ready, NodeIs, visits}
 use Rattle.run.proofs.Endings.{found-some}
-use Rattle.run.proofs.Falls.{TupleAt, Inside, Good, visit-good, member-below, clause-below, branch-below}
-use Rattle.run.proofs.Steps.{is-formal, is-select, is-operator, is-conditional, is-call, is-case}
+use Rattle.run.proofs.Falls.{TupleAt, Good, visit-good, member-below, clause-below, branch-below}
+use Rattle.run.proofs.NodeKinds.{is-formal, is-select, is-operator, is-conditional, is-call, is-case}
 
 -- the measures: three for each step left, one more once the kind is told, two more before it
 pub falls-counted : (left t : ℕ) → (left ≡ 0 → ⊥) → 3 * left ≡ t → 3 * (left - 1) + 2 < t

@@ -1,8 +1,7 @@
 -- Laws of the states that visits end in.
-use mathlib.Core.Path.{_≡_, refl, sym, ap, _∙_}
+use mathlib.Core.Path.{_≡_, refl, ap, _∙_}
 use Prim.Native.Nat.{ℕ, _<_}
 use mathlib.Core.List.{List}
-use Rattle.definitions.specs.Operators as Operators
 use native.Mathlib.Omega.{arith}
 use lib.IntN.{ℤ, pos}
 use mir.Syntax.{w32}
@@ -14,7 +13,7 @@ use Rattle.operators.specs.declared.Computed.{Computed}
 use Rattle.operators.specs.declared.Computed.the-variants as computed
 use Rattle.operators.specs.Results.{computedOf}
 use Rattle.run.specs.declared.state.State.{State}
-use Rattle.run.specs.States.{endingOf, givenOf, stateOf, reachedOf, Leaves}
+use Rattle.run.specs.States.{givenOf, stateOf, reachedOf, Leaves}
 
 -- a state by its parts
 pub leaves-reached : (r : State) (e : Ending ℕ) (left made : ℕ) (bytes : List ℕ) → Leaves r e left made

@@ -4,14 +4,6 @@ use borrow.Author.Tests.{not-true, not-false}
 use borrow.Author.Needs.{needs}
 use Rattle.join.proofs.run_accepted.Statement.{statement}
 use Rattle.join.proofs.run_accepted.Tie as tie
-use Rattle.join.proofs.run_accepted.Reads as reads
-use Rattle.join.proofs.run_accepted.Lts as lts
-use Rattle.cells.proofs.answer.refused.Reads as refused-reads
-use Rattle.format.proofs.layout.readings.Reads as readings-reads
-use Rattle.format.proofs.records.wide.Reads as wide-reads
-use Rattle.run.proofs.allowances.allowed.Reads as allowed-reads
-use Rattle.run.proofs.run.Reads as run-reads
-use Rattle.translator.proofs.translate.Reads as translate-reads
 
 -- src/lib.rt:65:9
 refused-requires : tie.Need-refused-requires

@@ -5,11 +5,6 @@ use lib.ListN.{length-replicate}
 use borrow.Author.Needs.{needs}
 use Rattle.join.proofs.translate_and_run.Statement.{statement}
 use Rattle.join.proofs.translate_and_run.Tie as tie
-use Rattle.join.proofs.translate_and_run.Reads as reads
-use Rattle.join.proofs.translate_and_run.Lts as lts
-use Rattle.cells.proofs.answer.refused.Reads as refused-reads
-use Rattle.join.proofs.run_accepted.Reads as run-accepted-reads
-use Rattle.translator.proofs.translate.Reads as translate-reads
 
 -- src/lib.rt:41:39
 slice-aggregate-translate : tie.Need-slice-aggregate-translate

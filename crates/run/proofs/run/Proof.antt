@@ -4,11 +4,6 @@ use Rattle.run.proofs.Answering.{file-refused}
 use borrow.Author.Needs.{needs}
 use Rattle.run.proofs.run.Statement.{statement}
 use Rattle.run.proofs.run.Tie as tie
-use Rattle.run.proofs.run.Reads as reads
-use Rattle.run.proofs.run.Lts as lts
-use Rattle.format.proofs.translation.read_translation.Reads as read-translation-reads
-use Rattle.cells.proofs.answer.refused.Reads as refused-reads
-use Rattle.run.proofs.run_accepted.Reads as run-accepted-reads
 
 -- src/lib.rt:35:9
 read-translation-requires : tie.Need-read-translation-requires

@@ -1,20 +1,10 @@
 -- `run::run_accepted` meets its contract: the refusals 9 and 10, and else the rule's answer.
-use mir.Val.{Fits}
 use native.Mathlib.Omega.{arith}
-use Rattle.run.proofs.Answering.{Fitting, fitting, result-there, first-below, run-ends, readings-refused, allowance-refused, run-answered}
+use Rattle.run.proofs.Answering.{fitting, result-there, first-below, run-ends, readings-refused, allowance-refused, run-answered}
 use borrow.Author.Tests.{not-true, not-false}
 use borrow.Author.Needs.{needs}
 use Rattle.run.proofs.run_accepted.Statement.{statement}
 use Rattle.run.proofs.run_accepted.Tie as tie
-use Rattle.run.proofs.run_accepted.Reads as reads
-use Rattle.run.proofs.run_accepted.Lts as lts
-use Rattle.format.proofs.layout.readings.Reads as readings-reads
-use Rattle.format.proofs.records.wide.Reads as wide-reads
-use Rattle.run.proofs.allowances.allowed.Reads as allowed-reads
-use Rattle.run.proofs.answers.answered.Reads as answered-reads
-use Rattle.cells.proofs.answer.refused.Reads as refused-reads
-use Rattle.run.proofs.look_up.body.Reads as body-reads
-use Rattle.run.proofs.visit.visit.Reads as visit-reads
 
 -- src/lib.rt:68:31
 readings-requires : tie.Need-readings-requires

@@ -3,9 +3,6 @@ use Rattle.run.proofs.Answering.{no-nesting, much-nesting, many-cells, 
 use borrow.Author.Needs.{needs}
 use Rattle.run.proofs.allowances.allowed.Statement.{statement}
 use Rattle.run.proofs.allowances.allowed.Tie as tie
-use Rattle.run.proofs.allowances.allowed.Reads as reads
-use Rattle.run.proofs.allowances.allowed.Lts as lts
-use Rattle.format.proofs.records.wide32.Reads as wide32-reads
 
 -- src/answers.rt:28:9
 returns : tie.Need-returns

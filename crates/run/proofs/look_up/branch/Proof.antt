@@ -5,9 +5,6 @@ use Rattle.run.proofs.LookUps.{branch-zero, branch-other}
 use borrow.Author.Needs.{needs}
 use Rattle.run.proofs.look_up.branch.Statement.{statement}
 use Rattle.run.proofs.look_up.branch.Tie as tie
-use Rattle.run.proofs.look_up.branch.Reads as reads
-use Rattle.run.proofs.look_up.branch.Lts as lts
-use Rattle.format.proofs.records.field.Reads as field-reads
 
 -- src/look_up.rt:118:17
 field-requires : tie.Need-field-requires

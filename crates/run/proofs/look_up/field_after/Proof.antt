@@ -4,11 +4,6 @@ use Rattle.run.specs.States.{foundOf}
 use borrow.Author.Needs.{needs}
 use Rattle.run.proofs.look_up.field_after.Statement.{statement}
 use Rattle.run.proofs.look_up.field_after.Tie as tie
-use Rattle.run.proofs.look_up.field_after.Reads as reads
-use Rattle.run.proofs.look_up.field_after.Lts as lts
-use Rattle.format.proofs.records.field.Reads as field-reads
-use Rattle.format.proofs.records.field_count.Reads as field-count-reads
-use Rattle.format.proofs.records.wide.Reads as wide-reads
 
 -- src/look_up.rt:74:18
 wide-requires : tie.Need-wide-requires

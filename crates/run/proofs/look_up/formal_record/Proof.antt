@@ -3,11 +3,6 @@ use Rattle.run.proofs.LookUps.{formal-reached}
 use borrow.Author.Needs.{needs}
 use Rattle.run.proofs.look_up.formal_record.Statement.{statement}
 use Rattle.run.proofs.look_up.formal_record.Tie as tie
-use Rattle.run.proofs.look_up.formal_record.Reads as reads
-use Rattle.run.proofs.look_up.formal_record.Lts as lts
-use Rattle.format.proofs.layout.first_item.Reads as first-item-reads
-use Rattle.format.proofs.records.indexed.Reads as indexed-reads
-use Rattle.format.proofs.records.wide.Reads as wide-reads
 
 -- src/look_up.rt:42:24
 first-item-requires : tie.Need-first-item-requires

@@ -1,11 +1,8 @@
 -- `run::state::constructor` meets its contract.
 use Rattle.run.specs.States.{endingOf, valueOf}
 use mathlib.Core.Path.{refl}
-use borrow.Author.Needs.{needs}
 use Rattle.run.proofs.state.constructor.Statement.{statement}
 use Rattle.run.proofs.state.constructor.Tie as tie
-use Rattle.run.proofs.state.constructor.Reads as reads
-use Rattle.run.proofs.state.constructor.Lts as lts
 
 -- src/state.rt:56:1
 returns : tie.Need-returns

@@ -1,11 +1,8 @@
 -- `run::state::ended` meets its contract.
 use Rattle.run.specs.States.{endingOf, valueOf}
 use mathlib.Core.Path.{refl}
-use borrow.Author.Needs.{needs}
 use Rattle.run.proofs.state.ended.Statement.{statement}
 use Rattle.run.proofs.state.ended.Tie as tie
-use Rattle.run.proofs.state.ended.Reads as reads
-use Rattle.run.proofs.state.ended.Lts as lts
 
 -- src/state.rt:27:1
 returns : tie.Need-returns

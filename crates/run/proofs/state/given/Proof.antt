@@ -3,10 +3,6 @@ use Rattle.run.proofs.Outcomes.{leaves-as, given-number, given-fault}
 use borrow.Author.Needs.{needs}
 use Rattle.run.proofs.state.given.Statement.{statement}
 use Rattle.run.proofs.state.given.Tie as tie
-use Rattle.run.proofs.state.given.Reads as reads
-use Rattle.run.proofs.state.given.Lts as lts
-use Rattle.run.proofs.state.ended.Reads as ended-reads
-use Rattle.run.proofs.state.number.Reads as number-reads
 
 -- src/state.rt:71:26
 enum-known-c : tie.Need-enum-known-c

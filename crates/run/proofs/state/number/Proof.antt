@@ -3,11 +3,8 @@ use Rattle.run.specs.States.{endingOf, valueOf}
 use mir.ValLaws.{toZ-ofZ}
 use mir.Syntax.{w32}
 use mathlib.Core.Path.{refl}
-use borrow.Author.Needs.{needs}
 use Rattle.run.proofs.state.number.Statement.{statement}
 use Rattle.run.proofs.state.number.Tie as tie
-use Rattle.run.proofs.state.number.Reads as reads
-use Rattle.run.proofs.state.number.Lts as lts
 
 -- src/state.rt:38:1
 returns : tie.Need-returns

@@ -4,9 +4,6 @@ use Rattle.run.proofs.Outcomes.{tag-number}
 use borrow.Author.Needs.{needs}
 use Rattle.run.proofs.state.tag.Statement.{statement}
 use Rattle.run.proofs.state.tag.Tie as tie
-use Rattle.run.proofs.state.tag.Reads as reads
-use Rattle.run.proofs.state.tag.Lts as lts
-use Rattle.run.proofs.state.number.Reads as number-reads
 
 -- src/state.rt:52:12
 cast-number : tie.Need-cast-number

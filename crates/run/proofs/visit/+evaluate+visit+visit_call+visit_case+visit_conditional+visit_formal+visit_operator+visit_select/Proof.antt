@@ -1,11 +1,13 @@
+-- The cycle of visits meets its contracts. The measure is three for each step left; one more where the kind is told, two more before.
 use borrow.Author.Needs.{needs}
 use mathlib.Core.Path.{_∙_}
-use Rattle.run.proofs.Steps.{node-last}
-use mathlib.Core.Path.{refl, sym}
 use mir.ValLaws.{toZ-ofZ}
 use mir.Syntax.{w32}
 use Rattle.run.proofs.Nodes.{falls-counted, falls-told, falls-on, falls-same, select-child, left-child, right-child, condition-child, branch-child, scrutinee-child, formal-named, function-named, body-child, actual-child, clause-child, reached-falls, reached-tuple, member-child}
-use Rattle.run.proofs.Steps.{node-is, visit-no-step, visit-no-nesting, visit-on, number-step, reading-step, tuple-step, formal-empty, formal-missing, formal-on, call-full, call-on, conditional-ended, conditional-constructor, conditional-on, left-ended, left-constructor, right-ended, right-constructor, operator-on, select-ended, select-number, select-tag, select-missing, select-on, case-ended, case-number, case-missing, case-on}
+use Rattle.run.proofs.NodeKinds.{node-is, node-last}
+use Rattle.run.proofs.Steps.{visit-no-step, visit-no-nesting, visit-on, number-step, reading-step, tuple-step, formal-empty, formal-missing, formal-on, call-full, call-on}
+use Rattle.run.proofs.NumberSteps.{conditional-ended, conditional-constructor, conditional-on, left-ended, left-constructor, right-ended, right-constructor, operator-on}
+use Rattle.run.proofs.ConstructorSteps.{select-ended, select-number, select-tag, select-missing, select-on, case-ended, case-number, case-missing, case-on}
 use Prim.Native.Nat.{ℕ, _+_, _*_, _<_}
 use borrow.Fn.Kinds.{In}
 use borrow.Fn.PlainCycle.{Measures, is, falls, and}
@@ -201,35 +203,11 @@ abbrev visit-select-claims : ℕ → visit-select-lts.Claims
 visit-select-claims t =
     (field-reads.Asked, field-reads.Learnt, visit-below t, visit.Post, ended-reads.Asked, ended-reads.Learnt, node-record-reads.Asked, node-record-reads.Learnt, tag-reads.Asked, tag-reads.Learnt, field-after-reads.Asked, field-after-reads.Learnt)
 
-evaluate-node-record-requires : (t : ℕ) → evaluate-lts.Need-node-record-requires (evaluate-claims t) (evaluate-at t) evaluate.Post
-evaluate-node-record-requires t c κs = search needs
-
-evaluate-kind-requires : (t : ℕ) → evaluate-lts.Need-kind-requires (evaluate-claims t) (evaluate-at t) evaluate.Post
-evaluate-kind-requires t c κs = search needs
-
-evaluate-signed-requires : (t : ℕ) → evaluate-lts.Need-signed-requires (evaluate-claims t) (evaluate-at t) evaluate.Post
-evaluate-signed-requires t c κs = search needs
-
-evaluate-number-requires : (t : ℕ) → evaluate-lts.Need-number-requires (evaluate-claims t) (evaluate-at t) evaluate.Post
-evaluate-number-requires t c κs = search needs
-
 evaluate-returns : (t : ℕ) → evaluate-lts.Need-returns (evaluate-claims t) (evaluate-at t) evaluate.Post
 evaluate-returns t c = number-step _ _ _ _ _ _ _ _ _ _ _ _ _ (node-is _ _ _ _ _ (c .before .before .before .before .before .before .before .pre .1 .1) (c .before .before .before .before .node-record .ensures) (c .before .before .before .kind .ensures) (c .before .before .if1 .taken)) (toZ-ofZ w32 _ (record { sfits = search needs })) (c .before .signed .ensures) (c .number .ensures)
 
-evaluate-field-requires : (t : ℕ) → evaluate-lts.Need-field-requires (evaluate-claims t) (evaluate-at t) evaluate.Post
-evaluate-field-requires t c κs = search needs
-
-evaluate-reading-requires : (t : ℕ) → evaluate-lts.Need-reading-requires (evaluate-claims t) (evaluate-at t) evaluate.Post
-evaluate-reading-requires t c κs = search needs
-
-evaluate-number-requires-2 : (t : ℕ) → evaluate-lts.Need-number-requires-2 (evaluate-claims t) (evaluate-at t) evaluate.Post
-evaluate-number-requires-2 t c κs = search needs
-
 evaluate-returns-2 : (t : ℕ) → evaluate-lts.Need-returns-2 (evaluate-claims t) (evaluate-at t) evaluate.Post
 evaluate-returns-2 t c = reading-step _ _ _ _ _ _ _ _ _ _ _ _ _ _ (node-is _ _ _ _ _ (c .before .before .before .before .before .before .before .before .before .pre .1 .1) (c .before .before .before .before .before .before .node-record .ensures) (c .before .before .before .before .before .kind .ensures) (c .before .before .before .if2 .taken)) (c .before .before .field .ensures) (toZ-ofZ w32 _ (record { sfits = search needs })) (c .before .reading .ensures) (c .number2 .ensures)
-
-evaluate-constructor-requires : (t : ℕ) → evaluate-lts.Need-constructor-requires (evaluate-claims t) (evaluate-at t) evaluate.Post
-evaluate-constructor-requires t c κs = search needs
 
 evaluate-returns-3 : (t : ℕ) → evaluate-lts.Need-returns-3 (evaluate-claims t) (evaluate-at t) evaluate.Post
 evaluate-returns-3 t c = tuple-step _ _ _ _ _ _ _ _ _ _ _ (node-is _ _ _ _ _ (c .before .before .before .before .before .before .before .before .pre .1 .1) (c .before .before .before .before .before .node-record .ensures) (c .before .before .before .before .kind .ensures) (c .before .if3 .taken)) (c .constructor .ensures)
@@ -237,17 +215,11 @@ evaluate-returns-3 t c = tuple-step _ _ _ _ _ _ _ _ _ _ _ (node-is _ _ _ _ _ (c 
 evaluate-visit-formal-requires : (t : ℕ) → evaluate-lts.Need-visit-formal-requires (evaluate-claims t) (evaluate-at t) evaluate.Post
 evaluate-visit-formal-requires t c κs = (falls-told _ _ (c .before .before .before .before .before .before .before .before .before .pre .0), (c .before .before .before .before .before .before .before .before .before .pre .1 .0, node-is _ _ _ _ _ (c .before .before .before .before .before .before .before .before .before .pre .1 .1) (c .before .before .before .before .before .before .node-record .ensures) (c .before .before .before .before .before .kind .ensures) (c .before .if4 .taken)))
 
-evaluate-same-length : (t : ℕ) → evaluate-lts.Need-same-length (evaluate-claims t) (evaluate-at t) evaluate.Post
-evaluate-same-length t c = search needs
-
 evaluate-returns-4 : (t : ℕ) → evaluate-lts.Need-returns-4 (evaluate-claims t) (evaluate-at t) evaluate.Post
 evaluate-returns-4 t c = c .before .before .visit-formal .ensures
 
 evaluate-visit-select-requires : (t : ℕ) → evaluate-lts.Need-visit-select-requires (evaluate-claims t) (evaluate-at t) evaluate.Post
 evaluate-visit-select-requires t c κs = (falls-told _ _ (c .before .before .before .before .before .before .before .before .before .before .pre .0), (c .before .before .before .before .before .before .before .before .before .before .pre .1 .0, node-is _ _ _ _ _ (c .before .before .before .before .before .before .before .before .before .before .pre .1 .1) (c .before .before .before .before .before .before .before .node-record .ensures) (c .before .before .before .before .before .before .kind .ensures) (c .before .if5 .taken)))
-
-evaluate-same-length-2 : (t : ℕ) → evaluate-lts.Need-same-length-2 (evaluate-claims t) (evaluate-at t) evaluate.Post
-evaluate-same-length-2 t c = search needs
 
 evaluate-returns-5 : (t : ℕ) → evaluate-lts.Need-returns-5 (evaluate-claims t) (evaluate-at t) evaluate.Post
 evaluate-returns-5 t c = c .before .before .visit-select .ensures
@@ -255,17 +227,11 @@ evaluate-returns-5 t c = c .before .before .visit-select .ensures
 evaluate-visit-operator-requires : (t : ℕ) → evaluate-lts.Need-visit-operator-requires (evaluate-claims t) (evaluate-at t) evaluate.Post
 evaluate-visit-operator-requires t c κs = (falls-told _ _ (c .before .before .before .before .before .before .before .before .before .before .before .pre .0), (c .before .before .before .before .before .before .before .before .before .before .before .pre .1 .0, node-is _ _ _ _ _ (c .before .before .before .before .before .before .before .before .before .before .before .pre .1 .1) (c .before .before .before .before .before .before .before .before .node-record .ensures) (c .before .before .before .before .before .before .before .kind .ensures) (c .before .if6 .taken)))
 
-evaluate-same-length-3 : (t : ℕ) → evaluate-lts.Need-same-length-3 (evaluate-claims t) (evaluate-at t) evaluate.Post
-evaluate-same-length-3 t c = search needs
-
 evaluate-returns-6 : (t : ℕ) → evaluate-lts.Need-returns-6 (evaluate-claims t) (evaluate-at t) evaluate.Post
 evaluate-returns-6 t c = c .before .before .visit-operator .ensures
 
 evaluate-visit-conditional-requires : (t : ℕ) → evaluate-lts.Need-visit-conditional-requires (evaluate-claims t) (evaluate-at t) evaluate.Post
 evaluate-visit-conditional-requires t c κs = (falls-told _ _ (c .before .before .before .before .before .before .before .before .before .before .before .before .pre .0), (c .before .before .before .before .before .before .before .before .before .before .before .before .pre .1 .0, node-is _ _ _ _ _ (c .before .before .before .before .before .before .before .before .before .before .before .before .pre .1 .1) (c .before .before .before .before .before .before .before .before .before .node-record .ensures) (c .before .before .before .before .before .before .before .before .kind .ensures) (c .before .if7 .taken)))
-
-evaluate-same-length-4 : (t : ℕ) → evaluate-lts.Need-same-length-4 (evaluate-claims t) (evaluate-at t) evaluate.Post
-evaluate-same-length-4 t c = search needs
 
 evaluate-returns-7 : (t : ℕ) → evaluate-lts.Need-returns-7 (evaluate-claims t) (evaluate-at t) evaluate.Post
 evaluate-returns-7 t c = c .before .before .visit-conditional .ensures
@@ -273,68 +239,29 @@ evaluate-returns-7 t c = c .before .before .visit-conditional .ensures
 evaluate-visit-call-requires : (t : ℕ) → evaluate-lts.Need-visit-call-requires (evaluate-claims t) (evaluate-at t) evaluate.Post
 evaluate-visit-call-requires t c κs = (falls-told _ _ (c .before .before .before .before .before .before .before .before .before .before .before .before .before .pre .0), (c .before .before .before .before .before .before .before .before .before .before .before .before .before .pre .1 .0, node-is _ _ _ _ _ (c .before .before .before .before .before .before .before .before .before .before .before .before .before .pre .1 .1) (c .before .before .before .before .before .before .before .before .before .before .node-record .ensures) (c .before .before .before .before .before .before .before .before .before .kind .ensures) (c .before .if8 .taken)))
 
-evaluate-same-length-5 : (t : ℕ) → evaluate-lts.Need-same-length-5 (evaluate-claims t) (evaluate-at t) evaluate.Post
-evaluate-same-length-5 t c = search needs
-
 evaluate-returns-8 : (t : ℕ) → evaluate-lts.Need-returns-8 (evaluate-claims t) (evaluate-at t) evaluate.Post
 evaluate-returns-8 t c = c .before .before .visit-call .ensures
 
 evaluate-visit-case-requires : (t : ℕ) → evaluate-lts.Need-visit-case-requires (evaluate-claims t) (evaluate-at t) evaluate.Post
 evaluate-visit-case-requires t c κs = (falls-told _ _ (c .before .before .before .before .before .before .before .before .before .before .before .before .before .pre .0), (c .before .before .before .before .before .before .before .before .before .before .before .before .before .pre .1 .0, node-last _ _ _ _ _ _ (c .before .before .before .before .before .before .before .before .before .before .before .before .before .pre .1 .0) (c .before .before .before .before .before .before .before .before .before .before .before .before .before .pre .1 .1) (c .before .before .before .before .before .before .before .before .before .before .node-record .ensures) (c .before .before .before .before .before .before .before .before .before .kind .ensures) (c .before .before .before .before .before .before .before .before .if1 .left) (c .before .before .before .before .before .before .before .if2 .left) (c .before .before .before .before .before .if4 .left) (c .before .before .before .before .if5 .left) (c .before .before .before .if6 .left) (c .before .before .if7 .left) (c .before .if8 .left) (c .before .before .before .before .before .before .if3 .left)))
 
-evaluate-same-length-6 : (t : ℕ) → evaluate-lts.Need-same-length-6 (evaluate-claims t) (evaluate-at t) evaluate.Post
-evaluate-same-length-6 t c = search needs
-
 evaluate-returns-9 : (t : ℕ) → evaluate-lts.Need-returns-9 (evaluate-claims t) (evaluate-at t) evaluate.Post
 evaluate-returns-9 t c = c .before .before .visit-case .ensures
-
-visit-ended-requires : (t : ℕ) → visit-lts.Need-ended-requires (visit-claims t) (visit-at t) visit.Post
-visit-ended-requires t c κs = search needs
 
 visit-returns : (t : ℕ) → visit-lts.Need-returns (visit-claims t) (visit-at t) visit.Post
 visit-returns t c = visit-no-step _ _ _ _ _ _ _ _ _ _ (c .before .if1 .taken) (c .ended .ensures)
 
-visit-ended-requires-2 : (t : ℕ) → visit-lts.Need-ended-requires-2 (visit-claims t) (visit-at t) visit.Post
-visit-ended-requires-2 t c κs = search needs
-
 visit-returns-2 : (t : ℕ) → visit-lts.Need-returns-2 (visit-claims t) (visit-at t) visit.Post
 visit-returns-2 t c = visit-no-nesting _ _ _ _ _ _ _ _ _ _ (c .before .before .if1 .left) (c .before .if2 .taken) (c .ended2 .ensures)
-
-visit-sub-inner : (t : ℕ) → visit-lts.Need-sub-inner (visit-claims t) (visit-at t) visit.Post
-visit-sub-inner t c = search needs
-
-visit-sub-rest : (t : ℕ) → visit-lts.Need-sub-rest (visit-claims t) (visit-at t) visit.Post
-visit-sub-rest t c = search needs
 
 visit-evaluate-requires : (t : ℕ) → visit-lts.Need-evaluate-requires (visit-claims t) (visit-at t) visit.Post
 visit-evaluate-requires t c κs = (falls-counted _ _ (c .before .before .if1 .left) (c .before .before .before .before .before .pre .0), c .before .before .before .before .before .pre .1)
 
-visit-same-length : (t : ℕ) → visit-lts.Need-same-length (visit-claims t) (visit-at t) visit.Post
-visit-same-length t c = search needs
-
 visit-returns-3 : (t : ℕ) → visit-lts.Need-returns-3 (visit-claims t) (visit-at t) visit.Post
 visit-returns-3 t c = visit-on _ _ _ _ _ _ _ _ _ _ _ (c .before .before .before .before .before .if1 .left) (c .before .before .before .before .if2 .left) (c .before .before .evaluate .ensures)
 
-visit-call-ended-requires : (t : ℕ) → visit-call-lts.Need-ended-requires (visit-call-claims t) (visit-call-at t) visit-call.Post
-visit-call-ended-requires t c κs = search needs
-
 visit-call-returns : (t : ℕ) → visit-call-lts.Need-returns (visit-call-claims t) (visit-call-at t) visit-call.Post
 visit-call-returns t c = call-full _ _ _ _ _ _ _ _ _ _ (c .before .before .before .before .before .pre .1 .1) _ (c .before .if1 .taken) (c .ended .ensures)
-
-visit-call-wide-requires : (t : ℕ) → visit-call-lts.Need-wide-requires (visit-call-claims t) (visit-call-at t) visit-call.Post
-visit-call-wide-requires t c κs = search needs
-
-visit-call-field-requires : (t : ℕ) → visit-call-lts.Need-field-requires (visit-call-claims t) (visit-call-at t) visit-call.Post
-visit-call-field-requires t c κs = search needs
-
-visit-call-add-cell-requires : (t : ℕ) → visit-call-lts.Need-add-cell-requires (visit-call-claims t) (visit-call-at t) visit-call.Post
-visit-call-add-cell-requires t c κs = search needs
-
-visit-call-add-next : (t : ℕ) → visit-call-lts.Need-add-next (visit-call-claims t) (visit-call-at t) visit-call.Post
-visit-call-add-next t c = search needs
-
-visit-call-field-requires-2 : (t : ℕ) → visit-call-lts.Need-field-requires-2 (visit-call-claims t) (visit-call-at t) visit-call.Post
-visit-call-field-requires-2 t c κs = search needs
 
 visit-call-body-requires : (t : ℕ) → visit-call-lts.Need-body-requires (visit-call-claims t) (visit-call-at t) visit-call.Post
 visit-call-body-requires t c κs = (c .before .before .before .before .before .before .before .before .before .before .before .pre .1 .0, function-named _ _ _ _ _ (c .before .before .before .before .before .before .before .before .before .before .before .pre .1 .0) _ (c .before .before .before .before .before .before .before .before .before .before .before .pre .1 .1) (c .field2 .ensures))
@@ -342,41 +269,14 @@ visit-call-body-requires t c κs = (c .before .before .before .before .before .b
 visit-call-visit-requires : (t : ℕ) → visit-call-lts.Need-visit-requires (visit-call-claims t) (visit-call-at t) visit-call.Post
 visit-call-visit-requires t c κs = (falls-same _ _ (c .before .before .before .before .before .before .before .before .before .before .before .before .before .pre .0), (c .before .before .before .before .before .before .before .before .before .before .before .before .before .pre .1 .0, body-child _ _ _ _ _ (c .before .before .before .before .before .before .before .before .before .before .before .before .before .pre .1 .0) _ _ (c .before .before .before .before .before .before .before .before .before .before .before .before .before .pre .1 .1) (c .before .before .field2 .ensures) (c .before .body .ensures)))
 
-visit-call-same-length : (t : ℕ) → visit-call-lts.Need-same-length (visit-call-claims t) (visit-call-at t) visit-call.Post
-visit-call-same-length t c = search needs
-
 visit-call-returns-2 : (t : ℕ) → visit-call-lts.Need-returns-2 (visit-call-claims t) (visit-call-at t) visit-call.Post
 visit-call-returns-2 t c = call-on _ _ _ _ _ _ _ _ _ _ (c .before .before .before .before .before .before .before .before .before .before .before .before .before .before .before .before .pre .1 .1) _ _ _ _ _ _ _ (c .before .before .before .before .before .before .before .before .before .before .before .before .if1 .left) (c .before .before .before .before .before .before .before .before .before .before .wide .ensures .0) (c .before .before .before .before .before .before .before .before .before .field .ensures) (c .before .before .before .before .before .field2 .ensures) (c .before .before .before .before .before .before .before .before .add-cell .ensures) (c .before .before .before .before .body .ensures) (c .before .before .visit .ensures)
-
-visit-case-field-requires : (t : ℕ) → visit-case-lts.Need-field-requires (visit-case-claims t) (visit-case-at t) visit-case.Post
-visit-case-field-requires t c κs = search needs
 
 visit-case-visit-requires : (t : ℕ) → visit-case-lts.Need-visit-requires (visit-case-claims t) (visit-case-at t) visit-case.Post
 visit-case-visit-requires t c κs = (falls-same _ _ (c .before .before .before .before .before .pre .0), (c .before .before .before .before .before .pre .1 .0, scrutinee-child _ _ _ _ _ (c .before .before .before .before .before .pre .1 .0) _ (c .before .before .before .before .before .pre .1 .1) (c .before .field .ensures)))
 
-visit-case-enum-known-outcome : (t : ℕ) → visit-case-lts.Need-enum-known-outcome (visit-case-claims t) (visit-case-at t) visit-case.Post
-visit-case-enum-known-outcome t c = search needs
-
-visit-case-enum-told : (t : ℕ) → visit-case-lts.Need-enum-told (visit-case-claims t) (visit-case-at t) visit-case.Post
-visit-case-enum-told t c = search needs
-
-visit-case-same-length : (t : ℕ) → visit-case-lts.Need-same-length (visit-case-claims t) (visit-case-at t) visit-case.Post
-visit-case-same-length t c = search needs
-
 visit-case-returns : (t : ℕ) → visit-case-lts.Need-returns (visit-case-claims t) (visit-case-at t) visit-case.Post
 visit-case-returns t c = case-ended _ _ _ _ _ _ _ _ _ _ _ _ _ (c .before .before .before .before .visit .ensures) (c .before .before .before .before .before .before .before .before .before .before .pre .1 .1) (c .before .before .before .before .before .before .field .ensures) _ (c .enum-told .given .1)
-
-visit-case-enum-known-value : (t : ℕ) → visit-case-lts.Need-enum-known-value (visit-case-claims t) (visit-case-at t) visit-case.Post
-visit-case-enum-known-value t c = search needs
-
-visit-case-enum-told-2 : (t : ℕ) → visit-case-lts.Need-enum-told-2 (visit-case-claims t) (visit-case-at t) visit-case.Post
-visit-case-enum-told-2 t c = search needs
-
-visit-case-ended-requires : (t : ℕ) → visit-case-lts.Need-ended-requires (visit-case-claims t) (visit-case-at t) visit-case.Post
-visit-case-ended-requires t c κs = search needs
-
-visit-case-same-length-2 : (t : ℕ) → visit-case-lts.Need-same-length-2 (visit-case-claims t) (visit-case-at t) visit-case.Post
-visit-case-same-length-2 t c = search needs
 
 visit-case-returns-2 : (t : ℕ) → visit-case-lts.Need-returns-2 (visit-case-claims t) (visit-case-at t) visit-case.Post
 visit-case-returns-2 t c = case-number _ _ _ _ _ _ _ _ _ _ _ _ _ (c .before .before .before .before .before .before .before .before .visit .ensures) (c .before .before .before .before .before .before .before .before .before .before .before .before .before .before .pre .1 .1) (c .before .before .before .before .before .before .before .before .before .before .field .ensures) _ _ _ (c .before .before .before .before .outcome .given .1) (c .before .enum-told2 .given .1) (c .ended .ensures)
@@ -384,206 +284,62 @@ visit-case-returns-2 t c = case-number _ _ _ _ _ _ _ _ _ _ _ _ _ (c .before .bef
 visit-case-node-record-requires : (t : ℕ) → visit-case-lts.Need-node-record-requires (visit-case-claims t) (visit-case-at t) visit-case.Post
 visit-case-node-record-requires t c κs = (c .before .before .before .before .before .before .before .before .before .before .before .before .before .before .pre .1 .0 .index, reached-tuple _ _ _ (c .before .before .before .before .before .before .before .before .before .before .before .before .before .before .pre .1 .0) _ _ _ _ _ _ _ _ _ _ (scrutinee-child _ _ _ _ _ (c .before .before .before .before .before .before .before .before .before .before .before .before .before .before .pre .1 .0) _ (c .before .before .before .before .before .before .before .before .before .before .before .before .before .before .pre .1 .1) (c .before .before .before .before .before .before .before .before .before .before .field .ensures)) (c .before .before .before .before .before .before .before .before .visit .ensures) _ _ _ (c .before .before .before .before .outcome .given .1) (c .before .value .given .1) .below)
 
-visit-case-field-requires-2 : (t : ℕ) → visit-case-lts.Need-field-requires-2 (visit-case-claims t) (visit-case-at t) visit-case.Post
-visit-case-field-requires-2 t c κs = search needs
-
-visit-case-clause-requires : (t : ℕ) → visit-case-lts.Need-clause-requires (visit-case-claims t) (visit-case-at t) visit-case.Post
-visit-case-clause-requires t c κs = search needs
-
-visit-case-enum-known-found : (t : ℕ) → visit-case-lts.Need-enum-known-found (visit-case-claims t) (visit-case-at t) visit-case.Post
-visit-case-enum-known-found t c = search needs
-
-visit-case-enum-told-3 : (t : ℕ) → visit-case-lts.Need-enum-told-3 (visit-case-claims t) (visit-case-at t) visit-case.Post
-visit-case-enum-told-3 t c = search needs
-
-visit-case-ended-requires-2 : (t : ℕ) → visit-case-lts.Need-ended-requires-2 (visit-case-claims t) (visit-case-at t) visit-case.Post
-visit-case-ended-requires-2 t c κs = search needs
-
-visit-case-same-length-3 : (t : ℕ) → visit-case-lts.Need-same-length-3 (visit-case-claims t) (visit-case-at t) visit-case.Post
-visit-case-same-length-3 t c = search needs
-
 visit-case-returns-3 : (t : ℕ) → visit-case-lts.Need-returns-3 (visit-case-claims t) (visit-case-at t) visit-case.Post
 visit-case-returns-3 t c = case-missing _ _ _ _ _ _ _ _ _ _ _ _ _ (c .before .before .before .before .before .before .before .before .before .before .before .before .before .before .visit .ensures) (c .before .before .before .before .before .before .before .before .before .before .before .before .before .before .before .before .before .before .before .before .pre .1 .1) (c .before .before .before .before .before .before .before .before .before .before .before .before .before .before .before .before .field .ensures) _ _ _ (c .before .before .before .before .before .before .before .before .before .before .outcome .given .1) (c .before .before .before .before .before .before .before .value .given .1) _ (c .before .before .before .before .before .node-record .ensures) _ (c .before .before .before .before .field2 .ensures) _ (c .before .before .before .clause .ensures) _ (c .before .enum-told3 .given .1) (c .ended2 .ensures)
 
 visit-case-visit-requires-2 : (t : ℕ) → visit-case-lts.Need-visit-requires-2 (visit-case-claims t) (visit-case-at t) visit-case.Post
 visit-case-visit-requires-2 t c κs = (falls-on _ _ _ (reached-falls _ _ _ (c .before .before .before .before .before .before .before .before .before .before .before .before .before .before .before .before .before .before .before .before .before .pre .1 .0) _ _ _ _ _ _ _ _ _ _ (scrutinee-child _ _ _ _ _ (c .before .before .before .before .before .before .before .before .before .before .before .before .before .before .before .before .before .before .before .before .before .pre .1 .0) _ (c .before .before .before .before .before .before .before .before .before .before .before .before .before .before .before .before .before .before .before .before .before .pre .1 .1) (c .before .before .before .before .before .before .before .before .before .before .before .before .before .before .before .before .before .field .ensures)) (c .before .before .before .before .before .before .before .before .before .before .before .before .before .before .before .visit .ensures)) (c .before .before .before .before .before .before .before .before .before .before .before .before .before .before .before .before .before .before .before .before .before .pre .0), (c .before .before .before .before .before .before .before .before .before .before .before .before .before .before .before .before .before .before .before .before .before .pre .1 .0, clause-child _ _ _ _ _ (c .before .before .before .before .before .before .before .before .before .before .before .before .before .before .before .before .before .before .before .before .before .pre .1 .0) _ _ _ (c .before .before .before .before .before .before .before .before .before .before .before .before .before .before .before .before .before .before .before .before .before .pre .1 .1) (c .before .before .before .before .clause .ensures) (c .before .before .found .given .1)))
 
-visit-case-same-length-4 : (t : ℕ) → visit-case-lts.Need-same-length-4 (visit-case-claims t) (visit-case-at t) visit-case.Post
-visit-case-same-length-4 t c = search needs
-
 visit-case-returns-4 : (t : ℕ) → visit-case-lts.Need-returns-4 (visit-case-claims t) (visit-case-at t) visit-case.Post
 visit-case-returns-4 t c = case-on _ _ _ _ _ _ _ _ _ _ _ _ _ (c .before .before .before .before .before .before .before .before .before .before .before .before .before .before .before .before .before .before .visit .ensures) (c .before .before .before .before .before .before .before .before .before .before .before .before .before .before .before .before .before .before .before .before .before .before .before .before .pre .1 .1) (c .before .before .before .before .before .before .before .before .before .before .before .before .before .before .before .before .before .before .before .before .field .ensures) _ _ _ (c .before .before .before .before .before .before .before .before .before .before .before .before .before .before .outcome .given .1) (c .before .before .before .before .before .before .before .before .before .before .before .value .given .1) _ (c .before .before .before .before .before .before .before .before .before .node-record .ensures) _ (c .before .before .before .before .before .before .before .before .field2 .ensures) _ (c .before .before .before .before .before .before .before .clause .ensures) _ _ _ (c .before .before .before .before .before .found .given .1) (c .before .before .visit2 .ensures)
-
-visit-conditional-field-requires : (t : ℕ) → visit-conditional-lts.Need-field-requires (visit-conditional-claims t) (visit-conditional-at t) visit-conditional.Post
-visit-conditional-field-requires t c κs = search needs
 
 visit-conditional-visit-requires : (t : ℕ) → visit-conditional-lts.Need-visit-requires (visit-conditional-claims t) (visit-conditional-at t) visit-conditional.Post
 visit-conditional-visit-requires t c κs = (falls-same _ _ (c .before .before .before .before .before .pre .0), (c .before .before .before .before .before .pre .1 .0, condition-child _ _ _ _ _ (c .before .before .before .before .before .pre .1 .0) _ (c .before .before .before .before .before .pre .1 .1) (c .before .field .ensures)))
 
-visit-conditional-enum-known-outcome : (t : ℕ) → visit-conditional-lts.Need-enum-known-outcome (visit-conditional-claims t) (visit-conditional-at t) visit-conditional.Post
-visit-conditional-enum-known-outcome t c = search needs
-
-visit-conditional-enum-told : (t : ℕ) → visit-conditional-lts.Need-enum-told (visit-conditional-claims t) (visit-conditional-at t) visit-conditional.Post
-visit-conditional-enum-told t c = search needs
-
-visit-conditional-same-length : (t : ℕ) → visit-conditional-lts.Need-same-length (visit-conditional-claims t) (visit-conditional-at t) visit-conditional.Post
-visit-conditional-same-length t c = search needs
-
 visit-conditional-returns : (t : ℕ) → visit-conditional-lts.Need-returns (visit-conditional-claims t) (visit-conditional-at t) visit-conditional.Post
 visit-conditional-returns t c = conditional-ended _ _ _ _ _ _ _ _ _ _ _ _ _ (c .before .before .before .before .visit .ensures) (c .before .before .before .before .before .before .before .before .before .before .pre .1 .1) (c .before .before .before .before .before .before .field .ensures) _ (c .enum-told .given .1)
-
-visit-conditional-enum-known-value : (t : ℕ) → visit-conditional-lts.Need-enum-known-value (visit-conditional-claims t) (visit-conditional-at t) visit-conditional.Post
-visit-conditional-enum-known-value t c = search needs
-
-visit-conditional-enum-told-2 : (t : ℕ) → visit-conditional-lts.Need-enum-told-2 (visit-conditional-claims t) (visit-conditional-at t) visit-conditional.Post
-visit-conditional-enum-told-2 t c = search needs
-
-visit-conditional-ended-requires : (t : ℕ) → visit-conditional-lts.Need-ended-requires (visit-conditional-claims t) (visit-conditional-at t) visit-conditional.Post
-visit-conditional-ended-requires t c κs = search needs
-
-visit-conditional-same-length-2 : (t : ℕ) → visit-conditional-lts.Need-same-length-2 (visit-conditional-claims t) (visit-conditional-at t) visit-conditional.Post
-visit-conditional-same-length-2 t c = search needs
 
 visit-conditional-returns-2 : (t : ℕ) → visit-conditional-lts.Need-returns-2 (visit-conditional-claims t) (visit-conditional-at t) visit-conditional.Post
 visit-conditional-returns-2 t c = conditional-constructor _ _ _ _ _ _ _ _ _ _ _ _ _ (c .before .before .before .before .before .before .before .before .visit .ensures) (c .before .before .before .before .before .before .before .before .before .before .before .before .before .before .pre .1 .1) (c .before .before .before .before .before .before .before .before .before .before .field .ensures) _ _ _ _ (c .before .before .before .before .outcome .given .1) (c .before .enum-told2 .given .1) (c .ended .ensures)
 
-visit-conditional-branch-requires : (t : ℕ) → visit-conditional-lts.Need-branch-requires (visit-conditional-claims t) (visit-conditional-at t) visit-conditional.Post
-visit-conditional-branch-requires t c κs = search needs
-
 visit-conditional-visit-requires-2 : (t : ℕ) → visit-conditional-lts.Need-visit-requires-2 (visit-conditional-claims t) (visit-conditional-at t) visit-conditional.Post
 visit-conditional-visit-requires-2 t c κs = (falls-on _ _ _ (reached-falls _ _ _ (c .before .before .before .before .before .before .before .before .before .before .before .before .before .before .before .before .pre .1 .0) _ _ _ _ _ _ _ _ _ _ (condition-child _ _ _ _ _ (c .before .before .before .before .before .before .before .before .before .before .before .before .before .before .before .before .pre .1 .0) _ (c .before .before .before .before .before .before .before .before .before .before .before .before .before .before .before .before .pre .1 .1) (c .before .before .before .before .before .before .before .before .before .before .before .before .field .ensures)) (c .before .before .before .before .before .before .before .before .before .before .visit .ensures)) (c .before .before .before .before .before .before .before .before .before .before .before .before .before .before .before .before .pre .0), (c .before .before .before .before .before .before .before .before .before .before .before .before .before .before .before .before .pre .1 .0, branch-child _ _ _ _ _ (c .before .before .before .before .before .before .before .before .before .before .before .before .before .before .before .before .pre .1 .0) _ _ (c .before .before .before .before .before .before .before .before .before .before .before .before .before .before .before .before .pre .1 .1) (c .before .branch .ensures)))
-
-visit-conditional-same-length-3 : (t : ℕ) → visit-conditional-lts.Need-same-length-3 (visit-conditional-claims t) (visit-conditional-at t) visit-conditional.Post
-visit-conditional-same-length-3 t c = search needs
 
 visit-conditional-returns-3 : (t : ℕ) → visit-conditional-lts.Need-returns-3 (visit-conditional-claims t) (visit-conditional-at t) visit-conditional.Post
 visit-conditional-returns-3 t c = conditional-on _ _ _ _ _ _ _ _ _ _ _ _ _ (c .before .before .before .before .before .before .before .before .before .before .before .before .before .visit .ensures) (c .before .before .before .before .before .before .before .before .before .before .before .before .before .before .before .before .before .before .before .pre .1 .1) (c .before .before .before .before .before .before .before .before .before .before .before .before .before .before .before .field .ensures) _ _ _ _ _ _ (c .before .before .before .before .before .before .before .before .before .outcome .given .1) (c .before .before .before .before .before .before .value .given .1) (toZ-ofZ w32 _ (record { sfits = search needs })) (c .before .before .before .before .branch .ensures) (c .before .before .visit2 .ensures)
 
-visit-formal-ended-requires : (t : ℕ) → visit-formal-lts.Need-ended-requires (visit-formal-claims t) (visit-formal-at t) visit-formal.Post
-visit-formal-ended-requires t c κs = search needs
-
 visit-formal-returns : (t : ℕ) → visit-formal-lts.Need-returns (visit-formal-claims t) (visit-formal-at t) visit-formal.Post
 visit-formal-returns t c = formal-empty _ _ _ _ _ _ _ _ _ _ (c .before .before .before .before .before .pre .1 .1) _ (c .before .if1 .taken) (c .ended .ensures)
-
-visit-formal-wide-requires : (t : ℕ) → visit-formal-lts.Need-wide-requires (visit-formal-claims t) (visit-formal-at t) visit-formal.Post
-visit-formal-wide-requires t c κs = search needs
-
-visit-formal-label-at-requires : (t : ℕ) → visit-formal-lts.Need-label-at-requires (visit-formal-claims t) (visit-formal-at t) visit-formal.Post
-visit-formal-label-at-requires t c κs = search needs
-
-visit-formal-field-requires : (t : ℕ) → visit-formal-lts.Need-field-requires (visit-formal-claims t) (visit-formal-at t) visit-formal.Post
-visit-formal-field-requires t c κs = search needs
 
 visit-formal-formal-record-requires : (t : ℕ) → visit-formal-lts.Need-formal-record-requires (visit-formal-claims t) (visit-formal-at t) visit-formal.Post
 visit-formal-formal-record-requires t c κs = (c .before .before .before .before .before .before .before .before .pre .1 .0 .index, formal-named _ _ _ _ _ (c .before .before .before .before .before .before .before .before .pre .1 .0) _ (c .before .before .before .before .before .before .before .before .pre .1 .1) (c .field .ensures))
 
-visit-formal-field-after-requires : (t : ℕ) → visit-formal-lts.Need-field-after-requires (visit-formal-claims t) (visit-formal-at t) visit-formal.Post
-visit-formal-field-after-requires t c κs = search needs
-
-visit-formal-enum-known-found : (t : ℕ) → visit-formal-lts.Need-enum-known-found (visit-formal-claims t) (visit-formal-at t) visit-formal.Post
-visit-formal-enum-known-found t c = search needs
-
-visit-formal-enum-told : (t : ℕ) → visit-formal-lts.Need-enum-told (visit-formal-claims t) (visit-formal-at t) visit-formal.Post
-visit-formal-enum-told t c = search needs
-
-visit-formal-ended-requires-2 : (t : ℕ) → visit-formal-lts.Need-ended-requires-2 (visit-formal-claims t) (visit-formal-at t) visit-formal.Post
-visit-formal-ended-requires-2 t c κs = search needs
-
-visit-formal-same-length : (t : ℕ) → visit-formal-lts.Need-same-length (visit-formal-claims t) (visit-formal-at t) visit-formal.Post
-visit-formal-same-length t c = search needs
-
 visit-formal-returns-2 : (t : ℕ) → visit-formal-lts.Need-returns-2 (visit-formal-claims t) (visit-formal-at t) visit-formal.Post
 visit-formal-returns-2 t c = formal-missing _ _ _ _ _ _ _ _ _ _ (c .before .before .before .before .before .before .before .before .before .before .before .before .before .pre .1 .1) _ _ _ _ _ (c .before .before .before .before .before .before .before .before .before .if1 .left) (c .before .before .before .before .before .field .ensures) (c .before .before .before .before .before .before .before .wide .ensures .0) (c .before .before .before .before .before .before .label-at .ensures) (c .before .before .before .before .formal-record .ensures) (c .before .before .before .field-after .ensures) _ (c .before .enum-told .given .1) (c .ended2 .ensures)
-
-visit-formal-wide-requires-2 : (t : ℕ) → visit-formal-lts.Need-wide-requires-2 (visit-formal-claims t) (visit-formal-at t) visit-formal.Post
-visit-formal-wide-requires-2 t c κs = search needs
-
-visit-formal-previous-at-requires : (t : ℕ) → visit-formal-lts.Need-previous-at-requires (visit-formal-claims t) (visit-formal-at t) visit-formal.Post
-visit-formal-previous-at-requires t c κs = search needs
 
 visit-formal-visit-requires : (t : ℕ) → visit-formal-lts.Need-visit-requires (visit-formal-claims t) (visit-formal-at t) visit-formal.Post
 visit-formal-visit-requires t c κs = (falls-same _ _ (c .before .before .before .before .before .before .before .before .before .before .before .before .before .before .before .before .before .pre .0), (c .before .before .before .before .before .before .before .before .before .before .before .before .before .before .before .before .before .pre .1 .0, actual-child _ _ _ _ _ (c .before .before .before .before .before .before .before .before .before .before .before .before .before .before .before .before .before .pre .1 .0) _ _ _ _ _ (c .before .before .before .before .before .before .before .before .before .before .before .before .before .before .before .before .before .pre .1 .1) (c .before .before .before .before .before .before .before .before .before .field .ensures) (c .before .before .before .before .before .before .before .before .formal-record .ensures) (c .before .before .before .before .before .before .before .field-after .ensures) (c .before .before .before .before .before .found .given .1)))
 
-visit-formal-same-length-2 : (t : ℕ) → visit-formal-lts.Need-same-length-2 (visit-formal-claims t) (visit-formal-at t) visit-formal.Post
-visit-formal-same-length-2 t c = search needs
-
 visit-formal-returns-3 : (t : ℕ) → visit-formal-lts.Need-returns-3 (visit-formal-claims t) (visit-formal-at t) visit-formal.Post
 visit-formal-returns-3 t c = formal-on _ _ _ _ _ _ _ _ _ _ (c .before .before .before .before .before .before .before .before .before .before .before .before .before .before .before .before .before .before .before .before .pre .1 .1) _ _ _ _ _ (c .before .before .before .before .before .before .before .before .before .before .before .before .before .before .before .before .if1 .left) (c .before .before .before .before .before .before .before .before .before .before .before .before .field .ensures) (c .before .before .before .before .before .before .before .before .before .before .before .before .before .before .wide .ensures .0) (c .before .before .before .before .before .before .before .before .before .before .before .before .before .label-at .ensures) (c .before .before .before .before .before .before .before .before .before .before .before .formal-record .ensures) (c .before .before .before .before .before .before .before .before .before .before .field-after .ensures) _ _ _ _ _ (c .before .before .before .before .before .before .before .before .found .given .1) (c .before .before .before .before .before .wide2 .ensures .0) (c .before .before .before .before .previous-at .ensures) (c .before .before .visit .ensures)
-
-visit-operator-field-requires : (t : ℕ) → visit-operator-lts.Need-field-requires (visit-operator-claims t) (visit-operator-at t) visit-operator.Post
-visit-operator-field-requires t c κs = search needs
 
 visit-operator-visit-requires : (t : ℕ) → visit-operator-lts.Need-visit-requires (visit-operator-claims t) (visit-operator-at t) visit-operator.Post
 visit-operator-visit-requires t c κs = (falls-same _ _ (c .before .before .before .before .before .pre .0), (c .before .before .before .before .before .pre .1 .0, left-child _ _ _ _ _ (c .before .before .before .before .before .pre .1 .0) _ (c .before .before .before .before .before .pre .1 .1) (c .before .field .ensures)))
 
-visit-operator-enum-known-outcome : (t : ℕ) → visit-operator-lts.Need-enum-known-outcome (visit-operator-claims t) (visit-operator-at t) visit-operator.Post
-visit-operator-enum-known-outcome t c = search needs
-
-visit-operator-enum-told : (t : ℕ) → visit-operator-lts.Need-enum-told (visit-operator-claims t) (visit-operator-at t) visit-operator.Post
-visit-operator-enum-told t c = search needs
-
-visit-operator-same-length : (t : ℕ) → visit-operator-lts.Need-same-length (visit-operator-claims t) (visit-operator-at t) visit-operator.Post
-visit-operator-same-length t c = search needs
-
 visit-operator-returns : (t : ℕ) → visit-operator-lts.Need-returns (visit-operator-claims t) (visit-operator-at t) visit-operator.Post
 visit-operator-returns t c = left-ended _ _ _ _ _ _ _ _ _ _ _ _ _ (c .before .before .before .before .visit .ensures) (c .before .before .before .before .before .before .before .before .before .before .pre .1 .1) (c .before .before .before .before .before .before .field .ensures) _ (c .enum-told .given .1)
-
-visit-operator-enum-known-value : (t : ℕ) → visit-operator-lts.Need-enum-known-value (visit-operator-claims t) (visit-operator-at t) visit-operator.Post
-visit-operator-enum-known-value t c = search needs
-
-visit-operator-enum-told-2 : (t : ℕ) → visit-operator-lts.Need-enum-told-2 (visit-operator-claims t) (visit-operator-at t) visit-operator.Post
-visit-operator-enum-told-2 t c = search needs
-
-visit-operator-ended-requires : (t : ℕ) → visit-operator-lts.Need-ended-requires (visit-operator-claims t) (visit-operator-at t) visit-operator.Post
-visit-operator-ended-requires t c κs = search needs
-
-visit-operator-same-length-2 : (t : ℕ) → visit-operator-lts.Need-same-length-2 (visit-operator-claims t) (visit-operator-at t) visit-operator.Post
-visit-operator-same-length-2 t c = search needs
 
 visit-operator-returns-2 : (t : ℕ) → visit-operator-lts.Need-returns-2 (visit-operator-claims t) (visit-operator-at t) visit-operator.Post
 visit-operator-returns-2 t c = left-constructor _ _ _ _ _ _ _ _ _ _ _ _ _ (c .before .before .before .before .before .before .before .before .visit .ensures) (c .before .before .before .before .before .before .before .before .before .before .before .before .before .before .pre .1 .1) (c .before .before .before .before .before .before .before .before .before .before .field .ensures) _ _ _ _ (c .before .before .before .before .outcome .given .1) (c .before .enum-told2 .given .1) (c .ended .ensures)
 
-visit-operator-field-requires-2 : (t : ℕ) → visit-operator-lts.Need-field-requires-2 (visit-operator-claims t) (visit-operator-at t) visit-operator.Post
-visit-operator-field-requires-2 t c κs = search needs
-
 visit-operator-visit-requires-2 : (t : ℕ) → visit-operator-lts.Need-visit-requires-2 (visit-operator-claims t) (visit-operator-at t) visit-operator.Post
 visit-operator-visit-requires-2 t c κs = (falls-on _ _ _ (reached-falls _ _ _ (c .before .before .before .before .before .before .before .before .before .before .before .before .before .before .before .before .pre .1 .0) _ _ _ _ _ _ _ _ _ _ (left-child _ _ _ _ _ (c .before .before .before .before .before .before .before .before .before .before .before .before .before .before .before .before .pre .1 .0) _ (c .before .before .before .before .before .before .before .before .before .before .before .before .before .before .before .before .pre .1 .1) (c .before .before .before .before .before .before .before .before .before .before .before .before .field .ensures)) (c .before .before .before .before .before .before .before .before .before .before .visit .ensures)) (c .before .before .before .before .before .before .before .before .before .before .before .before .before .before .before .before .pre .0), (c .before .before .before .before .before .before .before .before .before .before .before .before .before .before .before .before .pre .1 .0, right-child _ _ _ _ _ (c .before .before .before .before .before .before .before .before .before .before .before .before .before .before .before .before .pre .1 .0) _ (c .before .before .before .before .before .before .before .before .before .before .before .before .before .before .before .before .pre .1 .1) (c .before .field2 .ensures)))
-
-visit-operator-enum-known-outcome-2 : (t : ℕ) → visit-operator-lts.Need-enum-known-outcome-2 (visit-operator-claims t) (visit-operator-at t) visit-operator.Post
-visit-operator-enum-known-outcome-2 t c = search needs
-
-visit-operator-enum-told-3 : (t : ℕ) → visit-operator-lts.Need-enum-told-3 (visit-operator-claims t) (visit-operator-at t) visit-operator.Post
-visit-operator-enum-told-3 t c = search needs
-
-visit-operator-same-length-3 : (t : ℕ) → visit-operator-lts.Need-same-length-3 (visit-operator-claims t) (visit-operator-at t) visit-operator.Post
-visit-operator-same-length-3 t c = search needs
 
 visit-operator-returns-3 : (t : ℕ) → visit-operator-lts.Need-returns-3 (visit-operator-claims t) (visit-operator-at t) visit-operator.Post
 visit-operator-returns-3 t c = right-ended _ _ _ _ _ _ _ _ _ _ _ _ _ (c .before .before .before .before .before .before .before .before .before .before .before .before .before .before .before .visit .ensures) (c .before .before .before .before .before .before .before .before .before .before .before .before .before .before .before .before .before .before .before .before .before .pre .1 .1) (c .before .before .before .before .before .before .before .before .before .before .before .before .before .before .before .before .before .field .ensures) _ _ (c .before .before .before .before .before .before .before .before .before .before .before .outcome .given .1) (c .before .before .before .before .before .before .before .before .value .given .1) _ (c .before .before .before .before .before .before .field2 .ensures) _ _ (c .before .before .before .before .visit2 .ensures) _ (c .enum-told3 .given .1)
 
-visit-operator-enum-known-value-2 : (t : ℕ) → visit-operator-lts.Need-enum-known-value-2 (visit-operator-claims t) (visit-operator-at t) visit-operator.Post
-visit-operator-enum-known-value-2 t c = search needs
-
-visit-operator-enum-told-4 : (t : ℕ) → visit-operator-lts.Need-enum-told-4 (visit-operator-claims t) (visit-operator-at t) visit-operator.Post
-visit-operator-enum-told-4 t c = search needs
-
-visit-operator-ended-requires-2 : (t : ℕ) → visit-operator-lts.Need-ended-requires-2 (visit-operator-claims t) (visit-operator-at t) visit-operator.Post
-visit-operator-ended-requires-2 t c κs = search needs
-
-visit-operator-same-length-4 : (t : ℕ) → visit-operator-lts.Need-same-length-4 (visit-operator-claims t) (visit-operator-at t) visit-operator.Post
-visit-operator-same-length-4 t c = search needs
-
 visit-operator-returns-4 : (t : ℕ) → visit-operator-lts.Need-returns-4 (visit-operator-claims t) (visit-operator-at t) visit-operator.Post
 visit-operator-returns-4 t c = right-constructor _ _ _ _ _ _ _ _ _ _ _ _ _ (c .before .before .before .before .before .before .before .before .before .before .before .before .before .before .before .before .before .before .before .visit .ensures) (c .before .before .before .before .before .before .before .before .before .before .before .before .before .before .before .before .before .before .before .before .before .before .before .before .before .pre .1 .1) (c .before .before .before .before .before .before .before .before .before .before .before .before .before .before .before .before .before .before .before .before .before .field .ensures) _ _ (c .before .before .before .before .before .before .before .before .before .before .before .before .before .before .before .outcome .given .1) (c .before .before .before .before .before .before .before .before .before .before .before .before .value .given .1) _ (c .before .before .before .before .before .before .before .before .before .before .field2 .ensures) _ _ (c .before .before .before .before .before .before .before .before .visit2 .ensures) _ _ _ _ (c .before .before .before .before .outcome2 .given .1) (c .before .enum-told4 .given .1) (c .ended2 .ensures)
-
-visit-operator-field-requires-3 : (t : ℕ) → visit-operator-lts.Need-field-requires-3 (visit-operator-claims t) (visit-operator-at t) visit-operator.Post
-visit-operator-field-requires-3 t c κs = search needs
-
-visit-operator-compute-requires : (t : ℕ) → visit-operator-lts.Need-compute-requires (visit-operator-claims t) (visit-operator-at t) visit-operator.Post
-visit-operator-compute-requires t c κs = search needs
-
-visit-operator-given-requires : (t : ℕ) → visit-operator-lts.Need-given-requires (visit-operator-claims t) (visit-operator-at t) visit-operator.Post
-visit-operator-given-requires t c κs = search needs
 
 visit-operator-same-length-5 : (t : ℕ) → visit-operator-lts.Need-same-length-5 (visit-operator-claims t) (visit-operator-at t) visit-operator.Post
 visit-operator-same-length-5 t c = c .before .before .before .before .before .before .before .before .before .before .cells2 .given ∙ c .before .before .before .before .before .before .before .before .before .before .before .before .before .before .before .before .before .before .before .before .before .cells .given
@@ -591,83 +347,26 @@ visit-operator-same-length-5 t c = c .before .before .before .before .before .be
 visit-operator-returns-5 : (t : ℕ) → visit-operator-lts.Need-returns-5 (visit-operator-claims t) (visit-operator-at t) visit-operator.Post
 visit-operator-returns-5 t c = operator-on _ _ _ _ _ _ _ _ _ _ _ _ _ (c .before .before .before .before .before .before .before .before .before .before .before .before .before .before .before .before .before .before .before .before .before .before .visit .ensures) (c .before .before .before .before .before .before .before .before .before .before .before .before .before .before .before .before .before .before .before .before .before .before .before .before .before .before .before .before .pre .1 .1) (c .before .before .before .before .before .before .before .before .before .before .before .before .before .before .before .before .before .before .before .before .before .before .before .before .field .ensures) _ _ (c .before .before .before .before .before .before .before .before .before .before .before .before .before .before .before .before .before .before .outcome .given .1) (c .before .before .before .before .before .before .before .before .before .before .before .before .before .before .before .value .given .1) _ (c .before .before .before .before .before .before .before .before .before .before .before .before .before .field2 .ensures) _ _ (c .before .before .before .before .before .before .before .before .before .before .before .visit2 .ensures) _ _ _ _ _ _ _ (c .before .before .before .before .before .before .before .outcome2 .given .1) (c .before .before .before .before .value2 .given .1) (toZ-ofZ w32 _ (record { sfits = search needs })) (toZ-ofZ w32 _ (record { sfits = search needs })) (c .before .before .field3 .ensures) (c .before .compute .ensures) (c .given .ensures)
 
-visit-select-field-requires : (t : ℕ) → visit-select-lts.Need-field-requires (visit-select-claims t) (visit-select-at t) visit-select.Post
-visit-select-field-requires t c κs = search needs
-
 visit-select-visit-requires : (t : ℕ) → visit-select-lts.Need-visit-requires (visit-select-claims t) (visit-select-at t) visit-select.Post
 visit-select-visit-requires t c κs = (falls-same _ _ (c .before .before .before .before .before .pre .0), (c .before .before .before .before .before .pre .1 .0, select-child _ _ _ _ _ (c .before .before .before .before .before .pre .1 .0) _ (c .before .before .before .before .before .pre .1 .1) (c .before .field .ensures)))
-
-visit-select-enum-known-outcome : (t : ℕ) → visit-select-lts.Need-enum-known-outcome (visit-select-claims t) (visit-select-at t) visit-select.Post
-visit-select-enum-known-outcome t c = search needs
-
-visit-select-enum-told : (t : ℕ) → visit-select-lts.Need-enum-told (visit-select-claims t) (visit-select-at t) visit-select.Post
-visit-select-enum-told t c = search needs
-
-visit-select-same-length : (t : ℕ) → visit-select-lts.Need-same-length (visit-select-claims t) (visit-select-at t) visit-select.Post
-visit-select-same-length t c = search needs
 
 visit-select-returns : (t : ℕ) → visit-select-lts.Need-returns (visit-select-claims t) (visit-select-at t) visit-select.Post
 visit-select-returns t c = select-ended _ _ _ _ _ _ _ _ _ _ _ _ _ (c .before .before .before .before .visit .ensures) (c .before .before .before .before .before .before .before .before .before .before .pre .1 .1) (c .before .before .before .before .before .before .field .ensures) _ (c .enum-told .given .1)
 
-visit-select-enum-known-value : (t : ℕ) → visit-select-lts.Need-enum-known-value (visit-select-claims t) (visit-select-at t) visit-select.Post
-visit-select-enum-known-value t c = search needs
-
-visit-select-enum-told-2 : (t : ℕ) → visit-select-lts.Need-enum-told-2 (visit-select-claims t) (visit-select-at t) visit-select.Post
-visit-select-enum-told-2 t c = search needs
-
-visit-select-ended-requires : (t : ℕ) → visit-select-lts.Need-ended-requires (visit-select-claims t) (visit-select-at t) visit-select.Post
-visit-select-ended-requires t c κs = search needs
-
-visit-select-same-length-2 : (t : ℕ) → visit-select-lts.Need-same-length-2 (visit-select-claims t) (visit-select-at t) visit-select.Post
-visit-select-same-length-2 t c = search needs
-
 visit-select-returns-2 : (t : ℕ) → visit-select-lts.Need-returns-2 (visit-select-claims t) (visit-select-at t) visit-select.Post
 visit-select-returns-2 t c = select-number _ _ _ _ _ _ _ _ _ _ _ _ _ (c .before .before .before .before .before .before .before .before .visit .ensures) (c .before .before .before .before .before .before .before .before .before .before .before .before .before .before .pre .1 .1) (c .before .before .before .before .before .before .before .before .before .before .field .ensures) _ _ _ (c .before .before .before .before .outcome .given .1) (c .before .enum-told2 .given .1) (c .ended .ensures)
-
-visit-select-field-requires-2 : (t : ℕ) → visit-select-lts.Need-field-requires-2 (visit-select-claims t) (visit-select-at t) visit-select.Post
-visit-select-field-requires-2 t c κs = search needs
 
 visit-select-node-record-requires : (t : ℕ) → visit-select-lts.Need-node-record-requires (visit-select-claims t) (visit-select-at t) visit-select.Post
 visit-select-node-record-requires t c κs = (c .before .before .before .before .before .before .before .before .before .before .before .before .before .before .before .pre .1 .0 .index, reached-tuple _ _ _ (c .before .before .before .before .before .before .before .before .before .before .before .before .before .before .before .pre .1 .0) _ _ _ _ _ _ _ _ _ _ (select-child _ _ _ _ _ (c .before .before .before .before .before .before .before .before .before .before .before .before .before .before .before .pre .1 .0) _ (c .before .before .before .before .before .before .before .before .before .before .before .before .before .before .before .pre .1 .1) (c .before .before .before .before .before .before .before .before .before .before .before .field .ensures)) (c .before .before .before .before .before .before .before .before .before .visit .ensures) _ _ _ (c .before .before .before .before .before .outcome .given .1) (c .before .before .value .given .1) .below)
 
-visit-select-field-requires-3 : (t : ℕ) → visit-select-lts.Need-field-requires-3 (visit-select-claims t) (visit-select-at t) visit-select.Post
-visit-select-field-requires-3 t c κs = search needs
-
-visit-select-tag-requires : (t : ℕ) → visit-select-lts.Need-tag-requires (visit-select-claims t) (visit-select-at t) visit-select.Post
-visit-select-tag-requires t c κs = search needs
-
-visit-select-same-length-3 : (t : ℕ) → visit-select-lts.Need-same-length-3 (visit-select-claims t) (visit-select-at t) visit-select.Post
-visit-select-same-length-3 t c = search needs
-
 visit-select-returns-3 : (t : ℕ) → visit-select-lts.Need-returns-3 (visit-select-claims t) (visit-select-at t) visit-select.Post
 visit-select-returns-3 t c = select-tag _ _ _ _ _ _ _ _ _ _ _ _ _ (c .before .before .before .before .before .before .before .before .before .before .before .before .before .visit .ensures) (c .before .before .before .before .before .before .before .before .before .before .before .before .before .before .before .before .before .before .before .pre .1 .1) (c .before .before .before .before .before .before .before .before .before .before .before .before .before .before .before .field .ensures) _ _ _ (c .before .before .before .before .before .before .before .before .before .outcome .given .1) (c .before .before .before .before .before .before .value .given .1) _ (c .before .before .before .before .field2 .ensures) _ (c .before .before .before .node-record .ensures) _ _ (c .before .before .if1 .taken) (c .before .field3 .ensures) (c .tag .ensures)
-
-visit-select-sub-field-after : (t : ℕ) → visit-select-lts.Need-sub-field-after (visit-select-claims t) (visit-select-at t) visit-select.Post
-visit-select-sub-field-after t c = search needs
-
-visit-select-field-after-requires : (t : ℕ) → visit-select-lts.Need-field-after-requires (visit-select-claims t) (visit-select-at t) visit-select.Post
-visit-select-field-after-requires t c κs = search needs
-
-visit-select-enum-known-found : (t : ℕ) → visit-select-lts.Need-enum-known-found (visit-select-claims t) (visit-select-at t) visit-select.Post
-visit-select-enum-known-found t c = search needs
-
-visit-select-enum-told-3 : (t : ℕ) → visit-select-lts.Need-enum-told-3 (visit-select-claims t) (visit-select-at t) visit-select.Post
-visit-select-enum-told-3 t c = search needs
-
-visit-select-ended-requires-2 : (t : ℕ) → visit-select-lts.Need-ended-requires-2 (visit-select-claims t) (visit-select-at t) visit-select.Post
-visit-select-ended-requires-2 t c κs = search needs
-
-visit-select-same-length-4 : (t : ℕ) → visit-select-lts.Need-same-length-4 (visit-select-claims t) (visit-select-at t) visit-select.Post
-visit-select-same-length-4 t c = search needs
 
 visit-select-returns-4 : (t : ℕ) → visit-select-lts.Need-returns-4 (visit-select-claims t) (visit-select-at t) visit-select.Post
 visit-select-returns-4 t c = select-missing _ _ _ _ _ _ _ _ _ _ _ _ _ (c .before .before .before .before .before .before .before .before .before .before .before .before .before .before .before .visit .ensures) (c .before .before .before .before .before .before .before .before .before .before .before .before .before .before .before .before .before .before .before .before .before .pre .1 .1) (c .before .before .before .before .before .before .before .before .before .before .before .before .before .before .before .before .before .field .ensures) _ _ _ (c .before .before .before .before .before .before .before .before .before .before .before .outcome .given .1) (c .before .before .before .before .before .before .before .before .value .given .1) _ (c .before .before .before .before .before .before .field2 .ensures) _ (c .before .before .before .before .before .node-record .ensures) _ (c .before .before .before .before .if1 .left) (c .before .before .before .field-after .ensures) _ (c .before .enum-told3 .given .1) (c .ended2 .ensures)
 
 visit-select-visit-requires-2 : (t : ℕ) → visit-select-lts.Need-visit-requires-2 (visit-select-claims t) (visit-select-at t) visit-select.Post
 visit-select-visit-requires-2 t c κs = (falls-on _ _ _ (reached-falls _ _ _ (c .before .before .before .before .before .before .before .before .before .before .before .before .before .before .before .before .before .before .before .before .before .before .pre .1 .0) _ _ _ _ _ _ _ _ _ _ (select-child _ _ _ _ _ (c .before .before .before .before .before .before .before .before .before .before .before .before .before .before .before .before .before .before .before .before .before .before .pre .1 .0) _ (c .before .before .before .before .before .before .before .before .before .before .before .before .before .before .before .before .before .before .before .before .before .before .pre .1 .1) (c .before .before .before .before .before .before .before .before .before .before .before .before .before .before .before .before .before .before .field .ensures)) (c .before .before .before .before .before .before .before .before .before .before .before .before .before .before .before .before .visit .ensures)) (c .before .before .before .before .before .before .before .before .before .before .before .before .before .before .before .before .before .before .before .before .before .before .pre .0), (c .before .before .before .before .before .before .before .before .before .before .before .before .before .before .before .before .before .before .before .before .before .before .pre .1 .0, member-child _ _ _ (c .before .before .before .before .before .before .before .before .before .before .before .before .before .before .before .before .before .before .before .before .before .before .pre .1 .0) _ _ _ _ _ (reached-tuple _ _ _ (c .before .before .before .before .before .before .before .before .before .before .before .before .before .before .before .before .before .before .before .before .before .before .pre .1 .0) _ _ _ _ _ _ _ _ _ _ (select-child _ _ _ _ _ (c .before .before .before .before .before .before .before .before .before .before .before .before .before .before .before .before .before .before .before .before .before .before .pre .1 .0) _ (c .before .before .before .before .before .before .before .before .before .before .before .before .before .before .before .before .before .before .before .before .before .before .pre .1 .1) (c .before .before .before .before .before .before .before .before .before .before .before .before .before .before .before .before .before .before .field .ensures)) (c .before .before .before .before .before .before .before .before .before .before .before .before .before .before .before .before .visit .ensures) _ _ _ (c .before .before .before .before .before .before .before .before .before .before .before .before .outcome .given .1) (c .before .before .before .before .before .before .before .before .before .value .given .1)) (c .before .before .before .before .before .before .node-record .ensures) (c .before .before .before .before .field-after .ensures) (c .before .before .found .given .1)))
-
-visit-select-same-length-5 : (t : ℕ) → visit-select-lts.Need-same-length-5 (visit-select-claims t) (visit-select-at t) visit-select.Post
-visit-select-same-length-5 t c = search needs
 
 visit-select-returns-5 : (t : ℕ) → visit-select-lts.Need-returns-5 (visit-select-claims t) (visit-select-at t) visit-select.Post
 visit-select-returns-5 t c = select-on _ _ _ _ _ _ _ _ _ _ _ _ _ (c .before .before .before .before .before .before .before .before .before .before .before .before .before .before .before .before .before .before .before .visit .ensures) (c .before .before .before .before .before .before .before .before .before .before .before .before .before .before .before .before .before .before .before .before .before .before .before .before .before .pre .1 .1) (c .before .before .before .before .before .before .before .before .before .before .before .before .before .before .before .before .before .before .before .before .before .field .ensures) _ _ _ (c .before .before .before .before .before .before .before .before .before .before .before .before .before .before .before .outcome .given .1) (c .before .before .before .before .before .before .before .before .before .before .before .before .value .given .1) _ (c .before .before .before .before .before .before .before .before .before .before .field2 .ensures) _ (c .before .before .before .before .before .before .before .before .before .node-record .ensures) _ (c .before .before .before .before .before .before .before .before .if1 .left) (c .before .before .before .before .before .before .before .field-after .ensures) _ _ _ (c .before .before .before .before .before .found .given .1) (c .before .before .visit2 .ensures)
@@ -685,167 +384,167 @@ pub +evaluate+visit+visit-call+visit-case+visit-conditional+visit-formal+visit-o
     μ-visit-operator
     μ-visit-select
     (λ t. evaluate-lts.spec (evaluate-claims t) (evaluate-at t) evaluate.Post
-    (evaluate-node-record-requires t)
-    (evaluate-kind-requires t)
-    (evaluate-signed-requires t)
-    (evaluate-number-requires t)
+    (λ c κs. search needs)
+    (λ c κs. search needs)
+    (λ c κs. search needs)
+    (λ c κs. search needs)
     (evaluate-returns t)
-    (evaluate-field-requires t)
-    (evaluate-reading-requires t)
-    (evaluate-number-requires-2 t)
+    (λ c κs. search needs)
+    (λ c κs. search needs)
+    (λ c κs. search needs)
     (evaluate-returns-2 t)
-    (evaluate-constructor-requires t)
+    (λ c κs. search needs)
     (evaluate-returns-3 t)
     (evaluate-visit-formal-requires t)
-    (evaluate-same-length t)
+    (λ c. search needs)
     (evaluate-returns-4 t)
     (evaluate-visit-select-requires t)
-    (evaluate-same-length-2 t)
+    (λ c. search needs)
     (evaluate-returns-5 t)
     (evaluate-visit-operator-requires t)
-    (evaluate-same-length-3 t)
+    (λ c. search needs)
     (evaluate-returns-6 t)
     (evaluate-visit-conditional-requires t)
-    (evaluate-same-length-4 t)
+    (λ c. search needs)
     (evaluate-returns-7 t)
     (evaluate-visit-call-requires t)
-    (evaluate-same-length-5 t)
+    (λ c. search needs)
     (evaluate-returns-8 t)
     (evaluate-visit-case-requires t)
-    (evaluate-same-length-6 t)
+    (λ c. search needs)
     (evaluate-returns-9 t))
     (λ t. visit-lts.spec (visit-claims t) (visit-at t) visit.Post
-    (visit-ended-requires t)
+    (λ c κs. search needs)
     (visit-returns t)
-    (visit-ended-requires-2 t)
+    (λ c κs. search needs)
     (visit-returns-2 t)
-    (visit-sub-inner t)
-    (visit-sub-rest t)
+    (λ c. search needs)
+    (λ c. search needs)
     (visit-evaluate-requires t)
-    (visit-same-length t)
+    (λ c. search needs)
     (visit-returns-3 t))
     (λ t. visit-call-lts.spec (visit-call-claims t) (visit-call-at t) visit-call.Post
-    (visit-call-ended-requires t)
+    (λ c κs. search needs)
     (visit-call-returns t)
-    (visit-call-wide-requires t)
-    (visit-call-field-requires t)
-    (visit-call-add-cell-requires t)
-    (visit-call-add-next t)
-    (visit-call-field-requires-2 t)
+    (λ c κs. search needs)
+    (λ c κs. search needs)
+    (λ c κs. search needs)
+    (λ c. search needs)
+    (λ c κs. search needs)
     (visit-call-body-requires t)
     (visit-call-visit-requires t)
-    (visit-call-same-length t)
+    (λ c. search needs)
     (visit-call-returns-2 t))
     (λ t. visit-case-lts.spec (visit-case-claims t) (visit-case-at t) visit-case.Post
-    (visit-case-field-requires t)
+    (λ c κs. search needs)
     (visit-case-visit-requires t)
-    (visit-case-enum-known-outcome t)
-    (visit-case-enum-told t)
-    (visit-case-same-length t)
+    (λ c. search needs)
+    (λ c. search needs)
+    (λ c. search needs)
     (visit-case-returns t)
-    (visit-case-enum-known-value t)
-    (visit-case-enum-told-2 t)
-    (visit-case-ended-requires t)
-    (visit-case-same-length-2 t)
+    (λ c. search needs)
+    (λ c. search needs)
+    (λ c κs. search needs)
+    (λ c. search needs)
     (visit-case-returns-2 t)
     (visit-case-node-record-requires t)
-    (visit-case-field-requires-2 t)
-    (visit-case-clause-requires t)
-    (visit-case-enum-known-found t)
-    (visit-case-enum-told-3 t)
-    (visit-case-ended-requires-2 t)
-    (visit-case-same-length-3 t)
+    (λ c κs. search needs)
+    (λ c κs. search needs)
+    (λ c. search needs)
+    (λ c. search needs)
+    (λ c κs. search needs)
+    (λ c. search needs)
     (visit-case-returns-3 t)
     (visit-case-visit-requires-2 t)
-    (visit-case-same-length-4 t)
+    (λ c. search needs)
     (visit-case-returns-4 t))
     (λ t. visit-conditional-lts.spec (visit-conditional-claims t) (visit-conditional-at t) visit-conditional.Post
-    (visit-conditional-field-requires t)
+    (λ c κs. search needs)
     (visit-conditional-visit-requires t)
-    (visit-conditional-enum-known-outcome t)
-    (visit-conditional-enum-told t)
-    (visit-conditional-same-length t)
+    (λ c. search needs)
+    (λ c. search needs)
+    (λ c. search needs)
     (visit-conditional-returns t)
-    (visit-conditional-enum-known-value t)
-    (visit-conditional-enum-told-2 t)
-    (visit-conditional-ended-requires t)
-    (visit-conditional-same-length-2 t)
+    (λ c. search needs)
+    (λ c. search needs)
+    (λ c κs. search needs)
+    (λ c. search needs)
     (visit-conditional-returns-2 t)
-    (visit-conditional-branch-requires t)
+    (λ c κs. search needs)
     (visit-conditional-visit-requires-2 t)
-    (visit-conditional-same-length-3 t)
+    (λ c. search needs)
     (visit-conditional-returns-3 t))
     (λ t. visit-formal-lts.spec (visit-formal-claims t) (visit-formal-at t) visit-formal.Post
-    (visit-formal-ended-requires t)
+    (λ c κs. search needs)
     (visit-formal-returns t)
-    (visit-formal-wide-requires t)
-    (visit-formal-label-at-requires t)
-    (visit-formal-field-requires t)
+    (λ c κs. search needs)
+    (λ c κs. search needs)
+    (λ c κs. search needs)
     (visit-formal-formal-record-requires t)
-    (visit-formal-field-after-requires t)
-    (visit-formal-enum-known-found t)
-    (visit-formal-enum-told t)
-    (visit-formal-ended-requires-2 t)
-    (visit-formal-same-length t)
+    (λ c κs. search needs)
+    (λ c. search needs)
+    (λ c. search needs)
+    (λ c κs. search needs)
+    (λ c. search needs)
     (visit-formal-returns-2 t)
-    (visit-formal-wide-requires-2 t)
-    (visit-formal-previous-at-requires t)
+    (λ c κs. search needs)
+    (λ c κs. search needs)
     (visit-formal-visit-requires t)
-    (visit-formal-same-length-2 t)
+    (λ c. search needs)
     (visit-formal-returns-3 t))
     (λ t. visit-operator-lts.spec (visit-operator-claims t) (visit-operator-at t) visit-operator.Post
-    (visit-operator-field-requires t)
+    (λ c κs. search needs)
     (visit-operator-visit-requires t)
-    (visit-operator-enum-known-outcome t)
-    (visit-operator-enum-told t)
-    (visit-operator-same-length t)
+    (λ c. search needs)
+    (λ c. search needs)
+    (λ c. search needs)
     (visit-operator-returns t)
-    (visit-operator-enum-known-value t)
-    (visit-operator-enum-told-2 t)
-    (visit-operator-ended-requires t)
-    (visit-operator-same-length-2 t)
+    (λ c. search needs)
+    (λ c. search needs)
+    (λ c κs. search needs)
+    (λ c. search needs)
     (visit-operator-returns-2 t)
-    (visit-operator-field-requires-2 t)
+    (λ c κs. search needs)
     (visit-operator-visit-requires-2 t)
-    (visit-operator-enum-known-outcome-2 t)
-    (visit-operator-enum-told-3 t)
-    (visit-operator-same-length-3 t)
+    (λ c. search needs)
+    (λ c. search needs)
+    (λ c. search needs)
     (visit-operator-returns-3 t)
-    (visit-operator-enum-known-value-2 t)
-    (visit-operator-enum-told-4 t)
-    (visit-operator-ended-requires-2 t)
-    (visit-operator-same-length-4 t)
+    (λ c. search needs)
+    (λ c. search needs)
+    (λ c κs. search needs)
+    (λ c. search needs)
     (visit-operator-returns-4 t)
-    (visit-operator-field-requires-3 t)
-    (visit-operator-compute-requires t)
-    (visit-operator-given-requires t)
+    (λ c κs. search needs)
+    (λ c κs. search needs)
+    (λ c κs. search needs)
     (visit-operator-same-length-5 t)
     (visit-operator-returns-5 t))
     λ t. visit-select-lts.spec (visit-select-claims t) (visit-select-at t) visit-select.Post
-    (visit-select-field-requires t)
+    (λ c κs. search needs)
     (visit-select-visit-requires t)
-    (visit-select-enum-known-outcome t)
-    (visit-select-enum-told t)
-    (visit-select-same-length t)
+    (λ c. search needs)
+    (λ c. search needs)
+    (λ c. search needs)
     (visit-select-returns t)
-    (visit-select-enum-known-value t)
-    (visit-select-enum-told-2 t)
-    (visit-select-ended-requires t)
-    (visit-select-same-length-2 t)
+    (λ c. search needs)
+    (λ c. search needs)
+    (λ c κs. search needs)
+    (λ c. search needs)
     (visit-select-returns-2 t)
-    (visit-select-field-requires-2 t)
+    (λ c κs. search needs)
     (visit-select-node-record-requires t)
-    (visit-select-field-requires-3 t)
-    (visit-select-tag-requires t)
-    (visit-select-same-length-3 t)
+    (λ c κs. search needs)
+    (λ c κs. search needs)
+    (λ c. search needs)
     (visit-select-returns-3 t)
-    (visit-select-sub-field-after t)
-    (visit-select-field-after-requires t)
-    (visit-select-enum-known-found t)
-    (visit-select-enum-told-3 t)
-    (visit-select-ended-requires-2 t)
-    (visit-select-same-length-4 t)
+    (λ c. search needs)
+    (λ c κs. search needs)
+    (λ c. search needs)
+    (λ c. search needs)
+    (λ c κs. search needs)
+    (λ c. search needs)
     (visit-select-returns-4 t)
     (visit-select-visit-requires-2 t)
-    (visit-select-same-length-5 t)
+    (λ c. search needs)
     (visit-select-returns-5 t)
