@@ -58,6 +58,7 @@ unfolding
     Evaluator.numberDue Evaluator.constructorDue Evaluator.clauseDue Evaluator.closureDue Evaluator.endBy
     Evaluator.endWithin Evaluator.ownWithin
     Sheets.S Sheets.unusedDivision Sheets.divisionByZero Sheets.headOfOnes Sheets.negativeDivision Sheets.overflow
-    Sheets.loop Sheets.nestedCalls Sheets.boxes Sheets.bytesOfS Sheets.translationOfS
-    Starred.answering Starred.trial Starred.starred
+    Sheets.loop Sheets.nestedCalls Sheets.boxes Sheets.callerArgument Sheets.builtField Sheets.bytesOfS
+    Sheets.translationOfS
+    Starred.answering Starred.trialWith Starred.trial Starred.starred
 opened = tt

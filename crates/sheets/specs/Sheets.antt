@@ -1,4 +1,4 @@
--- The starred sheets of document 01, "Sheets to try", as bytes, and two more; then S and its translation byte by byte. Above
+-- The starred sheets of document 01, "Sheets to try", as bytes, and four more; then S and its translation byte by byte. Above
 -- each sheet stand its functions, whose nodes follow in that order. A number's two fields are its lower and its upper 16 bits.
 use Prim.Native.Nat.{ℕ}
 use mathlib.Core.List.{List, [], _∷_, _++_}
@@ -148,6 +148,46 @@ boxes =
     ++ recordWords parameter (0 ∷ [])
     ++ recordWords patternVariable (0 ∷ [])
     ++ recordWords caseOf (9 ∷ 0 ∷ 10 ∷ []))
+
+-- result = f(5)
+-- f(a) = g(9, a)
+-- g(p, q) = q
+-- in the callee's setting the argument `a` of q would be p's: 9
+unfoldable pub callerArgument : List ℕ
+callerArgument =
+    bytesOf
+    (recordWords head (0 ∷ 0 ∷ 3 ∷ 6 ∷ [])
+    ++ recordWords function (0 ∷ 2 ∷ [])
+    ++ recordWords function (1 ∷ 3 ∷ [])
+    ++ recordWords function (2 ∷ 1 ∷ [])
+    ++ recordWords number (5 ∷ 0 ∷ [])
+    ++ recordWords call (1 ∷ 0 ∷ [])
+    ++ recordWords number (9 ∷ 0 ∷ [])
+    ++ recordWords parameter (0 ∷ [])
+    ++ recordWords call (2 ∷ 2 ∷ 3 ∷ [])
+    ++ recordWords parameter (1 ∷ []))
+
+-- result = f(5)
+-- f(a) = h(9, C(a))
+-- h(p, l) = case l of C(x) -> x
+-- in the selecting setting the field `a` of C would be p's: 9
+unfoldable pub builtField : List ℕ
+builtField =
+    bytesOf
+    (recordWords head (0 ∷ 1 ∷ 3 ∷ 9 ∷ [])
+    ++ recordWords constructor (1 ∷ [])
+    ++ recordWords function (0 ∷ 2 ∷ [])
+    ++ recordWords function (1 ∷ 4 ∷ [])
+    ++ recordWords function (2 ∷ 3 ∷ [])
+    ++ recordWords number (5 ∷ 0 ∷ [])
+    ++ recordWords call (1 ∷ 0 ∷ [])
+    ++ recordWords number (9 ∷ 0 ∷ [])
+    ++ recordWords parameter (0 ∷ [])
+    ++ recordWords build (0 ∷ 3 ∷ [])
+    ++ recordWords call (2 ∷ 2 ∷ 4 ∷ [])
+    ++ recordWords parameter (1 ∷ [])
+    ++ recordWords patternVariable (0 ∷ [])
+    ++ recordWords caseOf (6 ∷ 0 ∷ 7 ∷ []))
 
 -- S's 92 bytes, a record to a line
 unfoldable pub bytesOfS : List ℕ

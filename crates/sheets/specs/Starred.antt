@@ -3,16 +3,16 @@ use mathlib.Core.Path.{_≡_}
 use Prim.Native.Nat.{ℕ, suc, _*_}
 use mathlib.Core.List.{List, [], _∷_, List·Memᴰ}
 use mathlib.Core.Option.{Option, none, some}
-use lib.IntN.{pos, negsuc}
+use lib.IntN.{ℤ, pos, negsuc}
 use lib.ListN.{length, replicate}
-use Rattle.definitions.specs.Numbers.{noStep, noNesting, noCell, zeroDivisor}
+use Rattle.definitions.specs.Numbers.{badReadings, badAllowance, noStep, noNesting, noCell, zeroDivisor}
 use Rattle.definitions.specs.Layouts.{itemRecord}
 use Rattle.definitions.specs.NodeFields.{fieldsFrom}
 use Rattle.definitions.specs.Outcomes.{Outcome, numberOutcome, endOutcome}
 use Rattle.definitions.specs.Translate.{translation}
 use Rattle.definitions.specs.Run.{Answer}
 use Rattle.definitions.specs.declared.Layout.the-variants.{Translation}
-use Rattle.sheets.specs.Sheets.{S, unusedDivision, divisionByZero, headOfOnes, negativeDivision, overflow, loop, nestedCalls, boxes, bytesOfS, translationOfS}
+use Rattle.sheets.specs.Sheets.{S, unusedDivision, divisionByZero, headOfOnes, negativeDivision, overflow, loop, nestedCalls, boxes, callerArgument, builtField, bytesOfS, translationOfS}
 use Rattle.sheets.specs.Trial.{Trial, Holds}
 
 -- an outcome with its value after a number of steps, with a number of cells made; it is no constructor
@@ -20,12 +20,12 @@ unfoldable pub answering : Outcome → ℕ → ℕ → Answer
 answering o steps cells =
     record { outcome = o .outcome; value = o .value; steps = steps; node = 0; context = 0; cells = cells }
 
--- a trial without readings, with steps, nesting and cells allowed; lent are four bytes for each cell and four more, all 170
-unfoldable pub trial : List ℕ → ℕ → ℕ → ℕ → Answer → List ℕ → Option Outcome → Trial
-trial sheet steps nesting cells answer made own =
+-- a trial with readings, and steps, nesting and cells allowed; lent are four bytes for each cell and four more, all 170
+unfoldable pub trialWith : List ℤ → List ℕ → ℕ → ℕ → ℕ → Answer → List ℕ → Option Outcome → Trial
+trialWith readings sheet steps nesting cells answer made own =
     record {
       sheet = sheet;
-      readings = [];
+      readings = readings;
       steps = steps;
       nesting = nesting;
       cells = cells;
@@ -35,7 +35,11 @@ trial sheet steps nesting cells answer made own =
       own = own;
     }
 
--- the starred lines in the document's order, with its words above each; the last three are more than it asks for
+-- a trial without readings
+unfoldable pub trial : List ℕ → ℕ → ℕ → ℕ → Answer → List ℕ → Option Outcome → Trial
+trial = trialWith []
+
+-- the starred lines in the document's order, with its words above each; the last seven are more than it asks for
 unfoldable pub starred : List Trial
 starred =
     -- S: 10, 13 steps, 2 cells
@@ -83,6 +87,18 @@ starred =
     (answering (numberOutcome (pos 5)) 23 6)
     (0 ∷ 0 ∷ 0 ∷ 0 ∷ 1 ∷ 0 ∷ 0 ∷ 0 ∷ 1 ∷ 0 ∷ 0 ∷ 0 ∷ 1 ∷ 0 ∷ 0 ∷ 0 ∷ 0 ∷ 0 ∷ 0 ∷ 0 ∷ 0 ∷ 0 ∷ 0 ∷ 0 ∷ [])
     (some (numberOutcome (pos 5)))
+    -- f(5), f(a) = g(9, a), g(p, q) = q: 5
+    ∷ trial callerArgument 1000 100 100
+    (answering (numberOutcome (pos 5)) 5 2) (0 ∷ 0 ∷ 0 ∷ 0 ∷ 0 ∷ 0 ∷ 1 ∷ 0 ∷ []) (some (numberOutcome (pos 5)))
+    -- f(5), f(a) = h(9, C(a)), h(p, l) = case l of C(x) -> x: 5
+    ∷ trial builtField 1000 100 100
+    (answering (numberOutcome (pos 5)) 10 2) (0 ∷ 0 ∷ 0 ∷ 0 ∷ 0 ∷ 0 ∷ 1 ∷ 0 ∷ []) (some (numberOutcome (pos 5)))
+    -- S with a reading too many and nesting 0: 9, which comes before 10
+    ∷ trialWith (pos 1 ∷ []) S 1000 0 100
+    (answering (endOutcome badReadings) 0 0) [] (some (numberOutcome (pos 10)))
+    -- S with nesting 0: 10
+    ∷ trial S 1000 0 100
+    (answering (endOutcome badAllowance) 0 0) [] (some (numberOutcome (pos 10)))
     ∷ []
 
 -- "The starred sheets are to be proved of the rules by one statement over a list"; "S: .. 92 bytes; 96 translated; the formal
