@@ -1,15 +1,30 @@
-// Files written and changed as the text of the trials says, and outputs.
+// Files written and changed as the text of the trials says, outputs, and readings.
+ghost use Prim.Native.Nat.{_≤_};
+use crate::text::COMMA;
 use crate::text::after;
 use crate::text::number;
-use crate::text::number_after;
 use crate::text::number_starts;
-use crate::text::numbers_end;
+use crate::text::signed;
+use crate::text::until;
+use crate::text::word;
 use file_writer::Space;
 use file_writer::change;
 use file_writer::put;
 
 // How many bytes a space has.
 pub(crate) const SPACE_BYTES: usize = 40961;
+
+// How many readings an entry can have: a sheet has at most 32.
+pub(crate) const READINGS_MOST: usize = 40;
+
+pub(crate) type Readings = [i32; READINGS_MOST];
+
+// A size, or the greatest where it is above that.
+pub(crate) fn within(size: usize, most: usize) -> usize
+    ensures { λ r. ⌜ r ≤ most ⌝ }
+{
+    if size < most { size } else { most }
+}
 
 // What a file and an output hold before anything is written: no two places near each other have the same byte.
 pub(crate) fn fill(out: &mut Space) {
@@ -20,6 +35,13 @@ pub(crate) fn fill(out: &mut Space) {
     }
 }
 
+// A space that holds just that.
+pub(crate) fn filled() -> Space {
+    let mut space = [0u8; SPACE_BYTES];
+    fill(&mut space);
+    space
+}
+
 // A word at a turn, from 0: it grows by its step from turn to turn, modulo 65,536.
 fn at_turn(word: u16, step: u16, turn: u16) -> u16 {
     ((word as u64 + (step as u64) * (turn as u64) % 65536) % 65536) as u16
@@ -27,13 +49,13 @@ fn at_turn(word: u16, step: u16, turn: u16) -> u16 {
 
 // Writes one turn of an entry's words, and answers the place after them.
 fn put_turn(text: &[u8], from: usize, turn: u16, file: &mut Space, at: usize) -> usize {
-    let end = numbers_end(text, from);
+    let end = until(text, from, COMMA);
     let mut next = at;
     let mut i = from;
     while i < end {
         if number_starts(text, i) {
-            let word = at_turn(number(text, i), number_after(text, i, b'+'), turn);
-            next = put(file, next, word);
+            let grown = at_turn(word(text, i), word(text, after(text, i, b'+')), turn);
+            next = put(file, next, grown);
         }
         i += 1;
     }
@@ -44,7 +66,7 @@ fn put_turn(text: &[u8], from: usize, turn: u16, file: &mut Space, at: usize) ->
 fn turns(text: &[u8], from: usize) -> u16 {
     if from < text.len() {
         if text[from] == b'x' {
-            return number(text, from + 1);
+            return word(text, from + 1);
         }
     }
     1
@@ -62,11 +84,13 @@ pub(crate) fn put_entry(text: &[u8], from: usize, file: &mut Space, at: usize) -
     next
 }
 
-// Copies a file.
-pub(crate) fn copy(from: &Space, to: &mut Space) {
+// Copies the first `size` bytes of a file.
+pub(crate) fn copy(from: &Space, size: usize, to: &mut Space) {
     let mut i: usize = 0;
     while i < SPACE_BYTES {
-        to[i] = from[i];
+        if i < size {
+            to[i] = from[i];
+        }
         i += 1;
     }
 }
@@ -74,16 +98,38 @@ pub(crate) fn copy(from: &Space, to: &mut Space) {
 // Makes the changes that an entry lists: `r.j=w` sets word `j` of record `r`, of which word 0 is the length and word 1 the
 // kind. A number that no dot follows is no change.
 pub(crate) fn change_words(text: &[u8], from: usize, file: &mut Space) {
-    let end = numbers_end(text, from);
+    let end = until(text, from, COMMA);
     let mut i = from;
     while i < end {
         if number_starts(text, i) {
             let j = after(text, i, b'.');
             if j < text.len() {
                 let record = number(text, i) as usize;
-                change(file, record, number(text, j), number_after(text, j, b'='));
+                change(
+                    file,
+                    record,
+                    word(text, j),
+                    word(text, after(text, j, b'=')),
+                );
             }
         }
         i += 1;
     }
+}
+
+// Puts the readings that an entry lists after a bar, and answers how many they are.
+pub(crate) fn put_readings(text: &[u8], from: usize, readings: &mut Readings) -> usize {
+    let end = until(text, from, COMMA);
+    let mut count: usize = 0;
+    let mut i = until(text, from, b'|');
+    while i < end {
+        if number_starts(text, i) {
+            if count < READINGS_MOST {
+                readings[count] = signed(text, i);
+                count += 1;
+            }
+        }
+        i += 1;
+    }
+    count
 }

@@ -1,6 +1,6 @@
-// The readers and the translator on the files that standard input lists.
+// The readers, the translator, the run and the context listing on the files that standard input lists.
 //
-// The file `stdin` beside src/ has the trials; the file `stdout` has what each answers, worked out by hand from document 01.
+// The file `stdin` beside src/ has the trials; the file `stdout` has what each should answer by document 01.
 // A line of `stdin` does what its first byte says, and goes on over the lines after it that begin with a blank:
 //   =  a new trial, or trials of one file, and its name; no word is written yet
 //   -  a heading
@@ -8,12 +8,21 @@
 //   t  words of the translation's file
 //   S  the sheet's file is read: how many bytes of it, and the words that are changed for this trial, as `r.j=w`
 //   T  the same with the translation's file
+//   c  words of the cells that runs should make, or that are listed: for each cell its label and the cell before
 //   r  the sheet is translated: how many bytes of it, and into how many bytes of output; the translation's file is expected
-// Words after `xN` are written N times, and a word `w+k` grows by k from turn to turn. What follows a comma says what a trial
-// is. Any other line is a comment. At most 65,536 bytes of `stdin` are read. The interpreter with which `rt try` begins ends at
-// its limit of steps, and the compiled runs go through.
+//   j  the sheet is translated and run, in one call and in two: steps, nesting, cells, bytes lent for cells, bytes of the sheet,
+//      bytes of output, changes as above, and after a bar the readings
+//   u  the translation is run: steps, nesting, cells, bytes lent for cells, bytes of the translation, changes, and the readings
+//   l  a context is listed: the cell, bytes of cells, bytes of output
+// A run shows its answer's record of kind 64. As many cells as it made are to be those of `c`, and all bytes past them, and those
+// of the output past the translation, are to be as they were before; where the run is refused, all bytes of both are.
+// Words after `xN` are written N times, and a word `w+k` grows by k from turn to turn. A reading has a minus before it where it
+// is negative. What follows a comma says what a trial is. Any other line is a comment. At most 65,536 bytes of `stdin` are read.
+// The interpreter with which `rt try` begins ends at its limit of steps, and the compiled runs go through.
 mod files;
+mod listing_trial;
 mod reader_trial;
+mod run_trial;
 mod shown;
 mod text;
 mod translator_trial;
@@ -21,19 +30,22 @@ mod translator_trial;
 use crate::files::SPACE_BYTES;
 use crate::files::fill;
 use crate::files::put_entry;
+use crate::listing_trial::try_listing;
 use crate::reader_trial::try_reader;
-use crate::shown::show_entry;
+use crate::run_trial::try_joined;
+use crate::run_trial::try_run;
+use crate::shown::show_named;
 use crate::text::line_starts;
-use crate::text::number;
-use crate::text::number_after;
+use crate::text::numbered;
 use crate::translator_trial::try_translator;
 use definitions::Layout;
 use file_writer::Space;
 
-// How many bytes are written of the sheet and of the translation.
+// How many bytes are written of the sheet, of the translation and of the cells.
 struct Sizes {
     sheet: usize,
     translation: usize,
+    cells: usize,
 }
 
 // Carries out an entry that writes files.
@@ -44,13 +56,16 @@ fn written(
     sizes: Sizes,
     sheet: &mut Space,
     translation: &mut Space,
+    cells: &mut Space,
 ) -> Sizes {
     if letter == b'=' {
         fill(sheet);
         fill(translation);
+        fill(cells);
         return Sizes {
             sheet: 0,
             translation: 0,
+            cells: 0,
         };
     }
     if letter == b's' {
@@ -67,17 +82,31 @@ fn written(
             ..sizes
         };
     }
+    if letter == b'c' {
+        let size = put_entry(text, from, cells, sizes.cells);
+        return Sizes {
+            cells: size,
+            ..sizes
+        };
+    }
     sizes
 }
 
 // Carries out an entry that shows what is tried, or tries it: each kind of trial is a branch here and a file of its own.
-fn tried(text: &[u8], letter: u8, from: usize, sizes: Sizes, sheet: &Space, translation: &Space) {
+fn tried(
+    text: &[u8],
+    letter: u8,
+    from: usize,
+    sizes: Sizes,
+    sheet: &Space,
+    translation: &Space,
+    cells: &Space,
+) {
     if letter == b'=' {
-        show_entry(text, from);
+        show_named(b"", text, from, b"\n");
     }
     if letter == b'-' {
-        io::write_all(1, b"- ");
-        show_entry(text, from);
+        show_named(b"- ", text, from, b"\n");
     }
     if letter == b'S' {
         try_reader(text, from, Layout::Sheet, sheet);
@@ -86,9 +115,18 @@ fn tried(text: &[u8], letter: u8, from: usize, sizes: Sizes, sheet: &Space, tran
         try_reader(text, from, Layout::Translation, translation);
     }
     if letter == b'r' {
-        let size = number(text, from) as usize;
-        let room = number_after(text, from, b' ') as usize;
+        let size = numbered(text, from, 0) as usize;
+        let room = numbered(text, from, 1) as usize;
         try_translator(sheet, size, room, translation, sizes.translation);
+    }
+    if letter == b'j' {
+        try_joined(text, from, sheet, cells);
+    }
+    if letter == b'u' {
+        try_run(text, from, translation, cells);
+    }
+    if letter == b'l' {
+        try_listing(text, from, cells);
     }
 }
 
@@ -99,6 +137,7 @@ fn entry(
     sizes: Sizes,
     sheet: &mut Space,
     translation: &mut Space,
+    cells: &mut Space,
 ) -> Sizes {
     if text.len() <= at {
         return sizes;
@@ -107,8 +146,8 @@ fn entry(
         return sizes;
     }
     let letter = text[at];
-    let after = written(text, letter, at + 2, sizes, sheet, translation);
-    tried(text, letter, at + 2, after, sheet, translation);
+    let after = written(text, letter, at + 2, sizes, sheet, translation, cells);
+    tried(text, letter, at + 2, after, sheet, translation, cells);
     after
 }
 
@@ -117,14 +156,16 @@ fn main() {
     let size = io::read_full(0, &mut text);
     let mut sheet = [0u8; SPACE_BYTES];
     let mut translation = [0u8; SPACE_BYTES];
+    let mut cells = [0u8; SPACE_BYTES];
     let mut sizes = Sizes {
         sheet: 0,
         translation: 0,
+        cells: 0,
     };
     let mut at: usize = 0;
     while at < size {
         if line_starts(&text, at) {
-            sizes = entry(&text, at, sizes, &mut sheet, &mut translation);
+            sizes = entry(&text, at, sizes, &mut sheet, &mut translation, &mut cells);
         }
         at += 1;
     }

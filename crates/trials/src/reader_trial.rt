@@ -2,12 +2,14 @@
 use crate::files::SPACE_BYTES;
 use crate::files::change_words;
 use crate::files::copy;
+use crate::files::within;
 use crate::shown::show_number;
 use crate::shown::show_part;
 use crate::shown::show_refusal;
+use crate::text::COMMA;
 use crate::text::entry_end;
 use crate::text::number;
-use crate::text::numbers_end;
+use crate::text::until;
 use definitions::Layout;
 use definitions::Verdict;
 use file_writer::Space;
@@ -30,20 +32,11 @@ fn verdict(layout: Layout, file: &[u8]) -> Verdict {
     }
 }
 
-// The same of the first `size` bytes. Where there are not as many, the answer is a number that no refusal has.
-fn verdict_of(layout: Layout, file: &[u8], size: usize) -> Verdict {
-    if size <= file.len() {
-        return verdict(layout, &file[0..size]);
-    }
-    Verdict::Refused {
-        number: 0,
-        place: 0,
-    }
-}
-
-// The same with a whole space.
-fn verdict_in(layout: Layout, file: &Space, size: usize) -> Verdict {
-    verdict_of(layout, file, size)
+// The same of the first `size` bytes.
+fn verdict_of(layout: Layout, file: &Space, size: usize) -> Verdict {
+    let bytes: &[u8] = file;
+    let count = within(size, bytes.len());
+    verdict(layout, &bytes[0..count])
 }
 
 // The end of a line.
@@ -62,11 +55,11 @@ fn show(verdict: Verdict) {
 // A trial. The entry has the number of bytes that are read, the changes, and after a comma what the trial is.
 pub(crate) fn try_reader(text: &[u8], from: usize, layout: Layout, base: &Space) {
     let mut file = [0u8; SPACE_BYTES];
-    copy(base, &mut file);
+    copy(base, SPACE_BYTES, &mut file);
     change_words(text, from, &mut file);
     let size = number(text, from) as usize;
     show_number(b"  ", size, b" bytes");
-    show_part(text, numbers_end(text, from), entry_end(text, from));
+    show_part(text, until(text, from, COMMA), entry_end(text, from));
     io::write_all(1, b": ");
-    show(verdict_in(layout, &file, size));
+    show(verdict_of(layout, &file, size));
 }

@@ -1,5 +1,10 @@
 // What the trials write: parts of their text, numbers between words, and refusals.
 use crate::text::entry_end;
+use file_writer::Space;
+use format::bytes::word;
+use format::bytes::word32;
+use format::records::wide;
+use format::records::wide32;
 
 // A part of the text.
 pub(crate) fn show_part(text: &[u8], from: usize, end: usize) {
@@ -10,10 +15,11 @@ pub(crate) fn show_part(text: &[u8], from: usize, end: usize) {
     }
 }
 
-// An entry, as a line.
-pub(crate) fn show_entry(text: &[u8], from: usize) {
+// An entry between two words.
+pub(crate) fn show_named(before: &[u8], text: &[u8], from: usize, after: &[u8]) {
+    io::write_all(1, before);
     show_part(text, from, entry_end(text, from));
-    io::write_all(1, b"\n");
+    io::write_all(1, after);
 }
 
 // A number between two words.
@@ -27,4 +33,30 @@ pub(crate) fn show_number(before: &[u8], number: usize, after: &[u8]) {
 pub(crate) fn show_refusal(number: u16, place: usize) {
     show_number(b"refused ", number as usize, b"");
     show_number(b" place ", place, b"");
+}
+
+// One of two words, by whether something holds.
+pub(crate) fn show_whether(holds: bool, good: &[u8], bad: &[u8]) {
+    if holds {
+        io::write_all(1, good);
+    } else {
+        io::write_all(1, bad);
+    }
+}
+
+// The fields of an answer's record. Its length and its kind are not shown where they are 20 and 64.
+pub(crate) fn show_record(record: &Space) {
+    show_whether(word(record, 0) == 20, b"", b"WRONG LENGTH ");
+    show_whether(word(record, 2) == 64, b"", b"WRONG KIND ");
+    show_number(b"outcome ", wide(word(record, 4)), b"");
+    let bits = wide32(word32(record, 6));
+    if bits < 0x8000_0000 {
+        show_number(b" value ", bits, b"");
+    } else {
+        show_number(b" value -", 0x1_0000_0000 - bits, b"");
+    }
+    show_number(b" steps ", wide32(word32(record, 10)), b"");
+    show_number(b" node ", wide(word(record, 14)), b"");
+    show_number(b" context ", wide(word(record, 16)), b"");
+    show_number(b" cells ", wide(word(record, 18)), b"");
 }

@@ -1,18 +1,24 @@
 // The text of the trials: entries, and the numbers in them. An entry begins at the start of a line with its letter, and goes
-// on over the lines that begin with a blank. Its numbers stand before its first comma.
+// on over the lines that begin with a blank.
+use operators::bits::number_of;
+use std::num::wrapping_sub_u32;
 
 const LINE_END: u8 = b'\n';
 
 const BLANK: u8 = b' ';
 
-const COMMA: u8 = b',';
+// The numbers of an entry end at a comma, or with it.
+pub(crate) const COMMA: u8 = b',';
+
+const MINUS: u8 = b'-';
 
 fn is_digit(byte: u8) -> bool {
     b'0' <= byte && byte <= b'9'
 }
 
-fn is_space(byte: u8) -> bool {
-    byte == BLANK || byte == LINE_END
+// Whether a byte can stand before a number.
+fn is_before(byte: u8) -> bool {
+    byte == BLANK || byte == LINE_END || byte == MINUS
 }
 
 // Whether the text has a byte at a place.
@@ -50,12 +56,12 @@ pub(crate) fn entry_end(text: &[u8], from: usize) -> usize {
     at
 }
 
-// Where the numbers of the entry that holds a place end: at a comma, or with the entry.
-pub(crate) fn numbers_end(text: &[u8], from: usize) -> usize {
+// Where a byte first stands in the entry that holds a place; else the entry's end.
+pub(crate) fn until(text: &[u8], from: usize, byte: u8) -> usize {
     let end = entry_end(text, from);
     let mut at = from;
     while at < end {
-        if has(text, at, COMMA) {
+        if has(text, at, byte) {
             return at;
         }
         at += 1;
@@ -63,19 +69,19 @@ pub(crate) fn numbers_end(text: &[u8], from: usize) -> usize {
     end
 }
 
-// Whether a number of its own starts at a place: a digit after a space.
+// Whether a number of its own starts at a place: a digit after a space or a minus.
 pub(crate) fn number_starts(text: &[u8], at: usize) -> bool {
     if at < text.len() {
         if 0 < at {
-            return is_space(text[at - 1]) && is_digit(text[at]);
+            return is_before(text[at - 1]) && is_digit(text[at]);
         }
     }
     false
 }
 
-// A number with one digit more; what is above 16 bits is dropped. The lower half of a digit's byte is its value.
-fn with_digit(number: u16, byte: u8) -> u16 {
-    ((10 * (number as u32) + (byte % 16) as u32) % 65536) as u16
+// A number with one digit more; what is above 32 bits is dropped. The lower half of a digit's byte is its value.
+fn with_digit(number: u32, byte: u8) -> u32 {
+    ((10 * (number as u64) + (byte % 16) as u64) % 0x1_0000_0000) as u32
 }
 
 // The place after the digits that start at a place.
@@ -91,9 +97,9 @@ fn after_digits(text: &[u8], from: usize) -> usize {
 }
 
 // The number whose digits start at a place, 0 where there are none.
-pub(crate) fn number(text: &[u8], from: usize) -> u16 {
+pub(crate) fn number(text: &[u8], from: usize) -> u32 {
     let end = after_digits(text, from);
-    let mut value: u16 = 0;
+    let mut value: u32 = 0;
     let mut at = from;
     while at < end {
         if at < text.len() {
@@ -115,7 +121,40 @@ pub(crate) fn after(text: &[u8], from: usize, byte: u8) -> usize {
     text.len()
 }
 
-// The number that starts there; 0 where there is none.
-pub(crate) fn number_after(text: &[u8], from: usize, byte: u8) -> u16 {
-    number(text, after(text, from, byte))
+// The word whose digits start at a place; what is above 16 bits is dropped.
+pub(crate) fn word(text: &[u8], from: usize) -> u16 {
+    (number(text, from) % 65536) as u16
+}
+
+// Where number `k` of an entry starts, from 0; the end of the text where it has not as many.
+pub(crate) fn place(text: &[u8], from: usize, k: u32) -> usize {
+    let end = until(text, from, COMMA);
+    let mut left = k;
+    let mut at = from;
+    while at < end {
+        if number_starts(text, at) {
+            if left == 0 {
+                return at;
+            }
+            left -= 1;
+        }
+        at += 1;
+    }
+    text.len()
+}
+
+// Number `k` of an entry, 0 where it has not as many.
+pub(crate) fn numbered(text: &[u8], from: usize, k: u32) -> u32 {
+    number(text, place(text, from, k))
+}
+
+// The number whose digits start at a place, negative where a minus stands before them.
+pub(crate) fn signed(text: &[u8], at: usize) -> i32 {
+    let bits = number(text, at);
+    if 0 < at {
+        if has(text, at - 1, MINUS) {
+            return number_of(wrapping_sub_u32(0, bits));
+        }
+    }
+    number_of(bits)
 }

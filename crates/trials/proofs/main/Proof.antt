@@ -5,10 +5,10 @@ use Rattle.trials.proofs.main.Statement.{statement}
 use Rattle.trials.proofs.main.Tie as tie
 
 abbrev Inv-loop : tie.InvT-loop
-Inv-loop text size sheet₀ translation₀ sizes₀ at₀ sheet translation sizes at = at ≤ size
+Inv-loop text size sheet₀ translation₀ cells₀ sizes₀ at₀ sheet translation cells sizes at = at ≤ size
 
 abbrev μ-loop : tie.MeasureT-loop
-μ-loop text size sheet₀ translation₀ sizes₀ at₀ sheet translation sizes at = size - at
+μ-loop text size sheet₀ translation₀ cells₀ sizes₀ at₀ sheet translation cells sizes at = size - at
 
 large-buffer-requires : tie.Need-large-buffer-requires Inv-loop μ-loop
 large-buffer-requires c κs = search needs

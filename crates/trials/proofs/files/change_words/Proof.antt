@@ -10,8 +10,8 @@ Inv-loop text from file₀ end i₀ file i = from ≤ i
 abbrev μ-loop : tie.MeasureT-loop
 μ-loop text from file₀ end i₀ file i = end - i
 
-numbers-end-requires : tie.Need-numbers-end-requires Inv-loop μ-loop
-numbers-end-requires c κs = search needs
+until-requires : tie.Need-until-requires Inv-loop μ-loop
+until-requires c κs = search needs
 
 loop-holds : tie.Need-loop-holds Inv-loop μ-loop
 loop-holds c = search needs
@@ -28,11 +28,14 @@ number-requires c κs = search needs
 cast-record : tie.Need-cast-record Inv-loop μ-loop
 cast-record c = search needs
 
-number-requires-2 : tie.Need-number-requires-2 Inv-loop μ-loop
-number-requires-2 c κs = search needs
+word-requires : tie.Need-word-requires Inv-loop μ-loop
+word-requires c κs = search needs
 
-number-after-requires : tie.Need-number-after-requires Inv-loop μ-loop
-number-after-requires c κs = search needs
+after-requires-2 : tie.Need-after-requires-2 Inv-loop μ-loop
+after-requires-2 c κs = search needs
+
+word-requires-2 : tie.Need-word-requires-2 Inv-loop μ-loop
+word-requires-2 c κs = search needs
 
 change-requires : tie.Need-change-requires Inv-loop μ-loop
 change-requires c κs = search needs
@@ -55,14 +58,15 @@ change-words-spec =
     (tie.spec
     Inv-loop
     μ-loop
-    numbers-end-requires
+    until-requires
     loop-holds
     number-starts-requires
     after-requires
     number-requires
     cast-record
-    number-requires-2
-    number-after-requires
+    word-requires
+    after-requires-2
+    word-requires-2
     change-requires
     add-i
     loop-less

@@ -5,10 +5,10 @@ use Rattle.trials.proofs.files.copy.Statement.{statement}
 use Rattle.trials.proofs.files.copy.Tie as tie
 
 abbrev Inv-loop : tie.InvT-loop
-Inv-loop from to₀ i₀ to i = i ≤ 40961
+Inv-loop from size to₀ i₀ to i = i ≤ 40961
 
 abbrev μ-loop : tie.MeasureT-loop
-μ-loop from to₀ i₀ to i = 40961 - i
+μ-loop from size to₀ i₀ to i = 40961 - i
 
 loop-holds : tie.Need-loop-holds Inv-loop μ-loop
 loop-holds c = search needs

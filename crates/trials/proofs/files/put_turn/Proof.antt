@@ -10,8 +10,8 @@ Inv-loop text from turn file₀ at end next₀ i₀ file next i = from ≤ i
 abbrev μ-loop : tie.MeasureT-loop
 μ-loop text from turn file₀ at end next₀ i₀ file next i = end - i
 
-numbers-end-requires : tie.Need-numbers-end-requires Inv-loop μ-loop
-numbers-end-requires c κs = search needs
+until-requires : tie.Need-until-requires Inv-loop μ-loop
+until-requires c κs = search needs
 
 loop-holds : tie.Need-loop-holds Inv-loop μ-loop
 loop-holds c = search needs
@@ -19,11 +19,14 @@ loop-holds c = search needs
 number-starts-requires : tie.Need-number-starts-requires Inv-loop μ-loop
 number-starts-requires c κs = search needs
 
-number-requires : tie.Need-number-requires Inv-loop μ-loop
-number-requires c κs = search needs
+word-requires : tie.Need-word-requires Inv-loop μ-loop
+word-requires c κs = search needs
 
-number-after-requires : tie.Need-number-after-requires Inv-loop μ-loop
-number-after-requires c κs = search needs
+after-requires : tie.Need-after-requires Inv-loop μ-loop
+after-requires c κs = search needs
+
+word-requires-2 : tie.Need-word-requires-2 Inv-loop μ-loop
+word-requires-2 c κs = search needs
 
 at-turn-requires : tie.Need-at-turn-requires Inv-loop μ-loop
 at-turn-requires c κs = search needs
@@ -49,11 +52,12 @@ put-turn-spec =
     (tie.spec
     Inv-loop
     μ-loop
-    numbers-end-requires
+    until-requires
     loop-holds
     number-starts-requires
-    number-requires
-    number-after-requires
+    word-requires
+    after-requires
+    word-requires-2
     at-turn-requires
     put-requires
     add-i

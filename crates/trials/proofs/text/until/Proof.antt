@@ -1,14 +1,14 @@
--- `trials::text::numbers_end` is safe and ends: the bytes left of the entry fall.
+-- `trials::text::until` is safe and ends: the bytes left of the entry fall.
 use borrow.Author.Needs.{needs}
 use Prim.Native.Nat.{_≤_, _-_}
-use Rattle.trials.proofs.text.numbers_end.Statement.{statement}
-use Rattle.trials.proofs.text.numbers_end.Tie as tie
+use Rattle.trials.proofs.text.until.Statement.{statement}
+use Rattle.trials.proofs.text.until.Tie as tie
 
 abbrev Inv-loop : tie.InvT-loop
-Inv-loop text from end at₀ at = from ≤ at
+Inv-loop text from byte end at₀ at = from ≤ at
 
 abbrev μ-loop : tie.MeasureT-loop
-μ-loop text from end at₀ at = end - at
+μ-loop text from byte end at₀ at = end - at
 
 entry-end-requires : tie.Need-entry-end-requires Inv-loop μ-loop
 entry-end-requires c κs = search needs
@@ -34,8 +34,8 @@ loop-again c = search needs
 returns-2 : tie.Need-returns-2 Inv-loop μ-loop
 returns-2 c = search needs
 
-pub numbers-end-spec : {M : Type 1} → statement M
-numbers-end-spec =
+pub until-spec : {M : Type 1} → statement M
+until-spec =
     tie.close
     (tie.spec
     Inv-loop

@@ -1,0 +1,193 @@
+// A trial of a run: a line says what was answered, by the fields of the answer's record, and whether the lent bytes are what
+// they should be.
+use crate::files::READINGS_MOST;
+use crate::files::Readings;
+use crate::files::SPACE_BYTES;
+use crate::files::change_words;
+use crate::files::copy;
+use crate::files::filled;
+use crate::files::put_readings;
+use crate::files::within;
+use crate::shown::show_named;
+use crate::shown::show_record;
+use crate::shown::show_whether;
+use crate::text::numbered;
+use crate::translator_trial::agree;
+use crate::translator_trial::translated_in;
+use cells::answer::Answer;
+use cells::answer::Outcome;
+use cells::answer::refused;
+use cells::answer::write_answer;
+use file_writer::Space;
+use format::records::wide;
+use join::translate_and_run;
+use run::run;
+use translator::Translated;
+
+// What a run is given beside its file: the allowances, how many bytes are lent for cells, how many bytes the sheet and the
+// output have, and how many readings there are.
+struct Given {
+    steps: u32,
+    nesting: u32,
+    most: u32,
+    lent: usize,
+    size: usize,
+    room: usize,
+    count: usize,
+}
+
+// The first numbers of an entry, with a count of readings.
+fn read_given(text: &[u8], from: usize, count: usize) -> Given {
+    Given {
+        steps: numbered(text, from, 0),
+        nesting: numbered(text, from, 1),
+        most: numbered(text, from, 2),
+        lent: numbered(text, from, 3) as usize,
+        size: numbered(text, from, 4) as usize,
+        room: numbered(text, from, 5) as usize,
+        count,
+    }
+}
+
+// Runs the first `size` bytes of a translation's file.
+fn ran(file: &[u8], size: usize, readings: &[i32], g: Given, cells: &mut [u8]) -> Answer {
+    let bytes = within(size, file.len());
+    let values = within(g.count, readings.len());
+    let lent = within(g.lent, cells.len());
+    run(
+        &file[0..bytes],
+        &readings[0..values],
+        g.steps,
+        g.nesting,
+        g.most,
+        &mut cells[0..lent],
+    )
+}
+
+// The same with whole spaces.
+fn ran_in(file: &Space, size: usize, readings: &Readings, g: Given, cells: &mut Space) -> Answer {
+    ran(file, size, readings, g, cells)
+}
+
+// Translates and runs a sheet in one call.
+fn joined(sheet: &[u8], out: &mut [u8], readings: &[i32], g: Given, cells: &mut [u8]) -> Answer {
+    let bytes = within(g.size, sheet.len());
+    let tray = within(g.room, out.len());
+    let values = within(g.count, readings.len());
+    let lent = within(g.lent, cells.len());
+    translate_and_run(
+        &sheet[0..bytes],
+        &mut out[0..tray],
+        &readings[0..values],
+        g.steps,
+        g.nesting,
+        g.most,
+        &mut cells[0..lent],
+    )
+}
+
+// The same with whole spaces.
+fn joined_in(
+    sheet: &Space,
+    out: &mut Space,
+    readings: &Readings,
+    g: Given,
+    cells: &mut Space,
+) -> Answer {
+    joined(sheet, out, readings, g, cells)
+}
+
+// The same in two calls.
+fn in_two_calls(
+    sheet: &Space,
+    out: &mut Space,
+    readings: &Readings,
+    g: Given,
+    cells: &mut Space,
+) -> Answer {
+    let translated = translated_in(sheet, g.size, out, g.room);
+    match translated {
+        Translated::Length(n) => ran_in(out, n, readings, g, cells),
+        Translated::Refused { number, place } => refused(number, place),
+    }
+}
+
+// Whether a refused call left its output as it was before, and any other wrote what the translator alone writes.
+fn output_right(answer: Answer, out: &Space, alone: &Space) -> bool {
+    let outcome = answer.outcome;
+    if let Outcome::Refused {
+        number: _,
+        place: _,
+    } = outcome {
+        let before = filled();
+        return agree(out, &before);
+    }
+    agree(out, alone)
+}
+
+// Whether lent cells start with as many cells of the file of cells as the answer says, and past them are as they were before.
+fn cells_right(answer: Answer, cells: &Space, expected: &Space) -> bool {
+    let mut right = filled();
+    copy(expected, 4 * wide(answer.cells), &mut right);
+    agree(cells, &right)
+}
+
+// A trial of a run of a sheet, in one call and in two. The entry has the allowances, the bytes lent for cells, the sheet's
+// bytes, the output's bytes, the changes, and the readings.
+pub(crate) fn try_joined(text: &[u8], from: usize, base: &Space, expected: &Space) {
+    let mut sheet = [0u8; SPACE_BYTES];
+    copy(base, SPACE_BYTES, &mut sheet);
+    change_words(text, from, &mut sheet);
+    let mut readings = [0i32; READINGS_MOST];
+    let count = put_readings(text, from, &mut readings);
+    let g = read_given(text, from, count);
+    let mut out = filled();
+    let mut cells = filled();
+    let answer = joined_in(&sheet, &mut out, &readings, g, &mut cells);
+    let mut alone = filled();
+    let mut others = filled();
+    let second = in_two_calls(&sheet, &mut alone, &readings, g, &mut others);
+    let mut record = [0u8; SPACE_BYTES];
+    write_answer(answer, &mut record);
+    let mut other = [0u8; SPACE_BYTES];
+    write_answer(second, &mut other);
+    show_named(b"  ", text, from, b": ");
+    show_record(&record);
+    show_whether(
+        cells_right(answer, &cells, expected),
+        b", cells",
+        b", CELLS WRONG",
+    );
+    show_whether(
+        output_right(answer, &out, &alone),
+        b" and output right",
+        b", OUTPUT WRONG",
+    );
+    show_whether(
+        agree(&record, &other) && agree(&cells, &others),
+        b", the same in two calls\n",
+        b", NOT THE SAME IN TWO CALLS\n",
+    );
+}
+
+// A trial of a run of a translation. The entry has the allowances, the bytes lent for cells, the translation's bytes, the
+// changes, and the readings.
+pub(crate) fn try_run(text: &[u8], from: usize, base: &Space, expected: &Space) {
+    let mut translation = [0u8; SPACE_BYTES];
+    copy(base, SPACE_BYTES, &mut translation);
+    change_words(text, from, &mut translation);
+    let mut readings = [0i32; READINGS_MOST];
+    let count = put_readings(text, from, &mut readings);
+    let g = read_given(text, from, count);
+    let mut cells = filled();
+    let answer = ran_in(&translation, g.size, &readings, g, &mut cells);
+    let mut record = [0u8; SPACE_BYTES];
+    write_answer(answer, &mut record);
+    show_named(b"  ", text, from, b": ");
+    show_record(&record);
+    show_whether(
+        cells_right(answer, &cells, expected),
+        b", cells right\n",
+        b", CELLS WRONG\n",
+    );
+}
