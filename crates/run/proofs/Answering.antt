@@ -27,7 +27,7 @@ use Rattle.definitions.specs.declared.Verdict.the-variants as verdicts
 use Rattle.accepted.proofs.Head.{functions-least}
 use Rattle.accepted.proofs.Owners.{body-below}
 use Rattle.accepted.proofs.Checks.{translation-shape}
-use Rattle.format.specs.Index.{ReadTranslation}
+use Rattle.format.specs.Index.{Opened, ReadTranslation}
 use Rattle.cells.specs.declared.answer.Outcome.{Outcome}
 use Rattle.cells.specs.declared.answer.Outcome.the-variants as answers
 use Rattle.cells.specs.declared.answer.Answer.{Answer}
@@ -202,3 +202,6 @@ module _ (b : List ℕ) (rs : List ℤ) (steps nesting most : ℕ) (before : Lis
 -- what reading an accepted translation gives
 pub ready-by : (b : List ℕ) (v : Verdict) (index ends : List ℕ) → ReadTranslation b v index ends → v ≡ verdicts.Accepted → Ready b index ends
 ready-by b v index ends t e = record { accepted = sym (t .verdict) ∙ e; index = t .index e; runs = t .runs e }
+
+pub opened : (b index ends : List ℕ) → Ready b index ends → Opened Translation b index
+opened b index ends r = record { accepted = translation-shape b (r .accepted); index = r .index }

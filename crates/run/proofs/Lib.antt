@@ -12,3 +12,4 @@ pub mod NumberSteps
 pub mod ConstructorSteps
 pub mod Nodes
 pub mod Answering
+pub mod Entries

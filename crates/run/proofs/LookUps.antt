@@ -154,8 +154,8 @@ pub reading-past : (rs : List ℤ) (i x : ℕ) → x ≡ i → length rs ≤ x �
 reading-past rs i x g h = sym (List·getD-eq-default rs (pos 0) (rw g at h))
 
 -- the branch that an if takes
-pub branch-zero : (rec : List ℕ) (z : ℤ) (n : ℕ) → isZero z ≡ true → n ≡ field rec 2 → n ≡ cond (isZero z) (field rec 2) (field rec 1)
-branch-zero rec z n e f = rw e f
+pub branch-zero : (z : ℤ) (n m : ℕ) → isZero z ≡ true → m ≡ cond (isZero z) m n
+branch-zero z n m e = rw e refl
 
-pub branch-other : (rec : List ℕ) (z : ℤ) (n : ℕ) → isZero z ≡ false → n ≡ field rec 1 → n ≡ cond (isZero z) (field rec 2) (field rec 1)
-branch-other rec z n e f = rw e f
+pub branch-other : (z : ℤ) (n m : ℕ) → isZero z ≡ false → n ≡ cond (isZero z) m n
+branch-other z n m e = rw e refl

@@ -24,6 +24,7 @@ use Rattle.run.specs.declared.state.State.{State}
 use Rattle.run.specs.declared.look_up.Found.{Found}
 use Rattle.run.specs.declared.look_up.Found.the-variants.{Node, Nothing}
 use Rattle.run.specs.Lent.{Lent, byLent}
+use Rattle.run.specs.NodeTable.{NodeTable}
 
 -- the paper's value, and how a visit ended, of each case
 unfoldable pub valueOf : Value → Rule.Value ℕ
@@ -63,6 +64,11 @@ pub record Ready (b starts ends : List ℕ) : Type 0 where
   pub accepted : translationVerdict b ≡ Accepted
   pub index : Indexed b starts (due b)
   pub runs : RunEnds Translation b ends
+
+-- and with its table of nodes
+pub record Equipped (b starts ends tab : List ℕ) : Type 0 where
+  pub ready : Ready b starts ends
+  pub table : NodeTable b tab
 
 -- the record of node k, of a kind
 pub record NodeIs (b rec : List ℕ) (k kind : ℕ) : Type 0 where

@@ -5,6 +5,7 @@ ghost use Rattle.run.specs.Promise.{Runs};
 pub mod allowances;
 mod answers;
 mod look_up;
+mod node_table;
 mod numbers;
 mod state;
 mod visit;
@@ -12,6 +13,7 @@ mod visit;
 use crate::allowances::allowed;
 use crate::answers::answered;
 use crate::look_up::body;
+use crate::node_table::node_table;
 use crate::visit::visit;
 use cells::answer::Answer;
 use cells::answer::refused;
@@ -75,10 +77,12 @@ fn run_accepted(
     let first = body(file, index, ends, 0);
     let nest = nesting as u16;
     let room = most as u16;
+    let tab = node_table(file, index);
     let end = visit(
         file,
         index,
         ends,
+        &tab,
         readings,
         room,
         cells,

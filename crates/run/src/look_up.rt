@@ -100,9 +100,9 @@ pub(crate) fn clause(rec: &[u8], tag: u16) -> Found
     Found::Nothing
 }
 
-// The node that an if's record takes for a number: the second where it is not zero, else the third.
-pub(crate) fn branch(rec: &[u8], z: i32) -> u16
-    ensures { λ r. ⌜ r ≡ cond (isZero z) (field (now (rec .entry)) 2) (field (now (rec .entry)) 1) ⌝ }
+// The node that an if takes for a number: the second where it is not zero, else the third.
+pub(crate) fn branch(z: i32, second: u16, third: u16) -> u16
+    ensures { λ r. ⌜ r ≡ cond (isZero z) third second ⌝ }
 {
-    if z == 0 { field(rec, 2) } else { field(rec, 1) }
+    if z == 0 { third } else { second }
 }

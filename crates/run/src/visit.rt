@@ -1,10 +1,10 @@
 // The visits of a run: of a node, and by its kind of a formal, a selection, a case and the rest. They call each other while
-// the steps left fall.
+// the steps left fall. `idx`, `ends` and `tab` are the tables of the file, `rs` the readings, `most` the cell allowance.
 ghost use mathlib.Core.Path.{_≡_};
 ghost use Prim.Native.Nat.{_<_};
-ghost use Rattle.definitions.specs.Layouts.{nodes};
+ghost use Rattle.definitions.specs.Layouts.{nodes, nodeRecord};
 ghost use Rattle.definitions.specs.TranslationKinds as kinds;
-ghost use Rattle.run.specs.States.{Ready, NodeIs, stateOf, reachedOf, visits, evaluates};
+ghost use Rattle.run.specs.States.{Equipped, NodeIs, stateOf, reachedOf, visits, evaluates};
 use crate::look_up::Found;
 use crate::look_up::body;
 use crate::look_up::branch;
@@ -13,6 +13,12 @@ use crate::look_up::field_after;
 use crate::look_up::formal_record;
 use crate::look_up::node_record;
 use crate::look_up::reading;
+use crate::node_table::entry;
+use crate::node_table::first_in;
+use crate::node_table::kind_in;
+use crate::node_table::number_in;
+use crate::node_table::second_in;
+use crate::node_table::third_in;
 use crate::numbers;
 use crate::state::Outcome;
 use crate::state::State;
@@ -25,9 +31,6 @@ use crate::state::tag;
 use cells::cell::add_cell;
 use cells::cell::label_at;
 use cells::cell::previous_at;
-use format::bytes::signed;
-use format::records::field;
-use format::records::kind;
 use format::records::wide;
 use format::translation_kinds;
 use operators::compute;
@@ -35,8 +38,9 @@ use operators::compute;
 // Visits node `k` under context `w`, with so many visits that may still be nested, steps left and cells made.
 pub(crate) fn visit(
     b: &[u8],
-    index: &[u16; 1601],
+    idx: &[u16; 1601],
     ends: &[u16; 64],
+    tab: &[u64; 1024],
     rs: &[i32],
     most: u16,
     cells: &mut [u8],
@@ -46,7 +50,7 @@ pub(crate) fn visit(
     left: u32,
     made: u16,
 ) -> State
-    requires { ⌜ Ready (now b) (now index) (now ends) × (k < nodes (now b)) ⌝ }
+    requires { ⌜ Equipped (now b) (now idx) (now ends) (now tab) × (k < nodes (now b)) ⌝ }
     ensures { λ r. ⌜ reachedOf r (now (cells .exit)) ≡ visits (now (b .entry)) (now (rs .entry)) most nest k w (stateOf left made (now (cells .entry))) ⌝ }
 {
     if left == 0 {
@@ -57,14 +61,15 @@ pub(crate) fn visit(
     }
     let inner = nest - 1;
     let rest = left - 1;
-    evaluate(b, index, ends, rs, most, cells, inner, k, w, rest, made)
+    evaluate(b, idx, ends, tab, rs, most, cells, inner, k, w, rest, made)
 }
 
 // Works out node `k`, once its step is counted.
 fn evaluate(
     b: &[u8],
-    index: &[u16; 1601],
+    idx: &[u16; 1601],
     ends: &[u16; 64],
+    tab: &[u64; 1024],
     rs: &[i32],
     most: u16,
     cells: &mut [u8],
@@ -74,141 +79,129 @@ fn evaluate(
     left: u32,
     made: u16,
 ) -> State
-    requires { ⌜ Ready (now b) (now index) (now ends) × (k < nodes (now b)) ⌝ }
+    requires { ⌜ Equipped (now b) (now idx) (now ends) (now tab) × (k < nodes (now b)) ⌝ }
     ensures { λ r. ⌜ reachedOf r (now (cells .exit)) ≡ evaluates (now (b .entry)) (now (rs .entry)) most nest k w (stateOf left made (now (cells .entry))) ⌝ }
 {
-    let rec = node_record(b, index, k);
-    let kind = kind(rec);
+    let node = entry(tab, k);
+    let kind = kind_in(node);
     if kind == translation_kinds::NUMBER {
-        return number(signed(rec, 4), left, made);
+        return number(number_in(node), left, made);
     }
     if kind == translation_kinds::READING {
-        return number(reading(rs, field(rec, 0)), left, made);
+        return number(reading(rs, first_in(node)), left, made);
     }
     if kind == translation_kinds::TUPLE {
         return constructor(k, w, left, made);
     }
     if kind == translation_kinds::FORMAL {
-        return visit_formal(b, index, ends, rs, most, cells, nest, rec, k, w, left, made);
+        return visit_formal(b, idx, ends, tab, rs, most, cells, nest, k, w, left, made);
     }
     if kind == translation_kinds::SELECT {
-        return visit_select(b, index, ends, rs, most, cells, nest, rec, k, w, left, made);
+        return visit_select(b, idx, ends, tab, rs, most, cells, nest, k, w, left, made);
     }
     if kind == translation_kinds::OPERATOR {
-        return visit_operator(b, index, ends, rs, most, cells, nest, rec, k, w, left, made);
+        return visit_operator(b, idx, ends, tab, rs, most, cells, nest, k, w, left, made);
     }
     if kind == translation_kinds::CONDITIONAL {
-        return visit_conditional(b, index, ends, rs, most, cells, nest, rec, k, w, left, made);
+        return visit_conditional(b, idx, ends, tab, rs, most, cells, nest, k, w, left, made);
     }
     if kind == translation_kinds::CALL {
-        return visit_call(b, index, ends, rs, most, cells, nest, rec, k, w, left, made);
+        return visit_call(b, idx, ends, tab, rs, most, cells, nest, k, w, left, made);
     }
-    visit_case(b, index, ends, rs, most, cells, nest, rec, k, w, left, made)
+    visit_case(b, idx, ends, tab, rs, most, cells, nest, k, w, left, made)
 }
 
 // A formal: the actual that the head label names, under the tail.
 fn visit_formal(
     b: &[u8],
-    index: &[u16; 1601],
+    idx: &[u16; 1601],
     ends: &[u16; 64],
+    tab: &[u64; 1024],
     rs: &[i32],
     most: u16,
     cells: &mut [u8],
     nest: u16,
-    rec: &[u8],
     k: u16,
     w: u16,
     left: u32,
     made: u16,
 ) -> State
-    requires { ⌜ Ready (now b) (now index) (now ends) × NodeIs (now b) (now rec) k kinds.formal ⌝ }
+    requires { ⌜ Equipped (now b) (now idx) (now ends) (now tab) × NodeIs (now b) (nodeRecord (now b) k) k kinds.formal ⌝ }
     ensures { λ r. ⌜ reachedOf r (now (cells .exit)) ≡ evaluates (now (b .entry)) (now (rs .entry)) most nest k w (stateOf left made (now (cells .entry))) ⌝ }
 {
     if w == 0 {
         return ended(numbers::NO_ACTUAL, left, made);
     }
     let label = label_at(cells, wide(w));
-    let found = field_after(formal_record(b, index, field(rec, 0)), 0, label);
+    let p = first_in(entry(tab, k));
+    let found = field_after(formal_record(b, idx, p), 0, label);
     let Found::Node(n) = found else {
         return ended(numbers::NO_ACTUAL, left, made);
     };
-    let tail = previous_at(cells, wide(w));
-    visit(b, index, ends, rs, most, cells, nest, n, tail, left, made)
+    let v = previous_at(cells, wide(w));
+    visit(b, idx, ends, tab, rs, most, cells, nest, n, v, left, made)
 }
 
 // A selection: index 0 is the tag, i is field i - 1 under the tuple's own context.
 fn visit_select(
     b: &[u8],
-    index: &[u16; 1601],
+    idx: &[u16; 1601],
     ends: &[u16; 64],
+    tab: &[u64; 1024],
     rs: &[i32],
     most: u16,
     cells: &mut [u8],
     nest: u16,
-    rec: &[u8],
     k: u16,
     w: u16,
     left: u32,
     made: u16,
 ) -> State
-    requires { ⌜ Ready (now b) (now index) (now ends) × NodeIs (now b) (now rec) k kinds.select ⌝ }
+    requires { ⌜ Equipped (now b) (now idx) (now ends) (now tab) × NodeIs (now b) (nodeRecord (now b) k) k kinds.select ⌝ }
     ensures { λ r. ⌜ reachedOf r (now (cells .exit)) ≡ evaluates (now (b .entry)) (now (rs .entry)) most nest k w (stateOf left made (now (cells .entry))) ⌝ }
 {
-    let n = field(rec, 0);
-    let tuple = visit(b, index, ends, rs, most, cells, nest, n, w, left, made);
+    let n = first_in(entry(tab, k));
+    let tuple = visit(b, idx, ends, tab, rs, most, cells, nest, n, w, left, made);
     let outcome = tuple.outcome;
     let Outcome::Value(value) = outcome else {
         return tuple;
     };
     let left = tuple.left;
     let made = tuple.made;
-    let Value::Constructor { node, context } = value else {
+    let Value::Constructor { node, context: v } = value else {
         return ended(numbers::CONSTRUCTOR_WANTED, left, made);
     };
-    let i = field(rec, 1);
-    let fields = node_record(b, index, node);
+    let i = second_in(entry(tab, k));
     if i == 0 {
-        return tag(field(fields, 0), left, made);
+        return tag(first_in(entry(tab, node)), left, made);
     }
-    let found = field_after(fields, 1, i - 1);
+    let found = field_after(node_record(b, idx, node), 1, i - 1);
     let Found::Node(m) = found else {
         return ended(numbers::NO_FIELD, left, made);
     };
-    visit(
-        b,
-        index,
-        ends,
-        rs,
-        most,
-        cells,
-        nest,
-        m,
-        context,
-        left,
-        made,
-    )
+    visit(b, idx, ends, tab, rs, most, cells, nest, m, v, left, made)
 }
 
 // An operator: the left operand has to be a number before the right is visited.
 fn visit_operator(
     b: &[u8],
-    index: &[u16; 1601],
+    idx: &[u16; 1601],
     ends: &[u16; 64],
+    tab: &[u64; 1024],
     rs: &[i32],
     most: u16,
     cells: &mut [u8],
     nest: u16,
-    rec: &[u8],
     k: u16,
     w: u16,
     left: u32,
     made: u16,
 ) -> State
-    requires { ⌜ Ready (now b) (now index) (now ends) × NodeIs (now b) (now rec) k kinds.operator ⌝ }
+    requires { ⌜ Equipped (now b) (now idx) (now ends) (now tab) × NodeIs (now b) (nodeRecord (now b) k) k kinds.operator ⌝ }
     ensures { λ r. ⌜ reachedOf r (now (cells .exit)) ≡ evaluates (now (b .entry)) (now (rs .entry)) most nest k w (stateOf left made (now (cells .entry))) ⌝ }
 {
-    let n = field(rec, 1);
-    let first = visit(b, index, ends, rs, most, cells, nest, n, w, left, made);
+    let n = second_in(entry(tab, k));
+    let first = visit(b, idx, ends, tab, rs, most, cells, nest, n, w, left, made);
     let outcome = first.outcome;
     let Outcome::Value(value) = outcome else {
         return first;
@@ -218,8 +211,8 @@ fn visit_operator(
     let Value::Number(x) = value else {
         return ended(numbers::NUMBER_WANTED, left, made);
     };
-    let n = field(rec, 2);
-    let second = visit(b, index, ends, rs, most, cells, nest, n, w, left, made);
+    let m = third_in(entry(tab, k));
+    let second = visit(b, idx, ends, tab, rs, most, cells, nest, m, w, left, made);
     let outcome = second.outcome;
     let Outcome::Value(value) = outcome else {
         return second;
@@ -229,29 +222,29 @@ fn visit_operator(
     let Value::Number(y) = value else {
         return ended(numbers::NUMBER_WANTED, left, made);
     };
-    given(compute(field(rec, 0), x, y), left, made)
+    given(compute(first_in(entry(tab, k)), x, y), left, made)
 }
 
 // An if: nonzero takes the second node, zero the third.
 fn visit_conditional(
     b: &[u8],
-    index: &[u16; 1601],
+    idx: &[u16; 1601],
     ends: &[u16; 64],
+    tab: &[u64; 1024],
     rs: &[i32],
     most: u16,
     cells: &mut [u8],
     nest: u16,
-    rec: &[u8],
     k: u16,
     w: u16,
     left: u32,
     made: u16,
 ) -> State
-    requires { ⌜ Ready (now b) (now index) (now ends) × NodeIs (now b) (now rec) k kinds.conditional ⌝ }
+    requires { ⌜ Equipped (now b) (now idx) (now ends) (now tab) × NodeIs (now b) (nodeRecord (now b) k) k kinds.conditional ⌝ }
     ensures { λ r. ⌜ reachedOf r (now (cells .exit)) ≡ evaluates (now (b .entry)) (now (rs .entry)) most nest k w (stateOf left made (now (cells .entry))) ⌝ }
 {
-    let n = field(rec, 0);
-    let condition = visit(b, index, ends, rs, most, cells, nest, n, w, left, made);
+    let n = first_in(entry(tab, k));
+    let condition = visit(b, idx, ends, tab, rs, most, cells, nest, n, w, left, made);
     let outcome = condition.outcome;
     let Outcome::Value(value) = outcome else {
         return condition;
@@ -261,57 +254,59 @@ fn visit_conditional(
     let Value::Number(z) = value else {
         return ended(numbers::NUMBER_WANTED, left, made);
     };
-    let m = branch(rec, z);
-    visit(b, index, ends, rs, most, cells, nest, m, w, left, made)
+    let node = entry(tab, k);
+    let m = branch(z, second_in(node), third_in(node));
+    visit(b, idx, ends, tab, rs, most, cells, nest, m, w, left, made)
 }
 
 // A call: one cell more, and the body under it.
 fn visit_call(
     b: &[u8],
-    index: &[u16; 1601],
+    idx: &[u16; 1601],
     ends: &[u16; 64],
+    tab: &[u64; 1024],
     rs: &[i32],
     most: u16,
     cells: &mut [u8],
     nest: u16,
-    rec: &[u8],
     k: u16,
     w: u16,
     left: u32,
     made: u16,
 ) -> State
-    requires { ⌜ Ready (now b) (now index) (now ends) × NodeIs (now b) (now rec) k kinds.call ⌝ }
+    requires { ⌜ Equipped (now b) (now idx) (now ends) (now tab) × NodeIs (now b) (nodeRecord (now b) k) k kinds.call ⌝ }
     ensures { λ r. ⌜ reachedOf r (now (cells .exit)) ≡ evaluates (now (b .entry)) (now (rs .entry)) most nest k w (stateOf left made (now (cells .entry))) ⌝ }
 {
     if most <= made {
         return ended(numbers::NO_CELL, left, made);
     }
-    add_cell(cells, wide(made), field(rec, 0), w);
-    let next = made + 1;
-    let m = body(b, index, ends, field(rec, 1));
-    visit(b, index, ends, rs, most, cells, nest, m, next, left, next)
+    let node = entry(tab, k);
+    add_cell(cells, wide(made), first_in(node), w);
+    let n = made + 1;
+    let m = body(b, idx, ends, second_in(node));
+    visit(b, idx, ends, tab, rs, most, cells, nest, m, n, left, n)
 }
 
 // A case: the scrutinee, then the first clause with its tag.
 fn visit_case(
     b: &[u8],
-    index: &[u16; 1601],
+    idx: &[u16; 1601],
     ends: &[u16; 64],
+    tab: &[u64; 1024],
     rs: &[i32],
     most: u16,
     cells: &mut [u8],
     nest: u16,
-    rec: &[u8],
     k: u16,
     w: u16,
     left: u32,
     made: u16,
 ) -> State
-    requires { ⌜ Ready (now b) (now index) (now ends) × NodeIs (now b) (now rec) k kinds.caseOf ⌝ }
+    requires { ⌜ Equipped (now b) (now idx) (now ends) (now tab) × NodeIs (now b) (nodeRecord (now b) k) k kinds.caseOf ⌝ }
     ensures { λ r. ⌜ reachedOf r (now (cells .exit)) ≡ evaluates (now (b .entry)) (now (rs .entry)) most nest k w (stateOf left made (now (cells .entry))) ⌝ }
 {
-    let n = field(rec, 0);
-    let scrutinee = visit(b, index, ends, rs, most, cells, nest, n, w, left, made);
+    let n = first_in(entry(tab, k));
+    let scrutinee = visit(b, idx, ends, tab, rs, most, cells, nest, n, w, left, made);
     let outcome = scrutinee.outcome;
     let Outcome::Value(value) = outcome else {
         return scrutinee;
@@ -321,10 +316,10 @@ fn visit_case(
     let Value::Constructor { node, context: _ } = value else {
         return ended(numbers::CONSTRUCTOR_WANTED, left, made);
     };
-    let tag = field(node_record(b, index, node), 0);
-    let found = clause(rec, tag);
+    let tag = first_in(entry(tab, node));
+    let found = clause(node_record(b, idx, k), tag);
     let Found::Node(m) = found else {
         return ended(numbers::NO_CLAUSE, left, made);
     };
-    visit(b, index, ends, rs, most, cells, nest, m, w, left, made)
+    visit(b, idx, ends, tab, rs, most, cells, nest, m, w, left, made)
 }

@@ -1,13 +1,14 @@
 -- The cycle of visits meets its contracts. The measure is three for each step left; one more where the kind is told, two more before.
 use borrow.Author.Needs.{needs}
-use mathlib.Core.Path.{_∙_}
+use Rattle.run.proofs.Nodes.{falls-counted, falls-told, falls-on, falls-same, select-child, left-child, right-child, condition-child, branch-child, scrutinee-child, formal-named, function-named, body-child, actual-child, clause-child, reached-falls, reached-tuple, member-child}
+use Rattle.run.proofs.ConstructorSteps.{select-ended, select-number, select-tag, select-missing, select-on, case-ended, case-number, case-missing, case-on}
+use Rattle.run.proofs.NumberSteps.{conditional-ended, conditional-constructor, conditional-on, left-ended, left-constructor, right-ended, right-constructor, operator-on}
+use Rattle.run.proofs.Steps.{visit-no-step, visit-no-nesting, visit-on, number-step, reading-step, tuple-step, formal-empty, formal-missing, formal-on, call-full, call-on}
+use Rattle.run.proofs.Entries.{kind-read, first-read, second-read, third-read, number-read, entry-room, clause-read, branch-read}
+use Rattle.run.proofs.NodeKinds.{node-is, node-last}
 use mir.ValLaws.{toZ-ofZ}
 use mir.Syntax.{w32}
-use Rattle.run.proofs.Nodes.{falls-counted, falls-told, falls-on, falls-same, select-child, left-child, right-child, condition-child, branch-child, scrutinee-child, formal-named, function-named, body-child, actual-child, clause-child, reached-falls, reached-tuple, member-child}
-use Rattle.run.proofs.NodeKinds.{node-is, node-last}
-use Rattle.run.proofs.Steps.{visit-no-step, visit-no-nesting, visit-on, number-step, reading-step, tuple-step, formal-empty, formal-missing, formal-on, call-full, call-on}
-use Rattle.run.proofs.NumberSteps.{conditional-ended, conditional-constructor, conditional-on, left-ended, left-constructor, right-ended, right-constructor, operator-on}
-use Rattle.run.proofs.ConstructorSteps.{select-ended, select-number, select-tag, select-missing, select-on, case-ended, case-number, case-missing, case-on}
+use mathlib.Core.Path.{refl, _∙_}
 use Prim.Native.Nat.{ℕ, _+_, _*_, _<_}
 use borrow.Fn.Kinds.{In}
 use borrow.Fn.PlainCycle.{Measures, is, falls, and}
@@ -38,9 +39,6 @@ use Rattle.run.proofs.visit.+evaluate+visit+visit_call+visit_case+visit
 use Rattle.cells.proofs.cell.add_cell.Reads as add-cell-reads
 use Rattle.cells.proofs.cell.label_at.Reads as label-at-reads
 use Rattle.cells.proofs.cell.previous_at.Reads as previous-at-reads
-use Rattle.format.proofs.bytes.signed.Reads as signed-reads
-use Rattle.format.proofs.records.field.Reads as field-reads
-use Rattle.format.proofs.records.kind.Reads as kind-reads
 use Rattle.format.proofs.records.wide.Reads as wide-reads
 use Rattle.operators.proofs.compute.Reads as compute-reads
 use Rattle.run.proofs.look_up.body.Reads as body-reads
@@ -50,6 +48,12 @@ use Rattle.run.proofs.look_up.field_after.Reads as field-after-reads
 use Rattle.run.proofs.look_up.formal_record.Reads as formal-record-reads
 use Rattle.run.proofs.look_up.node_record.Reads as node-record-reads
 use Rattle.run.proofs.look_up.reading.Reads as reading-reads
+use Rattle.run.proofs.node_table.entry.Reads as entry-reads
+use Rattle.run.proofs.node_table.first_in.Reads as first-in-reads
+use Rattle.run.proofs.node_table.kind_in.Reads as kind-in-reads
+use Rattle.run.proofs.node_table.number_in.Reads as number-in-reads
+use Rattle.run.proofs.node_table.second_in.Reads as second-in-reads
+use Rattle.run.proofs.node_table.third_in.Reads as third-in-reads
 use Rattle.run.proofs.state.constructor.Reads as constructor-reads
 use Rattle.run.proofs.state.ended.Reads as ended-reads
 use Rattle.run.proofs.state.given.Reads as given-reads
@@ -62,11 +66,11 @@ use Rattle.run.proofs.visit.+evaluate+visit+visit_call+visit_case+visit
   close,
 }
 
-abbrev μ-evaluate : Measures 5 evaluate-kinds.ps ℕ
-μ-evaluate κs a = 3 * a .1 .1 .1 .1 .1 .1 .1 .1 .1 .0 + 2
+abbrev μ-evaluate : Measures 6 evaluate-kinds.ps ℕ
+μ-evaluate κs a = 3 * a .1 .1 .1 .1 .1 .1 .1 .1 .1 .1 .0 + 2
 
-abbrev μ-visit : Measures 5 visit-kinds.ps ℕ
-μ-visit κs a = 3 * a .1 .1 .1 .1 .1 .1 .1 .1 .1 .0
+abbrev μ-visit : Measures 6 visit-kinds.ps ℕ
+μ-visit κs a = 3 * a .1 .1 .1 .1 .1 .1 .1 .1 .1 .1 .0
 
 abbrev μ-visit-call : Measures 6 visit-call-kinds.ps ℕ
 μ-visit-call κs a = 3 * a .1 .1 .1 .1 .1 .1 .1 .1 .1 .1 .0 + 1
@@ -86,18 +90,18 @@ abbrev μ-visit-operator : Measures 6 visit-operator-kinds.ps ℕ
 abbrev μ-visit-select : Measures 6 visit-select-kinds.ps ℕ
 μ-visit-select κs a = 3 * a .1 .1 .1 .1 .1 .1 .1 .1 .1 .1 .0 + 1
 
-abbrev evaluate-at : ℕ → In 5 evaluate-kinds.ps
-evaluate-at t = and 5 evaluate-kinds.ps (is 5 evaluate-kinds.ps μ-evaluate t) evaluate.Pre
+abbrev evaluate-at : ℕ → In 6 evaluate-kinds.ps
+evaluate-at t = and 6 evaluate-kinds.ps (is 6 evaluate-kinds.ps μ-evaluate t) evaluate.Pre
 
-abbrev evaluate-below : ℕ → In 5 evaluate-kinds.ps
+abbrev evaluate-below : ℕ → In 6 evaluate-kinds.ps
 evaluate-below t =
-    and 5 evaluate-kinds.ps (falls 5 evaluate-kinds.ps _<_ μ-evaluate t) evaluate.Pre
+    and 6 evaluate-kinds.ps (falls 6 evaluate-kinds.ps _<_ μ-evaluate t) evaluate.Pre
 
-abbrev visit-at : ℕ → In 5 visit-kinds.ps
-visit-at t = and 5 visit-kinds.ps (is 5 visit-kinds.ps μ-visit t) visit.Pre
+abbrev visit-at : ℕ → In 6 visit-kinds.ps
+visit-at t = and 6 visit-kinds.ps (is 6 visit-kinds.ps μ-visit t) visit.Pre
 
-abbrev visit-below : ℕ → In 5 visit-kinds.ps
-visit-below t = and 5 visit-kinds.ps (falls 5 visit-kinds.ps _<_ μ-visit t) visit.Pre
+abbrev visit-below : ℕ → In 6 visit-kinds.ps
+visit-below t = and 6 visit-kinds.ps (falls 6 visit-kinds.ps _<_ μ-visit t) visit.Pre
 
 abbrev visit-call-at : ℕ → In 6 visit-call-kinds.ps
 visit-call-at t =
@@ -173,7 +177,7 @@ visit-select-below t =
 
 abbrev evaluate-claims : ℕ → evaluate-lts.Claims
 evaluate-claims t =
-    (node-record-reads.Asked, node-record-reads.Learnt, kind-reads.Asked, kind-reads.Learnt, signed-reads.Asked, signed-reads.Learnt, number-reads.Asked, number-reads.Learnt, field-reads.Asked, field-reads.Learnt, reading-reads.Asked, reading-reads.Learnt, constructor-reads.Asked, constructor-reads.Learnt, visit-formal-below t, visit-formal.Post, visit-select-below t, visit-select.Post, visit-operator-below t, visit-operator.Post, visit-conditional-below t, visit-conditional.Post, visit-call-below t, visit-call.Post, visit-case-below t, visit-case.Post)
+    (entry-reads.Asked, entry-reads.Learnt, kind-in-reads.Asked, kind-in-reads.Learnt, number-in-reads.Asked, number-in-reads.Learnt, number-reads.Asked, number-reads.Learnt, first-in-reads.Asked, first-in-reads.Learnt, reading-reads.Asked, reading-reads.Learnt, constructor-reads.Asked, constructor-reads.Learnt, visit-formal-below t, visit-formal.Post, visit-select-below t, visit-select.Post, visit-operator-below t, visit-operator.Post, visit-conditional-below t, visit-conditional.Post, visit-call-below t, visit-call.Post, visit-case-below t, visit-case.Post)
 
 abbrev visit-claims : ℕ → visit-lts.Claims
 visit-claims t =
@@ -181,69 +185,72 @@ visit-claims t =
 
 abbrev visit-call-claims : ℕ → visit-call-lts.Claims
 visit-call-claims t =
-    (ended-reads.Asked, ended-reads.Learnt, wide-reads.Asked, wide-reads.Learnt, field-reads.Asked, field-reads.Learnt, add-cell-reads.Asked, add-cell-reads.Learnt, body-reads.Asked, body-reads.Learnt, visit-below t, visit.Post)
+    (ended-reads.Asked, ended-reads.Learnt, entry-reads.Asked, entry-reads.Learnt, wide-reads.Asked, wide-reads.Learnt, first-in-reads.Asked, first-in-reads.Learnt, add-cell-reads.Asked, add-cell-reads.Learnt, second-in-reads.Asked, second-in-reads.Learnt, body-reads.Asked, body-reads.Learnt, visit-below t, visit.Post)
 
 abbrev visit-case-claims : ℕ → visit-case-lts.Claims
 visit-case-claims t =
-    (field-reads.Asked, field-reads.Learnt, visit-below t, visit.Post, ended-reads.Asked, ended-reads.Learnt, node-record-reads.Asked, node-record-reads.Learnt, clause-reads.Asked, clause-reads.Learnt)
+    (entry-reads.Asked, entry-reads.Learnt, first-in-reads.Asked, first-in-reads.Learnt, visit-below t, visit.Post, ended-reads.Asked, ended-reads.Learnt, node-record-reads.Asked, node-record-reads.Learnt, clause-reads.Asked, clause-reads.Learnt)
 
 abbrev visit-conditional-claims : ℕ → visit-conditional-lts.Claims
 visit-conditional-claims t =
-    (field-reads.Asked, field-reads.Learnt, visit-below t, visit.Post, ended-reads.Asked, ended-reads.Learnt, branch-reads.Asked, branch-reads.Learnt)
+    (entry-reads.Asked, entry-reads.Learnt, first-in-reads.Asked, first-in-reads.Learnt, visit-below t, visit.Post, ended-reads.Asked, ended-reads.Learnt, second-in-reads.Asked, second-in-reads.Learnt, third-in-reads.Asked, third-in-reads.Learnt, branch-reads.Asked, branch-reads.Learnt)
 
 abbrev visit-formal-claims : ℕ → visit-formal-lts.Claims
 visit-formal-claims t =
-    (ended-reads.Asked, ended-reads.Learnt, wide-reads.Asked, wide-reads.Learnt, label-at-reads.Asked, label-at-reads.Learnt, field-reads.Asked, field-reads.Learnt, formal-record-reads.Asked, formal-record-reads.Learnt, field-after-reads.Asked, field-after-reads.Learnt, previous-at-reads.Asked, previous-at-reads.Learnt, visit-below t, visit.Post)
+    (ended-reads.Asked, ended-reads.Learnt, wide-reads.Asked, wide-reads.Learnt, label-at-reads.Asked, label-at-reads.Learnt, entry-reads.Asked, entry-reads.Learnt, first-in-reads.Asked, first-in-reads.Learnt, formal-record-reads.Asked, formal-record-reads.Learnt, field-after-reads.Asked, field-after-reads.Learnt, previous-at-reads.Asked, previous-at-reads.Learnt, visit-below t, visit.Post)
 
 abbrev visit-operator-claims : ℕ → visit-operator-lts.Claims
 visit-operator-claims t =
-    (field-reads.Asked, field-reads.Learnt, visit-below t, visit.Post, ended-reads.Asked, ended-reads.Learnt, compute-reads.Asked, compute-reads.Learnt, given-reads.Asked, given-reads.Learnt)
+    (entry-reads.Asked, entry-reads.Learnt, second-in-reads.Asked, second-in-reads.Learnt, visit-below t, visit.Post, ended-reads.Asked, ended-reads.Learnt, third-in-reads.Asked, third-in-reads.Learnt, first-in-reads.Asked, first-in-reads.Learnt, compute-reads.Asked, compute-reads.Learnt, given-reads.Asked, given-reads.Learnt)
 
 abbrev visit-select-claims : ℕ → visit-select-lts.Claims
 visit-select-claims t =
-    (field-reads.Asked, field-reads.Learnt, visit-below t, visit.Post, ended-reads.Asked, ended-reads.Learnt, node-record-reads.Asked, node-record-reads.Learnt, tag-reads.Asked, tag-reads.Learnt, field-after-reads.Asked, field-after-reads.Learnt)
+    (entry-reads.Asked, entry-reads.Learnt, first-in-reads.Asked, first-in-reads.Learnt, visit-below t, visit.Post, ended-reads.Asked, ended-reads.Learnt, second-in-reads.Asked, second-in-reads.Learnt, tag-reads.Asked, tag-reads.Learnt, node-record-reads.Asked, node-record-reads.Learnt, field-after-reads.Asked, field-after-reads.Learnt)
+
+evaluate-entry-requires : (t : ℕ) → evaluate-lts.Need-entry-requires (evaluate-claims t) (evaluate-at t) evaluate.Post
+evaluate-entry-requires t c κs = entry-room _ _ _ _ (c .before .before .pre .1 .0 .ready) (c .before .before .pre .1 .1)
 
 evaluate-returns : (t : ℕ) → evaluate-lts.Need-returns (evaluate-claims t) (evaluate-at t) evaluate.Post
-evaluate-returns t c = number-step _ _ _ _ _ _ _ _ _ _ _ _ _ (node-is _ _ _ _ _ (c .before .before .before .before .before .before .before .pre .1 .1) (c .before .before .before .before .node-record .ensures) (c .before .before .before .kind .ensures) (c .before .before .if1 .taken)) (toZ-ofZ w32 _ (record { sfits = search needs })) (c .before .signed .ensures) (c .number .ensures)
+evaluate-returns t c = number-step _ _ _ _ _ _ _ _ _ _ _ _ _ (node-is _ _ _ _ _ (c .before .before .before .before .before .before .before .pre .1 .1) refl (kind-read _ _ _ _ _ (c .before .before .before .before .before .before .before .pre .1 .0 .table) (c .before .before .before .before .before .before .before .pre .1 .1) (c .before .before .before .before .entry .ensures) (c .before .before .before .kind-in .ensures)) (c .before .before .if1 .taken)) (toZ-ofZ w32 _ (record { sfits = search needs })) (number-read _ _ _ _ _ (c .before .before .before .before .before .before .before .pre .1 .0 .table) (c .before .before .before .before .before .before .before .pre .1 .1) (c .before .before .before .before .entry .ensures) (c .before .number-in .ensures)) (c .number .ensures)
 
 evaluate-returns-2 : (t : ℕ) → evaluate-lts.Need-returns-2 (evaluate-claims t) (evaluate-at t) evaluate.Post
-evaluate-returns-2 t c = reading-step _ _ _ _ _ _ _ _ _ _ _ _ _ _ (node-is _ _ _ _ _ (c .before .before .before .before .before .before .before .before .before .pre .1 .1) (c .before .before .before .before .before .before .node-record .ensures) (c .before .before .before .before .before .kind .ensures) (c .before .before .before .if2 .taken)) (c .before .before .field .ensures) (toZ-ofZ w32 _ (record { sfits = search needs })) (c .before .reading .ensures) (c .number2 .ensures)
+evaluate-returns-2 t c = reading-step _ _ _ _ _ _ _ _ _ _ _ _ _ _ (node-is _ _ _ _ _ (c .before .before .before .before .before .before .before .before .before .pre .1 .1) refl (kind-read _ _ _ _ _ (c .before .before .before .before .before .before .before .before .before .pre .1 .0 .table) (c .before .before .before .before .before .before .before .before .before .pre .1 .1) (c .before .before .before .before .before .before .entry .ensures) (c .before .before .before .before .before .kind-in .ensures)) (c .before .before .before .if2 .taken)) (first-read _ _ _ _ _ (c .before .before .before .before .before .before .before .before .before .pre .1 .0 .table) (c .before .before .before .before .before .before .before .before .before .pre .1 .1) (c .before .before .before .before .before .before .entry .ensures) (c .before .before .first-in .ensures)) (toZ-ofZ w32 _ (record { sfits = search needs })) (c .before .reading .ensures) (c .number2 .ensures)
 
 evaluate-returns-3 : (t : ℕ) → evaluate-lts.Need-returns-3 (evaluate-claims t) (evaluate-at t) evaluate.Post
-evaluate-returns-3 t c = tuple-step _ _ _ _ _ _ _ _ _ _ _ (node-is _ _ _ _ _ (c .before .before .before .before .before .before .before .before .pre .1 .1) (c .before .before .before .before .before .node-record .ensures) (c .before .before .before .before .kind .ensures) (c .before .if3 .taken)) (c .constructor .ensures)
+evaluate-returns-3 t c = tuple-step _ _ _ _ _ _ _ _ _ _ _ (node-is _ _ _ _ _ (c .before .before .before .before .before .before .before .before .pre .1 .1) refl (kind-read _ _ _ _ _ (c .before .before .before .before .before .before .before .before .pre .1 .0 .table) (c .before .before .before .before .before .before .before .before .pre .1 .1) (c .before .before .before .before .before .entry .ensures) (c .before .before .before .before .kind-in .ensures)) (c .before .if3 .taken)) (c .constructor .ensures)
 
 evaluate-visit-formal-requires : (t : ℕ) → evaluate-lts.Need-visit-formal-requires (evaluate-claims t) (evaluate-at t) evaluate.Post
-evaluate-visit-formal-requires t c κs = (falls-told _ _ (c .before .before .before .before .before .before .before .before .before .pre .0), (c .before .before .before .before .before .before .before .before .before .pre .1 .0, node-is _ _ _ _ _ (c .before .before .before .before .before .before .before .before .before .pre .1 .1) (c .before .before .before .before .before .before .node-record .ensures) (c .before .before .before .before .before .kind .ensures) (c .before .if4 .taken)))
+evaluate-visit-formal-requires t c κs = (falls-told _ _ (c .before .before .before .before .before .before .before .before .before .pre .0), (c .before .before .before .before .before .before .before .before .before .pre .1 .0, (node-is _ _ _ _ _ (c .before .before .before .before .before .before .before .before .before .pre .1 .1) refl (kind-read _ _ _ _ _ (c .before .before .before .before .before .before .before .before .before .pre .1 .0 .table) (c .before .before .before .before .before .before .before .before .before .pre .1 .1) (c .before .before .before .before .before .before .entry .ensures) (c .before .before .before .before .before .kind-in .ensures)) (c .before .if4 .taken))))
 
 evaluate-returns-4 : (t : ℕ) → evaluate-lts.Need-returns-4 (evaluate-claims t) (evaluate-at t) evaluate.Post
 evaluate-returns-4 t c = c .before .before .visit-formal .ensures
 
 evaluate-visit-select-requires : (t : ℕ) → evaluate-lts.Need-visit-select-requires (evaluate-claims t) (evaluate-at t) evaluate.Post
-evaluate-visit-select-requires t c κs = (falls-told _ _ (c .before .before .before .before .before .before .before .before .before .before .pre .0), (c .before .before .before .before .before .before .before .before .before .before .pre .1 .0, node-is _ _ _ _ _ (c .before .before .before .before .before .before .before .before .before .before .pre .1 .1) (c .before .before .before .before .before .before .before .node-record .ensures) (c .before .before .before .before .before .before .kind .ensures) (c .before .if5 .taken)))
+evaluate-visit-select-requires t c κs = (falls-told _ _ (c .before .before .before .before .before .before .before .before .before .before .pre .0), (c .before .before .before .before .before .before .before .before .before .before .pre .1 .0, (node-is _ _ _ _ _ (c .before .before .before .before .before .before .before .before .before .before .pre .1 .1) refl (kind-read _ _ _ _ _ (c .before .before .before .before .before .before .before .before .before .before .pre .1 .0 .table) (c .before .before .before .before .before .before .before .before .before .before .pre .1 .1) (c .before .before .before .before .before .before .before .entry .ensures) (c .before .before .before .before .before .before .kind-in .ensures)) (c .before .if5 .taken))))
 
 evaluate-returns-5 : (t : ℕ) → evaluate-lts.Need-returns-5 (evaluate-claims t) (evaluate-at t) evaluate.Post
 evaluate-returns-5 t c = c .before .before .visit-select .ensures
 
 evaluate-visit-operator-requires : (t : ℕ) → evaluate-lts.Need-visit-operator-requires (evaluate-claims t) (evaluate-at t) evaluate.Post
-evaluate-visit-operator-requires t c κs = (falls-told _ _ (c .before .before .before .before .before .before .before .before .before .before .before .pre .0), (c .before .before .before .before .before .before .before .before .before .before .before .pre .1 .0, node-is _ _ _ _ _ (c .before .before .before .before .before .before .before .before .before .before .before .pre .1 .1) (c .before .before .before .before .before .before .before .before .node-record .ensures) (c .before .before .before .before .before .before .before .kind .ensures) (c .before .if6 .taken)))
+evaluate-visit-operator-requires t c κs = (falls-told _ _ (c .before .before .before .before .before .before .before .before .before .before .before .pre .0), (c .before .before .before .before .before .before .before .before .before .before .before .pre .1 .0, (node-is _ _ _ _ _ (c .before .before .before .before .before .before .before .before .before .before .before .pre .1 .1) refl (kind-read _ _ _ _ _ (c .before .before .before .before .before .before .before .before .before .before .before .pre .1 .0 .table) (c .before .before .before .before .before .before .before .before .before .before .before .pre .1 .1) (c .before .before .before .before .before .before .before .before .entry .ensures) (c .before .before .before .before .before .before .before .kind-in .ensures)) (c .before .if6 .taken))))
 
 evaluate-returns-6 : (t : ℕ) → evaluate-lts.Need-returns-6 (evaluate-claims t) (evaluate-at t) evaluate.Post
 evaluate-returns-6 t c = c .before .before .visit-operator .ensures
 
 evaluate-visit-conditional-requires : (t : ℕ) → evaluate-lts.Need-visit-conditional-requires (evaluate-claims t) (evaluate-at t) evaluate.Post
-evaluate-visit-conditional-requires t c κs = (falls-told _ _ (c .before .before .before .before .before .before .before .before .before .before .before .before .pre .0), (c .before .before .before .before .before .before .before .before .before .before .before .before .pre .1 .0, node-is _ _ _ _ _ (c .before .before .before .before .before .before .before .before .before .before .before .before .pre .1 .1) (c .before .before .before .before .before .before .before .before .before .node-record .ensures) (c .before .before .before .before .before .before .before .before .kind .ensures) (c .before .if7 .taken)))
+evaluate-visit-conditional-requires t c κs = (falls-told _ _ (c .before .before .before .before .before .before .before .before .before .before .before .before .pre .0), (c .before .before .before .before .before .before .before .before .before .before .before .before .pre .1 .0, (node-is _ _ _ _ _ (c .before .before .before .before .before .before .before .before .before .before .before .before .pre .1 .1) refl (kind-read _ _ _ _ _ (c .before .before .before .before .before .before .before .before .before .before .before .before .pre .1 .0 .table) (c .before .before .before .before .before .before .before .before .before .before .before .before .pre .1 .1) (c .before .before .before .before .before .before .before .before .before .entry .ensures) (c .before .before .before .before .before .before .before .before .kind-in .ensures)) (c .before .if7 .taken))))
 
 evaluate-returns-7 : (t : ℕ) → evaluate-lts.Need-returns-7 (evaluate-claims t) (evaluate-at t) evaluate.Post
 evaluate-returns-7 t c = c .before .before .visit-conditional .ensures
 
 evaluate-visit-call-requires : (t : ℕ) → evaluate-lts.Need-visit-call-requires (evaluate-claims t) (evaluate-at t) evaluate.Post
-evaluate-visit-call-requires t c κs = (falls-told _ _ (c .before .before .before .before .before .before .before .before .before .before .before .before .before .pre .0), (c .before .before .before .before .before .before .before .before .before .before .before .before .before .pre .1 .0, node-is _ _ _ _ _ (c .before .before .before .before .before .before .before .before .before .before .before .before .before .pre .1 .1) (c .before .before .before .before .before .before .before .before .before .before .node-record .ensures) (c .before .before .before .before .before .before .before .before .before .kind .ensures) (c .before .if8 .taken)))
+evaluate-visit-call-requires t c κs = (falls-told _ _ (c .before .before .before .before .before .before .before .before .before .before .before .before .before .pre .0), (c .before .before .before .before .before .before .before .before .before .before .before .before .before .pre .1 .0, (node-is _ _ _ _ _ (c .before .before .before .before .before .before .before .before .before .before .before .before .before .pre .1 .1) refl (kind-read _ _ _ _ _ (c .before .before .before .before .before .before .before .before .before .before .before .before .before .pre .1 .0 .table) (c .before .before .before .before .before .before .before .before .before .before .before .before .before .pre .1 .1) (c .before .before .before .before .before .before .before .before .before .before .entry .ensures) (c .before .before .before .before .before .before .before .before .before .kind-in .ensures)) (c .before .if8 .taken))))
 
 evaluate-returns-8 : (t : ℕ) → evaluate-lts.Need-returns-8 (evaluate-claims t) (evaluate-at t) evaluate.Post
 evaluate-returns-8 t c = c .before .before .visit-call .ensures
 
 evaluate-visit-case-requires : (t : ℕ) → evaluate-lts.Need-visit-case-requires (evaluate-claims t) (evaluate-at t) evaluate.Post
-evaluate-visit-case-requires t c κs = (falls-told _ _ (c .before .before .before .before .before .before .before .before .before .before .before .before .before .pre .0), (c .before .before .before .before .before .before .before .before .before .before .before .before .before .pre .1 .0, node-last _ _ _ _ _ _ (c .before .before .before .before .before .before .before .before .before .before .before .before .before .pre .1 .0) (c .before .before .before .before .before .before .before .before .before .before .before .before .before .pre .1 .1) (c .before .before .before .before .before .before .before .before .before .before .node-record .ensures) (c .before .before .before .before .before .before .before .before .before .kind .ensures) (c .before .before .before .before .before .before .before .before .if1 .left) (c .before .before .before .before .before .before .before .if2 .left) (c .before .before .before .before .before .if4 .left) (c .before .before .before .before .if5 .left) (c .before .before .before .if6 .left) (c .before .before .if7 .left) (c .before .if8 .left) (c .before .before .before .before .before .before .if3 .left)))
+evaluate-visit-case-requires t c κs = (falls-told _ _ (c .before .before .before .before .before .before .before .before .before .before .before .before .before .pre .0), (c .before .before .before .before .before .before .before .before .before .before .before .before .before .pre .1 .0, node-last _ _ _ _ _ _ (c .before .before .before .before .before .before .before .before .before .before .before .before .before .pre .1 .0 .ready) (c .before .before .before .before .before .before .before .before .before .before .before .before .before .pre .1 .1) refl (kind-read _ _ _ _ _ (c .before .before .before .before .before .before .before .before .before .before .before .before .before .pre .1 .0 .table) (c .before .before .before .before .before .before .before .before .before .before .before .before .before .pre .1 .1) (c .before .before .before .before .before .before .before .before .before .before .entry .ensures) (c .before .before .before .before .before .before .before .before .before .kind-in .ensures)) (c .before .before .before .before .before .before .before .before .if1 .left) (c .before .before .before .before .before .before .before .if2 .left) (c .before .before .before .before .before .if4 .left) (c .before .before .before .before .if5 .left) (c .before .before .before .if6 .left) (c .before .before .if7 .left) (c .before .if8 .left) (c .before .before .before .before .before .before .if3 .left)))
 
 evaluate-returns-9 : (t : ℕ) → evaluate-lts.Need-returns-9 (evaluate-claims t) (evaluate-at t) evaluate.Post
 evaluate-returns-9 t c = c .before .before .visit-case .ensures
@@ -261,115 +268,151 @@ visit-returns-3 : (t : ℕ) → visit-lts.Need-returns-3 (visit-claims t) (visit
 visit-returns-3 t c = visit-on _ _ _ _ _ _ _ _ _ _ _ (c .before .before .before .before .before .if1 .left) (c .before .before .before .before .if2 .left) (c .before .before .evaluate .ensures)
 
 visit-call-returns : (t : ℕ) → visit-call-lts.Need-returns (visit-call-claims t) (visit-call-at t) visit-call.Post
-visit-call-returns t c = call-full _ _ _ _ _ _ _ _ _ _ (c .before .before .before .before .before .pre .1 .1) _ (c .before .if1 .taken) (c .ended .ensures)
+visit-call-returns t c = call-full _ _ _ _ _ _ _ _ _ _ (c .before .before .before .before .pre .1 .1) _ (c .before .if1 .taken) (c .ended .ensures)
+
+visit-call-entry-requires : (t : ℕ) → visit-call-lts.Need-entry-requires (visit-call-claims t) (visit-call-at t) visit-call.Post
+visit-call-entry-requires t c κs = entry-room _ _ _ _ (c .before .before .before .pre .1 .0 .ready) (c .before .before .before .pre .1 .1 .below)
 
 visit-call-body-requires : (t : ℕ) → visit-call-lts.Need-body-requires (visit-call-claims t) (visit-call-at t) visit-call.Post
-visit-call-body-requires t c κs = (c .before .before .before .before .before .before .before .before .before .before .before .pre .1 .0, function-named _ _ _ _ _ (c .before .before .before .before .before .before .before .before .before .before .before .pre .1 .0) _ (c .before .before .before .before .before .before .before .before .before .before .before .pre .1 .1) (c .field2 .ensures))
+visit-call-body-requires t c κs = ((c .before .before .before .before .before .before .before .before .before .before .before .pre .1 .0 .ready), function-named _ _ _ _ _ (c .before .before .before .before .before .before .before .before .before .before .before .pre .1 .0 .ready) _ (c .before .before .before .before .before .before .before .before .before .before .before .pre .1 .1) (second-read _ _ _ _ _ (c .before .before .before .before .before .before .before .before .before .before .before .pre .1 .0 .table) (c .before .before .before .before .before .before .before .before .before .before .before .pre .1 .1 .below) (c .before .before .before .before .before .before .before .entry .ensures) (c .second-in .ensures)))
 
 visit-call-visit-requires : (t : ℕ) → visit-call-lts.Need-visit-requires (visit-call-claims t) (visit-call-at t) visit-call.Post
-visit-call-visit-requires t c κs = (falls-same _ _ (c .before .before .before .before .before .before .before .before .before .before .before .before .before .pre .0), (c .before .before .before .before .before .before .before .before .before .before .before .before .before .pre .1 .0, body-child _ _ _ _ _ (c .before .before .before .before .before .before .before .before .before .before .before .before .before .pre .1 .0) _ _ (c .before .before .before .before .before .before .before .before .before .before .before .before .before .pre .1 .1) (c .before .before .field2 .ensures) (c .before .body .ensures)))
+visit-call-visit-requires t c κs = (falls-same _ _ (c .before .before .before .before .before .before .before .before .before .before .before .before .before .pre .0), (c .before .before .before .before .before .before .before .before .before .before .before .before .before .pre .1 .0, body-child _ _ _ _ _ (c .before .before .before .before .before .before .before .before .before .before .before .before .before .pre .1 .0 .ready) _ _ (c .before .before .before .before .before .before .before .before .before .before .before .before .before .pre .1 .1) (second-read _ _ _ _ _ (c .before .before .before .before .before .before .before .before .before .before .before .before .before .pre .1 .0 .table) (c .before .before .before .before .before .before .before .before .before .before .before .before .before .pre .1 .1 .below) (c .before .before .before .before .before .before .before .before .before .entry .ensures) (c .before .before .second-in .ensures)) (c .before .body .ensures)))
 
 visit-call-returns-2 : (t : ℕ) → visit-call-lts.Need-returns-2 (visit-call-claims t) (visit-call-at t) visit-call.Post
-visit-call-returns-2 t c = call-on _ _ _ _ _ _ _ _ _ _ (c .before .before .before .before .before .before .before .before .before .before .before .before .before .before .before .before .pre .1 .1) _ _ _ _ _ _ _ (c .before .before .before .before .before .before .before .before .before .before .before .before .if1 .left) (c .before .before .before .before .before .before .before .before .before .before .wide .ensures .0) (c .before .before .before .before .before .before .before .before .before .field .ensures) (c .before .before .before .before .before .field2 .ensures) (c .before .before .before .before .before .before .before .before .add-cell .ensures) (c .before .before .before .before .body .ensures) (c .before .before .visit .ensures)
+visit-call-returns-2 t c = call-on _ _ _ _ _ _ _ _ _ _ (c .before .before .before .before .before .before .before .before .before .before .before .before .before .before .before .before .pre .1 .1) _ _ _ _ _ _ _ (c .before .before .before .before .before .before .before .before .before .before .before .before .before .if1 .left) (c .before .before .before .before .before .before .before .before .before .before .wide .ensures .0) (first-read _ _ _ _ _ (c .before .before .before .before .before .before .before .before .before .before .before .before .before .before .before .before .pre .1 .0 .table) (c .before .before .before .before .before .before .before .before .before .before .before .before .before .before .before .before .pre .1 .1 .below) (c .before .before .before .before .before .before .before .before .before .before .before .before .entry .ensures) (c .before .before .before .before .before .before .before .before .before .first-in .ensures)) (second-read _ _ _ _ _ (c .before .before .before .before .before .before .before .before .before .before .before .before .before .before .before .before .pre .1 .0 .table) (c .before .before .before .before .before .before .before .before .before .before .before .before .before .before .before .before .pre .1 .1 .below) (c .before .before .before .before .before .before .before .before .before .before .before .before .entry .ensures) (c .before .before .before .before .before .second-in .ensures)) (c .before .before .before .before .before .before .before .before .add-cell .ensures) (c .before .before .before .before .body .ensures) (c .before .before .visit .ensures)
+
+visit-case-entry-requires : (t : ℕ) → visit-case-lts.Need-entry-requires (visit-case-claims t) (visit-case-at t) visit-case.Post
+visit-case-entry-requires t c κs = entry-room _ _ _ _ (c .before .before .pre .1 .0 .ready) (c .before .before .pre .1 .1 .below)
 
 visit-case-visit-requires : (t : ℕ) → visit-case-lts.Need-visit-requires (visit-case-claims t) (visit-case-at t) visit-case.Post
-visit-case-visit-requires t c κs = (falls-same _ _ (c .before .before .before .before .before .pre .0), (c .before .before .before .before .before .pre .1 .0, scrutinee-child _ _ _ _ _ (c .before .before .before .before .before .pre .1 .0) _ (c .before .before .before .before .before .pre .1 .1) (c .before .field .ensures)))
+visit-case-visit-requires t c κs = (falls-same _ _ (c .before .before .before .before .before .pre .0), (c .before .before .before .before .before .pre .1 .0, (scrutinee-child _ _ _ _ _ (c .before .before .before .before .before .pre .1 .0 .ready) _ (c .before .before .before .before .before .pre .1 .1) (first-read _ _ _ _ _ (c .before .before .before .before .before .pre .1 .0 .table) (c .before .before .before .before .before .pre .1 .1 .below) (c .before .before .entry .ensures) (c .before .first-in .ensures)))))
 
 visit-case-returns : (t : ℕ) → visit-case-lts.Need-returns (visit-case-claims t) (visit-case-at t) visit-case.Post
-visit-case-returns t c = case-ended _ _ _ _ _ _ _ _ _ _ _ _ _ (c .before .before .before .before .visit .ensures) (c .before .before .before .before .before .before .before .before .before .before .pre .1 .1) (c .before .before .before .before .before .before .field .ensures) _ (c .enum-told .given .1)
+visit-case-returns t c = case-ended _ _ _ _ _ _ _ _ _ _ _ _ _ (c .before .before .before .before .visit .ensures) (c .before .before .before .before .before .before .before .before .before .before .pre .1 .1) (first-read _ _ _ _ _ (c .before .before .before .before .before .before .before .before .before .before .pre .1 .0 .table) (c .before .before .before .before .before .before .before .before .before .before .pre .1 .1 .below) (c .before .before .before .before .before .before .before .entry .ensures) (c .before .before .before .before .before .before .first-in .ensures)) _ (c .enum-told .given .1)
 
 visit-case-returns-2 : (t : ℕ) → visit-case-lts.Need-returns-2 (visit-case-claims t) (visit-case-at t) visit-case.Post
-visit-case-returns-2 t c = case-number _ _ _ _ _ _ _ _ _ _ _ _ _ (c .before .before .before .before .before .before .before .before .visit .ensures) (c .before .before .before .before .before .before .before .before .before .before .before .before .before .before .pre .1 .1) (c .before .before .before .before .before .before .before .before .before .before .field .ensures) _ _ _ (c .before .before .before .before .outcome .given .1) (c .before .enum-told2 .given .1) (c .ended .ensures)
+visit-case-returns-2 t c = case-number _ _ _ _ _ _ _ _ _ _ _ _ _ (c .before .before .before .before .before .before .before .before .visit .ensures) (c .before .before .before .before .before .before .before .before .before .before .before .before .before .before .pre .1 .1) (first-read _ _ _ _ _ (c .before .before .before .before .before .before .before .before .before .before .before .before .before .before .pre .1 .0 .table) (c .before .before .before .before .before .before .before .before .before .before .before .before .before .before .pre .1 .1 .below) (c .before .before .before .before .before .before .before .before .before .before .before .entry .ensures) (c .before .before .before .before .before .before .before .before .before .before .first-in .ensures)) _ _ _ (c .before .before .before .before .outcome .given .1) (c .before .enum-told2 .given .1) (c .ended .ensures)
+
+visit-case-entry-requires-2 : (t : ℕ) → visit-case-lts.Need-entry-requires-2 (visit-case-claims t) (visit-case-at t) visit-case.Post
+visit-case-entry-requires-2 t c κs = entry-room _ _ _ _ (c .before .before .before .before .before .before .before .before .before .before .before .before .before .before .pre .1 .0 .ready) (reached-tuple _ _ _ (c .before .before .before .before .before .before .before .before .before .before .before .before .before .before .pre .1 .0 .ready) _ _ _ _ _ _ _ _ _ _ (scrutinee-child _ _ _ _ _ (c .before .before .before .before .before .before .before .before .before .before .before .before .before .before .pre .1 .0 .ready) _ (c .before .before .before .before .before .before .before .before .before .before .before .before .before .before .pre .1 .1) (first-read _ _ _ _ _ (c .before .before .before .before .before .before .before .before .before .before .before .before .before .before .pre .1 .0 .table) (c .before .before .before .before .before .before .before .before .before .before .before .before .before .before .pre .1 .1 .below) (c .before .before .before .before .before .before .before .before .before .before .before .entry .ensures) (c .before .before .before .before .before .before .before .before .before .before .first-in .ensures))) (c .before .before .before .before .before .before .before .before .visit .ensures) _ _ _ (c .before .before .before .before .outcome .given .1) (c .before .value .given .1) .below)
 
 visit-case-node-record-requires : (t : ℕ) → visit-case-lts.Need-node-record-requires (visit-case-claims t) (visit-case-at t) visit-case.Post
-visit-case-node-record-requires t c κs = (c .before .before .before .before .before .before .before .before .before .before .before .before .before .before .pre .1 .0 .index, reached-tuple _ _ _ (c .before .before .before .before .before .before .before .before .before .before .before .before .before .before .pre .1 .0) _ _ _ _ _ _ _ _ _ _ (scrutinee-child _ _ _ _ _ (c .before .before .before .before .before .before .before .before .before .before .before .before .before .before .pre .1 .0) _ (c .before .before .before .before .before .before .before .before .before .before .before .before .before .before .pre .1 .1) (c .before .before .before .before .before .before .before .before .before .before .field .ensures)) (c .before .before .before .before .before .before .before .before .visit .ensures) _ _ _ (c .before .before .before .before .outcome .given .1) (c .before .value .given .1) .below)
+visit-case-node-record-requires t c κs = (c .before .before .before .before .before .before .before .before .before .before .before .before .before .before .before .before .pre .1 .0 .ready .index, c .before .before .before .before .before .before .before .before .before .before .before .before .before .before .before .before .pre .1 .1 .below)
 
 visit-case-returns-3 : (t : ℕ) → visit-case-lts.Need-returns-3 (visit-case-claims t) (visit-case-at t) visit-case.Post
-visit-case-returns-3 t c = case-missing _ _ _ _ _ _ _ _ _ _ _ _ _ (c .before .before .before .before .before .before .before .before .before .before .before .before .before .before .visit .ensures) (c .before .before .before .before .before .before .before .before .before .before .before .before .before .before .before .before .before .before .before .before .pre .1 .1) (c .before .before .before .before .before .before .before .before .before .before .before .before .before .before .before .before .field .ensures) _ _ _ (c .before .before .before .before .before .before .before .before .before .before .outcome .given .1) (c .before .before .before .before .before .before .before .value .given .1) _ (c .before .before .before .before .before .node-record .ensures) _ (c .before .before .before .before .field2 .ensures) _ (c .before .before .before .clause .ensures) _ (c .before .enum-told3 .given .1) (c .ended2 .ensures)
+visit-case-returns-3 t c = case-missing _ _ _ _ _ _ _ _ _ _ _ _ _ (c .before .before .before .before .before .before .before .before .before .before .before .before .before .before .before .visit .ensures) (c .before .before .before .before .before .before .before .before .before .before .before .before .before .before .before .before .before .before .before .before .before .pre .1 .1) (first-read _ _ _ _ _ (c .before .before .before .before .before .before .before .before .before .before .before .before .before .before .before .before .before .before .before .before .before .pre .1 .0 .table) (c .before .before .before .before .before .before .before .before .before .before .before .before .before .before .before .before .before .before .before .before .before .pre .1 .1 .below) (c .before .before .before .before .before .before .before .before .before .before .before .before .before .before .before .before .before .before .entry .ensures) (c .before .before .before .before .before .before .before .before .before .before .before .before .before .before .before .before .before .first-in .ensures)) _ _ _ (c .before .before .before .before .before .before .before .before .before .before .before .outcome .given .1) (c .before .before .before .before .before .before .before .before .value .given .1) _ refl _ (first-read _ _ _ _ _ (c .before .before .before .before .before .before .before .before .before .before .before .before .before .before .before .before .before .before .before .before .before .pre .1 .0 .table) (reached-tuple _ _ _ (c .before .before .before .before .before .before .before .before .before .before .before .before .before .before .before .before .before .before .before .before .before .pre .1 .0 .ready) _ _ _ _ _ _ _ _ _ _ (scrutinee-child _ _ _ _ _ (c .before .before .before .before .before .before .before .before .before .before .before .before .before .before .before .before .before .before .before .before .before .pre .1 .0 .ready) _ (c .before .before .before .before .before .before .before .before .before .before .before .before .before .before .before .before .before .before .before .before .before .pre .1 .1) (first-read _ _ _ _ _ (c .before .before .before .before .before .before .before .before .before .before .before .before .before .before .before .before .before .before .before .before .before .pre .1 .0 .table) (c .before .before .before .before .before .before .before .before .before .before .before .before .before .before .before .before .before .before .before .before .before .pre .1 .1 .below) (c .before .before .before .before .before .before .before .before .before .before .before .before .before .before .before .before .before .before .entry .ensures) (c .before .before .before .before .before .before .before .before .before .before .before .before .before .before .before .before .before .first-in .ensures))) (c .before .before .before .before .before .before .before .before .before .before .before .before .before .before .before .visit .ensures) _ _ _ (c .before .before .before .before .before .before .before .before .before .before .before .outcome .given .1) (c .before .before .before .before .before .before .before .before .value .given .1) .below) (c .before .before .before .before .before .before .entry2 .ensures) (c .before .before .before .before .before .first-in2 .ensures)) _ (clause-read _ _ _ _ (c .before .before .before .before .node-record .ensures) (c .before .before .before .clause .ensures)) _ (c .before .enum-told3 .given .1) (c .ended2 .ensures)
 
 visit-case-visit-requires-2 : (t : ℕ) → visit-case-lts.Need-visit-requires-2 (visit-case-claims t) (visit-case-at t) visit-case.Post
-visit-case-visit-requires-2 t c κs = (falls-on _ _ _ (reached-falls _ _ _ (c .before .before .before .before .before .before .before .before .before .before .before .before .before .before .before .before .before .before .before .before .before .pre .1 .0) _ _ _ _ _ _ _ _ _ _ (scrutinee-child _ _ _ _ _ (c .before .before .before .before .before .before .before .before .before .before .before .before .before .before .before .before .before .before .before .before .before .pre .1 .0) _ (c .before .before .before .before .before .before .before .before .before .before .before .before .before .before .before .before .before .before .before .before .before .pre .1 .1) (c .before .before .before .before .before .before .before .before .before .before .before .before .before .before .before .before .before .field .ensures)) (c .before .before .before .before .before .before .before .before .before .before .before .before .before .before .before .visit .ensures)) (c .before .before .before .before .before .before .before .before .before .before .before .before .before .before .before .before .before .before .before .before .before .pre .0), (c .before .before .before .before .before .before .before .before .before .before .before .before .before .before .before .before .before .before .before .before .before .pre .1 .0, clause-child _ _ _ _ _ (c .before .before .before .before .before .before .before .before .before .before .before .before .before .before .before .before .before .before .before .before .before .pre .1 .0) _ _ _ (c .before .before .before .before .before .before .before .before .before .before .before .before .before .before .before .before .before .before .before .before .before .pre .1 .1) (c .before .before .before .before .clause .ensures) (c .before .before .found .given .1)))
+visit-case-visit-requires-2 t c κs = (falls-on _ _ _ (reached-falls _ _ _ (c .before .before .before .before .before .before .before .before .before .before .before .before .before .before .before .before .before .before .before .before .before .before .pre .1 .0 .ready) _ _ _ _ _ _ _ _ _ _ (scrutinee-child _ _ _ _ _ (c .before .before .before .before .before .before .before .before .before .before .before .before .before .before .before .before .before .before .before .before .before .before .pre .1 .0 .ready) _ (c .before .before .before .before .before .before .before .before .before .before .before .before .before .before .before .before .before .before .before .before .before .before .pre .1 .1) (first-read _ _ _ _ _ (c .before .before .before .before .before .before .before .before .before .before .before .before .before .before .before .before .before .before .before .before .before .before .pre .1 .0 .table) (c .before .before .before .before .before .before .before .before .before .before .before .before .before .before .before .before .before .before .before .before .before .before .pre .1 .1 .below) (c .before .before .before .before .before .before .before .before .before .before .before .before .before .before .before .before .before .before .before .entry .ensures) (c .before .before .before .before .before .before .before .before .before .before .before .before .before .before .before .before .before .before .first-in .ensures))) (c .before .before .before .before .before .before .before .before .before .before .before .before .before .before .before .before .visit .ensures)) (c .before .before .before .before .before .before .before .before .before .before .before .before .before .before .before .before .before .before .before .before .before .before .pre .0), (c .before .before .before .before .before .before .before .before .before .before .before .before .before .before .before .before .before .before .before .before .before .before .pre .1 .0, clause-child _ _ _ _ _ (c .before .before .before .before .before .before .before .before .before .before .before .before .before .before .before .before .before .before .before .before .before .before .pre .1 .0 .ready) _ _ _ (c .before .before .before .before .before .before .before .before .before .before .before .before .before .before .before .before .before .before .before .before .before .before .pre .1 .1) (clause-read _ _ _ _ (c .before .before .before .before .before .node-record .ensures) (c .before .before .before .before .clause .ensures)) (c .before .before .found .given .1)))
 
 visit-case-returns-4 : (t : ℕ) → visit-case-lts.Need-returns-4 (visit-case-claims t) (visit-case-at t) visit-case.Post
-visit-case-returns-4 t c = case-on _ _ _ _ _ _ _ _ _ _ _ _ _ (c .before .before .before .before .before .before .before .before .before .before .before .before .before .before .before .before .before .before .visit .ensures) (c .before .before .before .before .before .before .before .before .before .before .before .before .before .before .before .before .before .before .before .before .before .before .before .before .pre .1 .1) (c .before .before .before .before .before .before .before .before .before .before .before .before .before .before .before .before .before .before .before .before .field .ensures) _ _ _ (c .before .before .before .before .before .before .before .before .before .before .before .before .before .before .outcome .given .1) (c .before .before .before .before .before .before .before .before .before .before .before .value .given .1) _ (c .before .before .before .before .before .before .before .before .before .node-record .ensures) _ (c .before .before .before .before .before .before .before .before .field2 .ensures) _ (c .before .before .before .before .before .before .before .clause .ensures) _ _ _ (c .before .before .before .before .before .found .given .1) (c .before .before .visit2 .ensures)
+visit-case-returns-4 t c = case-on _ _ _ _ _ _ _ _ _ _ _ _ _ (c .before .before .before .before .before .before .before .before .before .before .before .before .before .before .before .before .before .before .before .visit .ensures) (c .before .before .before .before .before .before .before .before .before .before .before .before .before .before .before .before .before .before .before .before .before .before .before .before .before .pre .1 .1) (first-read _ _ _ _ _ (c .before .before .before .before .before .before .before .before .before .before .before .before .before .before .before .before .before .before .before .before .before .before .before .before .before .pre .1 .0 .table) (c .before .before .before .before .before .before .before .before .before .before .before .before .before .before .before .before .before .before .before .before .before .before .before .before .before .pre .1 .1 .below) (c .before .before .before .before .before .before .before .before .before .before .before .before .before .before .before .before .before .before .before .before .before .before .entry .ensures) (c .before .before .before .before .before .before .before .before .before .before .before .before .before .before .before .before .before .before .before .before .before .first-in .ensures)) _ _ _ (c .before .before .before .before .before .before .before .before .before .before .before .before .before .before .before .outcome .given .1) (c .before .before .before .before .before .before .before .before .before .before .before .before .value .given .1) _ refl _ (first-read _ _ _ _ _ (c .before .before .before .before .before .before .before .before .before .before .before .before .before .before .before .before .before .before .before .before .before .before .before .before .before .pre .1 .0 .table) (reached-tuple _ _ _ (c .before .before .before .before .before .before .before .before .before .before .before .before .before .before .before .before .before .before .before .before .before .before .before .before .before .pre .1 .0 .ready) _ _ _ _ _ _ _ _ _ _ (scrutinee-child _ _ _ _ _ (c .before .before .before .before .before .before .before .before .before .before .before .before .before .before .before .before .before .before .before .before .before .before .before .before .before .pre .1 .0 .ready) _ (c .before .before .before .before .before .before .before .before .before .before .before .before .before .before .before .before .before .before .before .before .before .before .before .before .before .pre .1 .1) (first-read _ _ _ _ _ (c .before .before .before .before .before .before .before .before .before .before .before .before .before .before .before .before .before .before .before .before .before .before .before .before .before .pre .1 .0 .table) (c .before .before .before .before .before .before .before .before .before .before .before .before .before .before .before .before .before .before .before .before .before .before .before .before .before .pre .1 .1 .below) (c .before .before .before .before .before .before .before .before .before .before .before .before .before .before .before .before .before .before .before .before .before .before .entry .ensures) (c .before .before .before .before .before .before .before .before .before .before .before .before .before .before .before .before .before .before .before .before .before .first-in .ensures))) (c .before .before .before .before .before .before .before .before .before .before .before .before .before .before .before .before .before .before .before .visit .ensures) _ _ _ (c .before .before .before .before .before .before .before .before .before .before .before .before .before .before .before .outcome .given .1) (c .before .before .before .before .before .before .before .before .before .before .before .before .value .given .1) .below) (c .before .before .before .before .before .before .before .before .before .before .entry2 .ensures) (c .before .before .before .before .before .before .before .before .before .first-in2 .ensures)) _ (clause-read _ _ _ _ (c .before .before .before .before .before .before .before .before .node-record .ensures) (c .before .before .before .before .before .before .before .clause .ensures)) _ _ _ (c .before .before .before .before .before .found .given .1) (c .before .before .visit2 .ensures)
+
+visit-conditional-entry-requires : (t : ℕ) → visit-conditional-lts.Need-entry-requires (visit-conditional-claims t) (visit-conditional-at t) visit-conditional.Post
+visit-conditional-entry-requires t c κs = entry-room _ _ _ _ (c .before .before .pre .1 .0 .ready) (c .before .before .pre .1 .1 .below)
 
 visit-conditional-visit-requires : (t : ℕ) → visit-conditional-lts.Need-visit-requires (visit-conditional-claims t) (visit-conditional-at t) visit-conditional.Post
-visit-conditional-visit-requires t c κs = (falls-same _ _ (c .before .before .before .before .before .pre .0), (c .before .before .before .before .before .pre .1 .0, condition-child _ _ _ _ _ (c .before .before .before .before .before .pre .1 .0) _ (c .before .before .before .before .before .pre .1 .1) (c .before .field .ensures)))
+visit-conditional-visit-requires t c κs = (falls-same _ _ (c .before .before .before .before .before .pre .0), (c .before .before .before .before .before .pre .1 .0, (condition-child _ _ _ _ _ (c .before .before .before .before .before .pre .1 .0 .ready) _ (c .before .before .before .before .before .pre .1 .1) (first-read _ _ _ _ _ (c .before .before .before .before .before .pre .1 .0 .table) (c .before .before .before .before .before .pre .1 .1 .below) (c .before .before .entry .ensures) (c .before .first-in .ensures)))))
 
 visit-conditional-returns : (t : ℕ) → visit-conditional-lts.Need-returns (visit-conditional-claims t) (visit-conditional-at t) visit-conditional.Post
-visit-conditional-returns t c = conditional-ended _ _ _ _ _ _ _ _ _ _ _ _ _ (c .before .before .before .before .visit .ensures) (c .before .before .before .before .before .before .before .before .before .before .pre .1 .1) (c .before .before .before .before .before .before .field .ensures) _ (c .enum-told .given .1)
+visit-conditional-returns t c = conditional-ended _ _ _ _ _ _ _ _ _ _ _ _ _ (c .before .before .before .before .visit .ensures) (c .before .before .before .before .before .before .before .before .before .before .pre .1 .1) (first-read _ _ _ _ _ (c .before .before .before .before .before .before .before .before .before .before .pre .1 .0 .table) (c .before .before .before .before .before .before .before .before .before .before .pre .1 .1 .below) (c .before .before .before .before .before .before .before .entry .ensures) (c .before .before .before .before .before .before .first-in .ensures)) _ (c .enum-told .given .1)
 
 visit-conditional-returns-2 : (t : ℕ) → visit-conditional-lts.Need-returns-2 (visit-conditional-claims t) (visit-conditional-at t) visit-conditional.Post
-visit-conditional-returns-2 t c = conditional-constructor _ _ _ _ _ _ _ _ _ _ _ _ _ (c .before .before .before .before .before .before .before .before .visit .ensures) (c .before .before .before .before .before .before .before .before .before .before .before .before .before .before .pre .1 .1) (c .before .before .before .before .before .before .before .before .before .before .field .ensures) _ _ _ _ (c .before .before .before .before .outcome .given .1) (c .before .enum-told2 .given .1) (c .ended .ensures)
+visit-conditional-returns-2 t c = conditional-constructor _ _ _ _ _ _ _ _ _ _ _ _ _ (c .before .before .before .before .before .before .before .before .visit .ensures) (c .before .before .before .before .before .before .before .before .before .before .before .before .before .before .pre .1 .1) (first-read _ _ _ _ _ (c .before .before .before .before .before .before .before .before .before .before .before .before .before .before .pre .1 .0 .table) (c .before .before .before .before .before .before .before .before .before .before .before .before .before .before .pre .1 .1 .below) (c .before .before .before .before .before .before .before .before .before .before .before .entry .ensures) (c .before .before .before .before .before .before .before .before .before .before .first-in .ensures)) _ _ _ _ (c .before .before .before .before .outcome .given .1) (c .before .enum-told2 .given .1) (c .ended .ensures)
+
+visit-conditional-entry-requires-2 : (t : ℕ) → visit-conditional-lts.Need-entry-requires-2 (visit-conditional-claims t) (visit-conditional-at t) visit-conditional.Post
+visit-conditional-entry-requires-2 t c κs = entry-room _ _ _ _ (c .before .before .before .before .before .before .before .before .before .before .before .before .before .before .pre .1 .0 .ready) (c .before .before .before .before .before .before .before .before .before .before .before .before .before .before .pre .1 .1 .below)
 
 visit-conditional-visit-requires-2 : (t : ℕ) → visit-conditional-lts.Need-visit-requires-2 (visit-conditional-claims t) (visit-conditional-at t) visit-conditional.Post
-visit-conditional-visit-requires-2 t c κs = (falls-on _ _ _ (reached-falls _ _ _ (c .before .before .before .before .before .before .before .before .before .before .before .before .before .before .before .before .pre .1 .0) _ _ _ _ _ _ _ _ _ _ (condition-child _ _ _ _ _ (c .before .before .before .before .before .before .before .before .before .before .before .before .before .before .before .before .pre .1 .0) _ (c .before .before .before .before .before .before .before .before .before .before .before .before .before .before .before .before .pre .1 .1) (c .before .before .before .before .before .before .before .before .before .before .before .before .field .ensures)) (c .before .before .before .before .before .before .before .before .before .before .visit .ensures)) (c .before .before .before .before .before .before .before .before .before .before .before .before .before .before .before .before .pre .0), (c .before .before .before .before .before .before .before .before .before .before .before .before .before .before .before .before .pre .1 .0, branch-child _ _ _ _ _ (c .before .before .before .before .before .before .before .before .before .before .before .before .before .before .before .before .pre .1 .0) _ _ (c .before .before .before .before .before .before .before .before .before .before .before .before .before .before .before .before .pre .1 .1) (c .before .branch .ensures)))
+visit-conditional-visit-requires-2 t c κs = (falls-on _ _ _ (reached-falls _ _ _ (c .before .before .before .before .before .before .before .before .before .before .before .before .before .before .before .before .before .before .before .pre .1 .0 .ready) _ _ _ _ _ _ _ _ _ _ (condition-child _ _ _ _ _ (c .before .before .before .before .before .before .before .before .before .before .before .before .before .before .before .before .before .before .before .pre .1 .0 .ready) _ (c .before .before .before .before .before .before .before .before .before .before .before .before .before .before .before .before .before .before .before .pre .1 .1) (first-read _ _ _ _ _ (c .before .before .before .before .before .before .before .before .before .before .before .before .before .before .before .before .before .before .before .pre .1 .0 .table) (c .before .before .before .before .before .before .before .before .before .before .before .before .before .before .before .before .before .before .before .pre .1 .1 .below) (c .before .before .before .before .before .before .before .before .before .before .before .before .before .before .before .before .entry .ensures) (c .before .before .before .before .before .before .before .before .before .before .before .before .before .before .before .first-in .ensures))) (c .before .before .before .before .before .before .before .before .before .before .before .before .before .visit .ensures)) (c .before .before .before .before .before .before .before .before .before .before .before .before .before .before .before .before .before .before .before .pre .0), (c .before .before .before .before .before .before .before .before .before .before .before .before .before .before .before .before .before .before .before .pre .1 .0, branch-child _ _ _ _ _ (c .before .before .before .before .before .before .before .before .before .before .before .before .before .before .before .before .before .before .before .pre .1 .0 .ready) _ _ (c .before .before .before .before .before .before .before .before .before .before .before .before .before .before .before .before .before .before .before .pre .1 .1) (branch-read _ _ _ _ _ (c .before .branch .ensures) (second-read _ _ _ _ _ (c .before .before .before .before .before .before .before .before .before .before .before .before .before .before .before .before .before .before .before .pre .1 .0 .table) (c .before .before .before .before .before .before .before .before .before .before .before .before .before .before .before .before .before .before .before .pre .1 .1 .below) (c .before .before .before .before .entry2 .ensures) (c .before .before .before .second-in .ensures)) (third-read _ _ _ _ _ (c .before .before .before .before .before .before .before .before .before .before .before .before .before .before .before .before .before .before .before .pre .1 .0 .table) (c .before .before .before .before .before .before .before .before .before .before .before .before .before .before .before .before .before .before .before .pre .1 .1 .below) (c .before .before .before .before .entry2 .ensures) (c .before .before .third-in .ensures)))))
 
 visit-conditional-returns-3 : (t : ℕ) → visit-conditional-lts.Need-returns-3 (visit-conditional-claims t) (visit-conditional-at t) visit-conditional.Post
-visit-conditional-returns-3 t c = conditional-on _ _ _ _ _ _ _ _ _ _ _ _ _ (c .before .before .before .before .before .before .before .before .before .before .before .before .before .visit .ensures) (c .before .before .before .before .before .before .before .before .before .before .before .before .before .before .before .before .before .before .before .pre .1 .1) (c .before .before .before .before .before .before .before .before .before .before .before .before .before .before .before .field .ensures) _ _ _ _ _ _ (c .before .before .before .before .before .before .before .before .before .outcome .given .1) (c .before .before .before .before .before .before .value .given .1) (toZ-ofZ w32 _ (record { sfits = search needs })) (c .before .before .before .before .branch .ensures) (c .before .before .visit2 .ensures)
+visit-conditional-returns-3 t c = conditional-on _ _ _ _ _ _ _ _ _ _ _ _ _ (c .before .before .before .before .before .before .before .before .before .before .before .before .before .before .before .before .visit .ensures) (c .before .before .before .before .before .before .before .before .before .before .before .before .before .before .before .before .before .before .before .before .before .before .pre .1 .1) (first-read _ _ _ _ _ (c .before .before .before .before .before .before .before .before .before .before .before .before .before .before .before .before .before .before .before .before .before .before .pre .1 .0 .table) (c .before .before .before .before .before .before .before .before .before .before .before .before .before .before .before .before .before .before .before .before .before .before .pre .1 .1 .below) (c .before .before .before .before .before .before .before .before .before .before .before .before .before .before .before .before .before .before .before .entry .ensures) (c .before .before .before .before .before .before .before .before .before .before .before .before .before .before .before .before .before .before .first-in .ensures)) _ _ _ _ _ _ (c .before .before .before .before .before .before .before .before .before .before .before .before .outcome .given .1) (c .before .before .before .before .before .before .before .before .before .value .given .1) (toZ-ofZ w32 _ (record { sfits = search needs })) (branch-read _ _ _ _ _ (c .before .before .before .before .branch .ensures) (second-read _ _ _ _ _ (c .before .before .before .before .before .before .before .before .before .before .before .before .before .before .before .before .before .before .before .before .before .before .pre .1 .0 .table) (c .before .before .before .before .before .before .before .before .before .before .before .before .before .before .before .before .before .before .before .before .before .before .pre .1 .1 .below) (c .before .before .before .before .before .before .before .entry2 .ensures) (c .before .before .before .before .before .before .second-in .ensures)) (third-read _ _ _ _ _ (c .before .before .before .before .before .before .before .before .before .before .before .before .before .before .before .before .before .before .before .before .before .before .pre .1 .0 .table) (c .before .before .before .before .before .before .before .before .before .before .before .before .before .before .before .before .before .before .before .before .before .before .pre .1 .1 .below) (c .before .before .before .before .before .before .before .entry2 .ensures) (c .before .before .before .before .before .third-in .ensures))) (c .before .before .visit2 .ensures)
 
 visit-formal-returns : (t : ℕ) → visit-formal-lts.Need-returns (visit-formal-claims t) (visit-formal-at t) visit-formal.Post
-visit-formal-returns t c = formal-empty _ _ _ _ _ _ _ _ _ _ (c .before .before .before .before .before .pre .1 .1) _ (c .before .if1 .taken) (c .ended .ensures)
+visit-formal-returns t c = formal-empty _ _ _ _ _ _ _ _ _ _ (c .before .before .before .before .pre .1 .1) _ (c .before .if1 .taken) (c .ended .ensures)
+
+visit-formal-entry-requires : (t : ℕ) → visit-formal-lts.Need-entry-requires (visit-formal-claims t) (visit-formal-at t) visit-formal.Post
+visit-formal-entry-requires t c κs = entry-room _ _ _ _ (c .before .before .before .before .before .before .pre .1 .0 .ready) (c .before .before .before .before .before .before .pre .1 .1 .below)
 
 visit-formal-formal-record-requires : (t : ℕ) → visit-formal-lts.Need-formal-record-requires (visit-formal-claims t) (visit-formal-at t) visit-formal.Post
-visit-formal-formal-record-requires t c κs = (c .before .before .before .before .before .before .before .before .pre .1 .0 .index, formal-named _ _ _ _ _ (c .before .before .before .before .before .before .before .before .pre .1 .0) _ (c .before .before .before .before .before .before .before .before .pre .1 .1) (c .field .ensures))
+visit-formal-formal-record-requires t c κs = (c .before .before .before .before .before .before .before .before .pre .1 .0 .ready .index, formal-named _ _ _ _ _ (c .before .before .before .before .before .before .before .before .pre .1 .0 .ready) _ (c .before .before .before .before .before .before .before .before .pre .1 .1) (first-read _ _ _ _ _ (c .before .before .before .before .before .before .before .before .pre .1 .0 .table) (c .before .before .before .before .before .before .before .before .pre .1 .1 .below) (c .before .entry .ensures) (c .first-in .ensures)))
 
 visit-formal-returns-2 : (t : ℕ) → visit-formal-lts.Need-returns-2 (visit-formal-claims t) (visit-formal-at t) visit-formal.Post
-visit-formal-returns-2 t c = formal-missing _ _ _ _ _ _ _ _ _ _ (c .before .before .before .before .before .before .before .before .before .before .before .before .before .pre .1 .1) _ _ _ _ _ (c .before .before .before .before .before .before .before .before .before .if1 .left) (c .before .before .before .before .before .field .ensures) (c .before .before .before .before .before .before .before .wide .ensures .0) (c .before .before .before .before .before .before .label-at .ensures) (c .before .before .before .before .formal-record .ensures) (c .before .before .before .field-after .ensures) _ (c .before .enum-told .given .1) (c .ended2 .ensures)
+visit-formal-returns-2 t c = formal-missing _ _ _ _ _ _ _ _ _ _ (c .before .before .before .before .before .before .before .before .before .before .before .before .before .pre .1 .1) _ _ _ _ _ (c .before .before .before .before .before .before .before .before .before .before .if1 .left) (first-read _ _ _ _ _ (c .before .before .before .before .before .before .before .before .before .before .before .before .before .pre .1 .0 .table) (c .before .before .before .before .before .before .before .before .before .before .before .before .before .pre .1 .1 .below) (c .before .before .before .before .before .before .entry .ensures) (c .before .before .before .before .before .first-in .ensures)) (c .before .before .before .before .before .before .before .before .wide .ensures .0) (c .before .before .before .before .before .before .before .label-at .ensures) (c .before .before .before .before .formal-record .ensures) (c .before .before .before .field-after .ensures) _ (c .before .enum-told .given .1) (c .ended2 .ensures)
 
 visit-formal-visit-requires : (t : ℕ) → visit-formal-lts.Need-visit-requires (visit-formal-claims t) (visit-formal-at t) visit-formal.Post
-visit-formal-visit-requires t c κs = (falls-same _ _ (c .before .before .before .before .before .before .before .before .before .before .before .before .before .before .before .before .before .pre .0), (c .before .before .before .before .before .before .before .before .before .before .before .before .before .before .before .before .before .pre .1 .0, actual-child _ _ _ _ _ (c .before .before .before .before .before .before .before .before .before .before .before .before .before .before .before .before .before .pre .1 .0) _ _ _ _ _ (c .before .before .before .before .before .before .before .before .before .before .before .before .before .before .before .before .before .pre .1 .1) (c .before .before .before .before .before .before .before .before .before .field .ensures) (c .before .before .before .before .before .before .before .before .formal-record .ensures) (c .before .before .before .before .before .before .before .field-after .ensures) (c .before .before .before .before .before .found .given .1)))
+visit-formal-visit-requires t c κs = (falls-same _ _ (c .before .before .before .before .before .before .before .before .before .before .before .before .before .before .before .before .before .pre .0), (c .before .before .before .before .before .before .before .before .before .before .before .before .before .before .before .before .before .pre .1 .0, actual-child _ _ _ _ _ (c .before .before .before .before .before .before .before .before .before .before .before .before .before .before .before .before .before .pre .1 .0 .ready) _ _ _ _ _ (c .before .before .before .before .before .before .before .before .before .before .before .before .before .before .before .before .before .pre .1 .1) (first-read _ _ _ _ _ (c .before .before .before .before .before .before .before .before .before .before .before .before .before .before .before .before .before .pre .1 .0 .table) (c .before .before .before .before .before .before .before .before .before .before .before .before .before .before .before .before .before .pre .1 .1 .below) (c .before .before .before .before .before .before .before .before .before .before .entry .ensures) (c .before .before .before .before .before .before .before .before .before .first-in .ensures)) (c .before .before .before .before .before .before .before .before .formal-record .ensures) (c .before .before .before .before .before .before .before .field-after .ensures) (c .before .before .before .before .before .found .given .1)))
 
 visit-formal-returns-3 : (t : ℕ) → visit-formal-lts.Need-returns-3 (visit-formal-claims t) (visit-formal-at t) visit-formal.Post
-visit-formal-returns-3 t c = formal-on _ _ _ _ _ _ _ _ _ _ (c .before .before .before .before .before .before .before .before .before .before .before .before .before .before .before .before .before .before .before .before .pre .1 .1) _ _ _ _ _ (c .before .before .before .before .before .before .before .before .before .before .before .before .before .before .before .before .if1 .left) (c .before .before .before .before .before .before .before .before .before .before .before .before .field .ensures) (c .before .before .before .before .before .before .before .before .before .before .before .before .before .before .wide .ensures .0) (c .before .before .before .before .before .before .before .before .before .before .before .before .before .label-at .ensures) (c .before .before .before .before .before .before .before .before .before .before .before .formal-record .ensures) (c .before .before .before .before .before .before .before .before .before .before .field-after .ensures) _ _ _ _ _ (c .before .before .before .before .before .before .before .before .found .given .1) (c .before .before .before .before .before .wide2 .ensures .0) (c .before .before .before .before .previous-at .ensures) (c .before .before .visit .ensures)
+visit-formal-returns-3 t c = formal-on _ _ _ _ _ _ _ _ _ _ (c .before .before .before .before .before .before .before .before .before .before .before .before .before .before .before .before .before .before .before .before .pre .1 .1) _ _ _ _ _ (c .before .before .before .before .before .before .before .before .before .before .before .before .before .before .before .before .before .if1 .left) (first-read _ _ _ _ _ (c .before .before .before .before .before .before .before .before .before .before .before .before .before .before .before .before .before .before .before .before .pre .1 .0 .table) (c .before .before .before .before .before .before .before .before .before .before .before .before .before .before .before .before .before .before .before .before .pre .1 .1 .below) (c .before .before .before .before .before .before .before .before .before .before .before .before .before .entry .ensures) (c .before .before .before .before .before .before .before .before .before .before .before .before .first-in .ensures)) (c .before .before .before .before .before .before .before .before .before .before .before .before .before .before .before .wide .ensures .0) (c .before .before .before .before .before .before .before .before .before .before .before .before .before .before .label-at .ensures) (c .before .before .before .before .before .before .before .before .before .before .before .formal-record .ensures) (c .before .before .before .before .before .before .before .before .before .before .field-after .ensures) _ _ _ _ _ (c .before .before .before .before .before .before .before .before .found .given .1) (c .before .before .before .before .before .wide2 .ensures .0) (c .before .before .before .before .previous-at .ensures) (c .before .before .visit .ensures)
+
+visit-operator-entry-requires : (t : ℕ) → visit-operator-lts.Need-entry-requires (visit-operator-claims t) (visit-operator-at t) visit-operator.Post
+visit-operator-entry-requires t c κs = entry-room _ _ _ _ (c .before .before .pre .1 .0 .ready) (c .before .before .pre .1 .1 .below)
 
 visit-operator-visit-requires : (t : ℕ) → visit-operator-lts.Need-visit-requires (visit-operator-claims t) (visit-operator-at t) visit-operator.Post
-visit-operator-visit-requires t c κs = (falls-same _ _ (c .before .before .before .before .before .pre .0), (c .before .before .before .before .before .pre .1 .0, left-child _ _ _ _ _ (c .before .before .before .before .before .pre .1 .0) _ (c .before .before .before .before .before .pre .1 .1) (c .before .field .ensures)))
+visit-operator-visit-requires t c κs = (falls-same _ _ (c .before .before .before .before .before .pre .0), (c .before .before .before .before .before .pre .1 .0, (left-child _ _ _ _ _ (c .before .before .before .before .before .pre .1 .0 .ready) _ (c .before .before .before .before .before .pre .1 .1) (second-read _ _ _ _ _ (c .before .before .before .before .before .pre .1 .0 .table) (c .before .before .before .before .before .pre .1 .1 .below) (c .before .before .entry .ensures) (c .before .second-in .ensures)))))
 
 visit-operator-returns : (t : ℕ) → visit-operator-lts.Need-returns (visit-operator-claims t) (visit-operator-at t) visit-operator.Post
-visit-operator-returns t c = left-ended _ _ _ _ _ _ _ _ _ _ _ _ _ (c .before .before .before .before .visit .ensures) (c .before .before .before .before .before .before .before .before .before .before .pre .1 .1) (c .before .before .before .before .before .before .field .ensures) _ (c .enum-told .given .1)
+visit-operator-returns t c = left-ended _ _ _ _ _ _ _ _ _ _ _ _ _ (c .before .before .before .before .visit .ensures) (c .before .before .before .before .before .before .before .before .before .before .pre .1 .1) (second-read _ _ _ _ _ (c .before .before .before .before .before .before .before .before .before .before .pre .1 .0 .table) (c .before .before .before .before .before .before .before .before .before .before .pre .1 .1 .below) (c .before .before .before .before .before .before .before .entry .ensures) (c .before .before .before .before .before .before .second-in .ensures)) _ (c .enum-told .given .1)
 
 visit-operator-returns-2 : (t : ℕ) → visit-operator-lts.Need-returns-2 (visit-operator-claims t) (visit-operator-at t) visit-operator.Post
-visit-operator-returns-2 t c = left-constructor _ _ _ _ _ _ _ _ _ _ _ _ _ (c .before .before .before .before .before .before .before .before .visit .ensures) (c .before .before .before .before .before .before .before .before .before .before .before .before .before .before .pre .1 .1) (c .before .before .before .before .before .before .before .before .before .before .field .ensures) _ _ _ _ (c .before .before .before .before .outcome .given .1) (c .before .enum-told2 .given .1) (c .ended .ensures)
+visit-operator-returns-2 t c = left-constructor _ _ _ _ _ _ _ _ _ _ _ _ _ (c .before .before .before .before .before .before .before .before .visit .ensures) (c .before .before .before .before .before .before .before .before .before .before .before .before .before .before .pre .1 .1) (second-read _ _ _ _ _ (c .before .before .before .before .before .before .before .before .before .before .before .before .before .before .pre .1 .0 .table) (c .before .before .before .before .before .before .before .before .before .before .before .before .before .before .pre .1 .1 .below) (c .before .before .before .before .before .before .before .before .before .before .before .entry .ensures) (c .before .before .before .before .before .before .before .before .before .before .second-in .ensures)) _ _ _ _ (c .before .before .before .before .outcome .given .1) (c .before .enum-told2 .given .1) (c .ended .ensures)
+
+visit-operator-entry-requires-2 : (t : ℕ) → visit-operator-lts.Need-entry-requires-2 (visit-operator-claims t) (visit-operator-at t) visit-operator.Post
+visit-operator-entry-requires-2 t c κs = entry-room _ _ _ _ (c .before .before .before .before .before .before .before .before .before .before .before .before .before .before .pre .1 .0 .ready) (c .before .before .before .before .before .before .before .before .before .before .before .before .before .before .pre .1 .1 .below)
 
 visit-operator-visit-requires-2 : (t : ℕ) → visit-operator-lts.Need-visit-requires-2 (visit-operator-claims t) (visit-operator-at t) visit-operator.Post
-visit-operator-visit-requires-2 t c κs = (falls-on _ _ _ (reached-falls _ _ _ (c .before .before .before .before .before .before .before .before .before .before .before .before .before .before .before .before .pre .1 .0) _ _ _ _ _ _ _ _ _ _ (left-child _ _ _ _ _ (c .before .before .before .before .before .before .before .before .before .before .before .before .before .before .before .before .pre .1 .0) _ (c .before .before .before .before .before .before .before .before .before .before .before .before .before .before .before .before .pre .1 .1) (c .before .before .before .before .before .before .before .before .before .before .before .before .field .ensures)) (c .before .before .before .before .before .before .before .before .before .before .visit .ensures)) (c .before .before .before .before .before .before .before .before .before .before .before .before .before .before .before .before .pre .0), (c .before .before .before .before .before .before .before .before .before .before .before .before .before .before .before .before .pre .1 .0, right-child _ _ _ _ _ (c .before .before .before .before .before .before .before .before .before .before .before .before .before .before .before .before .pre .1 .0) _ (c .before .before .before .before .before .before .before .before .before .before .before .before .before .before .before .before .pre .1 .1) (c .before .field2 .ensures)))
+visit-operator-visit-requires-2 t c κs = (falls-on _ _ _ (reached-falls _ _ _ (c .before .before .before .before .before .before .before .before .before .before .before .before .before .before .before .before .before .pre .1 .0 .ready) _ _ _ _ _ _ _ _ _ _ (left-child _ _ _ _ _ (c .before .before .before .before .before .before .before .before .before .before .before .before .before .before .before .before .before .pre .1 .0 .ready) _ (c .before .before .before .before .before .before .before .before .before .before .before .before .before .before .before .before .before .pre .1 .1) (second-read _ _ _ _ _ (c .before .before .before .before .before .before .before .before .before .before .before .before .before .before .before .before .before .pre .1 .0 .table) (c .before .before .before .before .before .before .before .before .before .before .before .before .before .before .before .before .before .pre .1 .1 .below) (c .before .before .before .before .before .before .before .before .before .before .before .before .before .before .entry .ensures) (c .before .before .before .before .before .before .before .before .before .before .before .before .before .second-in .ensures))) (c .before .before .before .before .before .before .before .before .before .before .before .visit .ensures)) (c .before .before .before .before .before .before .before .before .before .before .before .before .before .before .before .before .before .pre .0), (c .before .before .before .before .before .before .before .before .before .before .before .before .before .before .before .before .before .pre .1 .0, right-child _ _ _ _ _ (c .before .before .before .before .before .before .before .before .before .before .before .before .before .before .before .before .before .pre .1 .0 .ready) _ (c .before .before .before .before .before .before .before .before .before .before .before .before .before .before .before .before .before .pre .1 .1) (third-read _ _ _ _ _ (c .before .before .before .before .before .before .before .before .before .before .before .before .before .before .before .before .before .pre .1 .0 .table) (c .before .before .before .before .before .before .before .before .before .before .before .before .before .before .before .before .before .pre .1 .1 .below) (c .before .before .entry2 .ensures) (c .before .third-in .ensures))))
 
 visit-operator-returns-3 : (t : ℕ) → visit-operator-lts.Need-returns-3 (visit-operator-claims t) (visit-operator-at t) visit-operator.Post
-visit-operator-returns-3 t c = right-ended _ _ _ _ _ _ _ _ _ _ _ _ _ (c .before .before .before .before .before .before .before .before .before .before .before .before .before .before .before .visit .ensures) (c .before .before .before .before .before .before .before .before .before .before .before .before .before .before .before .before .before .before .before .before .before .pre .1 .1) (c .before .before .before .before .before .before .before .before .before .before .before .before .before .before .before .before .before .field .ensures) _ _ (c .before .before .before .before .before .before .before .before .before .before .before .outcome .given .1) (c .before .before .before .before .before .before .before .before .value .given .1) _ (c .before .before .before .before .before .before .field2 .ensures) _ _ (c .before .before .before .before .visit2 .ensures) _ (c .enum-told3 .given .1)
+visit-operator-returns-3 t c = right-ended _ _ _ _ _ _ _ _ _ _ _ _ _ (c .before .before .before .before .before .before .before .before .before .before .before .before .before .before .before .before .visit .ensures) (c .before .before .before .before .before .before .before .before .before .before .before .before .before .before .before .before .before .before .before .before .before .before .pre .1 .1) (second-read _ _ _ _ _ (c .before .before .before .before .before .before .before .before .before .before .before .before .before .before .before .before .before .before .before .before .before .before .pre .1 .0 .table) (c .before .before .before .before .before .before .before .before .before .before .before .before .before .before .before .before .before .before .before .before .before .before .pre .1 .1 .below) (c .before .before .before .before .before .before .before .before .before .before .before .before .before .before .before .before .before .before .before .entry .ensures) (c .before .before .before .before .before .before .before .before .before .before .before .before .before .before .before .before .before .before .second-in .ensures)) _ _ (c .before .before .before .before .before .before .before .before .before .before .before .before .outcome .given .1) (c .before .before .before .before .before .before .before .before .before .value .given .1) _ (third-read _ _ _ _ _ (c .before .before .before .before .before .before .before .before .before .before .before .before .before .before .before .before .before .before .before .before .before .before .pre .1 .0 .table) (c .before .before .before .before .before .before .before .before .before .before .before .before .before .before .before .before .before .before .before .before .before .before .pre .1 .1 .below) (c .before .before .before .before .before .before .before .entry2 .ensures) (c .before .before .before .before .before .before .third-in .ensures)) _ _ (c .before .before .before .before .visit2 .ensures) _ (c .enum-told3 .given .1)
 
 visit-operator-returns-4 : (t : ℕ) → visit-operator-lts.Need-returns-4 (visit-operator-claims t) (visit-operator-at t) visit-operator.Post
-visit-operator-returns-4 t c = right-constructor _ _ _ _ _ _ _ _ _ _ _ _ _ (c .before .before .before .before .before .before .before .before .before .before .before .before .before .before .before .before .before .before .before .visit .ensures) (c .before .before .before .before .before .before .before .before .before .before .before .before .before .before .before .before .before .before .before .before .before .before .before .before .before .pre .1 .1) (c .before .before .before .before .before .before .before .before .before .before .before .before .before .before .before .before .before .before .before .before .before .field .ensures) _ _ (c .before .before .before .before .before .before .before .before .before .before .before .before .before .before .before .outcome .given .1) (c .before .before .before .before .before .before .before .before .before .before .before .before .value .given .1) _ (c .before .before .before .before .before .before .before .before .before .before .field2 .ensures) _ _ (c .before .before .before .before .before .before .before .before .visit2 .ensures) _ _ _ _ (c .before .before .before .before .outcome2 .given .1) (c .before .enum-told4 .given .1) (c .ended2 .ensures)
+visit-operator-returns-4 t c = right-constructor _ _ _ _ _ _ _ _ _ _ _ _ _ (c .before .before .before .before .before .before .before .before .before .before .before .before .before .before .before .before .before .before .before .before .visit .ensures) (c .before .before .before .before .before .before .before .before .before .before .before .before .before .before .before .before .before .before .before .before .before .before .before .before .before .before .pre .1 .1) (second-read _ _ _ _ _ (c .before .before .before .before .before .before .before .before .before .before .before .before .before .before .before .before .before .before .before .before .before .before .before .before .before .before .pre .1 .0 .table) (c .before .before .before .before .before .before .before .before .before .before .before .before .before .before .before .before .before .before .before .before .before .before .before .before .before .before .pre .1 .1 .below) (c .before .before .before .before .before .before .before .before .before .before .before .before .before .before .before .before .before .before .before .before .before .before .before .entry .ensures) (c .before .before .before .before .before .before .before .before .before .before .before .before .before .before .before .before .before .before .before .before .before .before .second-in .ensures)) _ _ (c .before .before .before .before .before .before .before .before .before .before .before .before .before .before .before .before .outcome .given .1) (c .before .before .before .before .before .before .before .before .before .before .before .before .before .value .given .1) _ (third-read _ _ _ _ _ (c .before .before .before .before .before .before .before .before .before .before .before .before .before .before .before .before .before .before .before .before .before .before .before .before .before .before .pre .1 .0 .table) (c .before .before .before .before .before .before .before .before .before .before .before .before .before .before .before .before .before .before .before .before .before .before .before .before .before .before .pre .1 .1 .below) (c .before .before .before .before .before .before .before .before .before .before .before .entry2 .ensures) (c .before .before .before .before .before .before .before .before .before .before .third-in .ensures)) _ _ (c .before .before .before .before .before .before .before .before .visit2 .ensures) _ _ _ _ (c .before .before .before .before .outcome2 .given .1) (c .before .enum-told4 .given .1) (c .ended2 .ensures)
+
+visit-operator-entry-requires-3 : (t : ℕ) → visit-operator-lts.Need-entry-requires-3 (visit-operator-claims t) (visit-operator-at t) visit-operator.Post
+visit-operator-entry-requires-3 t c κs = entry-room _ _ _ _ (c .before .before .before .before .before .before .before .before .before .before .before .before .before .before .before .before .before .before .before .before .before .before .before .before .before .before .pre .1 .0 .ready) (c .before .before .before .before .before .before .before .before .before .before .before .before .before .before .before .before .before .before .before .before .before .before .before .before .before .before .pre .1 .1 .below)
 
 visit-operator-same-length-5 : (t : ℕ) → visit-operator-lts.Need-same-length-5 (visit-operator-claims t) (visit-operator-at t) visit-operator.Post
-visit-operator-same-length-5 t c = c .before .before .before .before .before .before .before .before .before .before .cells2 .given ∙ c .before .before .before .before .before .before .before .before .before .before .before .before .before .before .before .before .before .before .before .before .before .cells .given
+visit-operator-same-length-5 t c = c .before .before .before .before .before .before .before .before .before .before .before .cells2 .given ∙ c .before .before .before .before .before .before .before .before .before .before .before .before .before .before .before .before .before .before .before .before .before .before .before .cells .given
 
 visit-operator-returns-5 : (t : ℕ) → visit-operator-lts.Need-returns-5 (visit-operator-claims t) (visit-operator-at t) visit-operator.Post
-visit-operator-returns-5 t c = operator-on _ _ _ _ _ _ _ _ _ _ _ _ _ (c .before .before .before .before .before .before .before .before .before .before .before .before .before .before .before .before .before .before .before .before .before .before .visit .ensures) (c .before .before .before .before .before .before .before .before .before .before .before .before .before .before .before .before .before .before .before .before .before .before .before .before .before .before .before .before .pre .1 .1) (c .before .before .before .before .before .before .before .before .before .before .before .before .before .before .before .before .before .before .before .before .before .before .before .before .field .ensures) _ _ (c .before .before .before .before .before .before .before .before .before .before .before .before .before .before .before .before .before .before .outcome .given .1) (c .before .before .before .before .before .before .before .before .before .before .before .before .before .before .before .value .given .1) _ (c .before .before .before .before .before .before .before .before .before .before .before .before .before .field2 .ensures) _ _ (c .before .before .before .before .before .before .before .before .before .before .before .visit2 .ensures) _ _ _ _ _ _ _ (c .before .before .before .before .before .before .before .outcome2 .given .1) (c .before .before .before .before .value2 .given .1) (toZ-ofZ w32 _ (record { sfits = search needs })) (toZ-ofZ w32 _ (record { sfits = search needs })) (c .before .before .field3 .ensures) (c .before .compute .ensures) (c .given .ensures)
+visit-operator-returns-5 t c = operator-on _ _ _ _ _ _ _ _ _ _ _ _ _ (c .before .before .before .before .before .before .before .before .before .before .before .before .before .before .before .before .before .before .before .before .before .before .before .before .visit .ensures) (c .before .before .before .before .before .before .before .before .before .before .before .before .before .before .before .before .before .before .before .before .before .before .before .before .before .before .before .before .before .before .pre .1 .1) (second-read _ _ _ _ _ (c .before .before .before .before .before .before .before .before .before .before .before .before .before .before .before .before .before .before .before .before .before .before .before .before .before .before .before .before .before .before .pre .1 .0 .table) (c .before .before .before .before .before .before .before .before .before .before .before .before .before .before .before .before .before .before .before .before .before .before .before .before .before .before .before .before .before .before .pre .1 .1 .below) (c .before .before .before .before .before .before .before .before .before .before .before .before .before .before .before .before .before .before .before .before .before .before .before .before .before .before .before .entry .ensures) (c .before .before .before .before .before .before .before .before .before .before .before .before .before .before .before .before .before .before .before .before .before .before .before .before .before .before .second-in .ensures)) _ _ (c .before .before .before .before .before .before .before .before .before .before .before .before .before .before .before .before .before .before .before .before .outcome .given .1) (c .before .before .before .before .before .before .before .before .before .before .before .before .before .before .before .before .before .value .given .1) _ (third-read _ _ _ _ _ (c .before .before .before .before .before .before .before .before .before .before .before .before .before .before .before .before .before .before .before .before .before .before .before .before .before .before .before .before .before .before .pre .1 .0 .table) (c .before .before .before .before .before .before .before .before .before .before .before .before .before .before .before .before .before .before .before .before .before .before .before .before .before .before .before .before .before .before .pre .1 .1 .below) (c .before .before .before .before .before .before .before .before .before .before .before .before .before .before .before .entry2 .ensures) (c .before .before .before .before .before .before .before .before .before .before .before .before .before .before .third-in .ensures)) _ _ (c .before .before .before .before .before .before .before .before .before .before .before .before .visit2 .ensures) _ _ _ _ _ _ _ (c .before .before .before .before .before .before .before .before .outcome2 .given .1) (c .before .before .before .before .before .value2 .given .1) (toZ-ofZ w32 _ (record { sfits = search needs })) (toZ-ofZ w32 _ (record { sfits = search needs })) (first-read _ _ _ _ _ (c .before .before .before .before .before .before .before .before .before .before .before .before .before .before .before .before .before .before .before .before .before .before .before .before .before .before .before .before .before .before .pre .1 .0 .table) (c .before .before .before .before .before .before .before .before .before .before .before .before .before .before .before .before .before .before .before .before .before .before .before .before .before .before .before .before .before .before .pre .1 .1 .below) (c .before .before .before .entry3 .ensures) (c .before .before .first-in .ensures)) (c .before .compute .ensures) (c .given .ensures)
+
+visit-select-entry-requires : (t : ℕ) → visit-select-lts.Need-entry-requires (visit-select-claims t) (visit-select-at t) visit-select.Post
+visit-select-entry-requires t c κs = entry-room _ _ _ _ (c .before .before .pre .1 .0 .ready) (c .before .before .pre .1 .1 .below)
 
 visit-select-visit-requires : (t : ℕ) → visit-select-lts.Need-visit-requires (visit-select-claims t) (visit-select-at t) visit-select.Post
-visit-select-visit-requires t c κs = (falls-same _ _ (c .before .before .before .before .before .pre .0), (c .before .before .before .before .before .pre .1 .0, select-child _ _ _ _ _ (c .before .before .before .before .before .pre .1 .0) _ (c .before .before .before .before .before .pre .1 .1) (c .before .field .ensures)))
+visit-select-visit-requires t c κs = (falls-same _ _ (c .before .before .before .before .before .pre .0), (c .before .before .before .before .before .pre .1 .0, (select-child _ _ _ _ _ (c .before .before .before .before .before .pre .1 .0 .ready) _ (c .before .before .before .before .before .pre .1 .1) (first-read _ _ _ _ _ (c .before .before .before .before .before .pre .1 .0 .table) (c .before .before .before .before .before .pre .1 .1 .below) (c .before .before .entry .ensures) (c .before .first-in .ensures)))))
 
 visit-select-returns : (t : ℕ) → visit-select-lts.Need-returns (visit-select-claims t) (visit-select-at t) visit-select.Post
-visit-select-returns t c = select-ended _ _ _ _ _ _ _ _ _ _ _ _ _ (c .before .before .before .before .visit .ensures) (c .before .before .before .before .before .before .before .before .before .before .pre .1 .1) (c .before .before .before .before .before .before .field .ensures) _ (c .enum-told .given .1)
+visit-select-returns t c = select-ended _ _ _ _ _ _ _ _ _ _ _ _ _ (c .before .before .before .before .visit .ensures) (c .before .before .before .before .before .before .before .before .before .before .pre .1 .1) (first-read _ _ _ _ _ (c .before .before .before .before .before .before .before .before .before .before .pre .1 .0 .table) (c .before .before .before .before .before .before .before .before .before .before .pre .1 .1 .below) (c .before .before .before .before .before .before .before .entry .ensures) (c .before .before .before .before .before .before .first-in .ensures)) _ (c .enum-told .given .1)
 
 visit-select-returns-2 : (t : ℕ) → visit-select-lts.Need-returns-2 (visit-select-claims t) (visit-select-at t) visit-select.Post
-visit-select-returns-2 t c = select-number _ _ _ _ _ _ _ _ _ _ _ _ _ (c .before .before .before .before .before .before .before .before .visit .ensures) (c .before .before .before .before .before .before .before .before .before .before .before .before .before .before .pre .1 .1) (c .before .before .before .before .before .before .before .before .before .before .field .ensures) _ _ _ (c .before .before .before .before .outcome .given .1) (c .before .enum-told2 .given .1) (c .ended .ensures)
+visit-select-returns-2 t c = select-number _ _ _ _ _ _ _ _ _ _ _ _ _ (c .before .before .before .before .before .before .before .before .visit .ensures) (c .before .before .before .before .before .before .before .before .before .before .before .before .before .before .pre .1 .1) (first-read _ _ _ _ _ (c .before .before .before .before .before .before .before .before .before .before .before .before .before .before .pre .1 .0 .table) (c .before .before .before .before .before .before .before .before .before .before .before .before .before .before .pre .1 .1 .below) (c .before .before .before .before .before .before .before .before .before .before .before .entry .ensures) (c .before .before .before .before .before .before .before .before .before .before .first-in .ensures)) _ _ _ (c .before .before .before .before .outcome .given .1) (c .before .enum-told2 .given .1) (c .ended .ensures)
 
-visit-select-node-record-requires : (t : ℕ) → visit-select-lts.Need-node-record-requires (visit-select-claims t) (visit-select-at t) visit-select.Post
-visit-select-node-record-requires t c κs = (c .before .before .before .before .before .before .before .before .before .before .before .before .before .before .before .pre .1 .0 .index, reached-tuple _ _ _ (c .before .before .before .before .before .before .before .before .before .before .before .before .before .before .before .pre .1 .0) _ _ _ _ _ _ _ _ _ _ (select-child _ _ _ _ _ (c .before .before .before .before .before .before .before .before .before .before .before .before .before .before .before .pre .1 .0) _ (c .before .before .before .before .before .before .before .before .before .before .before .before .before .before .before .pre .1 .1) (c .before .before .before .before .before .before .before .before .before .before .before .field .ensures)) (c .before .before .before .before .before .before .before .before .before .visit .ensures) _ _ _ (c .before .before .before .before .before .outcome .given .1) (c .before .before .value .given .1) .below)
+visit-select-entry-requires-2 : (t : ℕ) → visit-select-lts.Need-entry-requires-2 (visit-select-claims t) (visit-select-at t) visit-select.Post
+visit-select-entry-requires-2 t c κs = entry-room _ _ _ _ (c .before .before .before .before .before .before .before .before .before .before .before .before .before .before .pre .1 .0 .ready) (c .before .before .before .before .before .before .before .before .before .before .before .before .before .before .pre .1 .1 .below)
+
+visit-select-entry-requires-3 : (t : ℕ) → visit-select-lts.Need-entry-requires-3 (visit-select-claims t) (visit-select-at t) visit-select.Post
+visit-select-entry-requires-3 t c κs = entry-room _ _ _ _ (c .before .before .before .before .before .before .before .before .before .before .before .before .before .before .before .before .before .pre .1 .0 .ready) (reached-tuple _ _ _ (c .before .before .before .before .before .before .before .before .before .before .before .before .before .before .before .before .before .pre .1 .0 .ready) _ _ _ _ _ _ _ _ _ _ (select-child _ _ _ _ _ (c .before .before .before .before .before .before .before .before .before .before .before .before .before .before .before .before .before .pre .1 .0 .ready) _ (c .before .before .before .before .before .before .before .before .before .before .before .before .before .before .before .before .before .pre .1 .1) (first-read _ _ _ _ _ (c .before .before .before .before .before .before .before .before .before .before .before .before .before .before .before .before .before .pre .1 .0 .table) (c .before .before .before .before .before .before .before .before .before .before .before .before .before .before .before .before .before .pre .1 .1 .below) (c .before .before .before .before .before .before .before .before .before .before .before .before .before .before .entry .ensures) (c .before .before .before .before .before .before .before .before .before .before .before .before .before .first-in .ensures))) (c .before .before .before .before .before .before .before .before .before .before .before .visit .ensures) _ _ _ (c .before .before .before .before .before .before .before .outcome .given .1) (c .before .before .before .before .value .given .1) .below)
 
 visit-select-returns-3 : (t : ℕ) → visit-select-lts.Need-returns-3 (visit-select-claims t) (visit-select-at t) visit-select.Post
-visit-select-returns-3 t c = select-tag _ _ _ _ _ _ _ _ _ _ _ _ _ (c .before .before .before .before .before .before .before .before .before .before .before .before .before .visit .ensures) (c .before .before .before .before .before .before .before .before .before .before .before .before .before .before .before .before .before .before .before .pre .1 .1) (c .before .before .before .before .before .before .before .before .before .before .before .before .before .before .before .field .ensures) _ _ _ (c .before .before .before .before .before .before .before .before .before .outcome .given .1) (c .before .before .before .before .before .before .value .given .1) _ (c .before .before .before .before .field2 .ensures) _ (c .before .before .before .node-record .ensures) _ _ (c .before .before .if1 .taken) (c .before .field3 .ensures) (c .tag .ensures)
+visit-select-returns-3 t c = select-tag _ _ _ _ _ _ _ _ _ _ _ _ _ (c .before .before .before .before .before .before .before .before .before .before .before .before .before .before .visit .ensures) (c .before .before .before .before .before .before .before .before .before .before .before .before .before .before .before .before .before .before .before .before .pre .1 .1) (first-read _ _ _ _ _ (c .before .before .before .before .before .before .before .before .before .before .before .before .before .before .before .before .before .before .before .before .pre .1 .0 .table) (c .before .before .before .before .before .before .before .before .before .before .before .before .before .before .before .before .before .before .before .before .pre .1 .1 .below) (c .before .before .before .before .before .before .before .before .before .before .before .before .before .before .before .before .before .entry .ensures) (c .before .before .before .before .before .before .before .before .before .before .before .before .before .before .before .before .first-in .ensures)) _ _ _ (c .before .before .before .before .before .before .before .before .before .before .outcome .given .1) (c .before .before .before .before .before .before .before .value .given .1) _ (second-read _ _ _ _ _ (c .before .before .before .before .before .before .before .before .before .before .before .before .before .before .before .before .before .before .before .before .pre .1 .0 .table) (c .before .before .before .before .before .before .before .before .before .before .before .before .before .before .before .before .before .before .before .before .pre .1 .1 .below) (c .before .before .before .before .before .entry2 .ensures) (c .before .before .before .before .second-in .ensures)) _ refl _ _ (c .before .before .before .if1 .taken) (first-read _ _ _ _ _ (c .before .before .before .before .before .before .before .before .before .before .before .before .before .before .before .before .before .before .before .before .pre .1 .0 .table) (reached-tuple _ _ _ (c .before .before .before .before .before .before .before .before .before .before .before .before .before .before .before .before .before .before .before .before .pre .1 .0 .ready) _ _ _ _ _ _ _ _ _ _ (select-child _ _ _ _ _ (c .before .before .before .before .before .before .before .before .before .before .before .before .before .before .before .before .before .before .before .before .pre .1 .0 .ready) _ (c .before .before .before .before .before .before .before .before .before .before .before .before .before .before .before .before .before .before .before .before .pre .1 .1) (first-read _ _ _ _ _ (c .before .before .before .before .before .before .before .before .before .before .before .before .before .before .before .before .before .before .before .before .pre .1 .0 .table) (c .before .before .before .before .before .before .before .before .before .before .before .before .before .before .before .before .before .before .before .before .pre .1 .1 .below) (c .before .before .before .before .before .before .before .before .before .before .before .before .before .before .before .before .before .entry .ensures) (c .before .before .before .before .before .before .before .before .before .before .before .before .before .before .before .before .first-in .ensures))) (c .before .before .before .before .before .before .before .before .before .before .before .before .before .before .visit .ensures) _ _ _ (c .before .before .before .before .before .before .before .before .before .before .outcome .given .1) (c .before .before .before .before .before .before .before .value .given .1) .below) (c .before .before .entry3 .ensures) (c .before .first-in2 .ensures)) (c .tag .ensures)
+
+visit-select-node-record-requires : (t : ℕ) → visit-select-lts.Need-node-record-requires (visit-select-claims t) (visit-select-at t) visit-select.Post
+visit-select-node-record-requires t c κs = (c .before .before .before .before .before .before .before .before .before .before .before .before .before .before .before .before .before .pre .1 .0 .ready .index, (reached-tuple _ _ _ (c .before .before .before .before .before .before .before .before .before .before .before .before .before .before .before .before .before .pre .1 .0 .ready) _ _ _ _ _ _ _ _ _ _ (select-child _ _ _ _ _ (c .before .before .before .before .before .before .before .before .before .before .before .before .before .before .before .before .before .pre .1 .0 .ready) _ (c .before .before .before .before .before .before .before .before .before .before .before .before .before .before .before .before .before .pre .1 .1) (first-read _ _ _ _ _ (c .before .before .before .before .before .before .before .before .before .before .before .before .before .before .before .before .before .pre .1 .0 .table) (c .before .before .before .before .before .before .before .before .before .before .before .before .before .before .before .before .before .pre .1 .1 .below) (c .before .before .before .before .before .before .before .before .before .before .before .before .before .before .entry .ensures) (c .before .before .before .before .before .before .before .before .before .before .before .before .before .first-in .ensures))) (c .before .before .before .before .before .before .before .before .before .before .before .visit .ensures) _ _ _ (c .before .before .before .before .before .before .before .outcome .given .1) (c .before .before .before .before .value .given .1) .below))
 
 visit-select-returns-4 : (t : ℕ) → visit-select-lts.Need-returns-4 (visit-select-claims t) (visit-select-at t) visit-select.Post
-visit-select-returns-4 t c = select-missing _ _ _ _ _ _ _ _ _ _ _ _ _ (c .before .before .before .before .before .before .before .before .before .before .before .before .before .before .before .visit .ensures) (c .before .before .before .before .before .before .before .before .before .before .before .before .before .before .before .before .before .before .before .before .before .pre .1 .1) (c .before .before .before .before .before .before .before .before .before .before .before .before .before .before .before .before .before .field .ensures) _ _ _ (c .before .before .before .before .before .before .before .before .before .before .before .outcome .given .1) (c .before .before .before .before .before .before .before .before .value .given .1) _ (c .before .before .before .before .before .before .field2 .ensures) _ (c .before .before .before .before .before .node-record .ensures) _ (c .before .before .before .before .if1 .left) (c .before .before .before .field-after .ensures) _ (c .before .enum-told3 .given .1) (c .ended2 .ensures)
+visit-select-returns-4 t c = select-missing _ _ _ _ _ _ _ _ _ _ _ _ _ (c .before .before .before .before .before .before .before .before .before .before .before .before .before .before .before .before .visit .ensures) (c .before .before .before .before .before .before .before .before .before .before .before .before .before .before .before .before .before .before .before .before .before .before .pre .1 .1) (first-read _ _ _ _ _ (c .before .before .before .before .before .before .before .before .before .before .before .before .before .before .before .before .before .before .before .before .before .before .pre .1 .0 .table) (c .before .before .before .before .before .before .before .before .before .before .before .before .before .before .before .before .before .before .before .before .before .before .pre .1 .1 .below) (c .before .before .before .before .before .before .before .before .before .before .before .before .before .before .before .before .before .before .before .entry .ensures) (c .before .before .before .before .before .before .before .before .before .before .before .before .before .before .before .before .before .before .first-in .ensures)) _ _ _ (c .before .before .before .before .before .before .before .before .before .before .before .before .outcome .given .1) (c .before .before .before .before .before .before .before .before .before .value .given .1) _ (second-read _ _ _ _ _ (c .before .before .before .before .before .before .before .before .before .before .before .before .before .before .before .before .before .before .before .before .before .before .pre .1 .0 .table) (c .before .before .before .before .before .before .before .before .before .before .before .before .before .before .before .before .before .before .before .before .before .before .pre .1 .1 .below) (c .before .before .before .before .before .before .before .entry2 .ensures) (c .before .before .before .before .before .before .second-in .ensures)) _ (c .before .before .before .before .node-record .ensures) _ (c .before .before .before .before .before .if1 .left) (c .before .before .before .field-after .ensures) _ (c .before .enum-told3 .given .1) (c .ended2 .ensures)
 
 visit-select-visit-requires-2 : (t : ℕ) → visit-select-lts.Need-visit-requires-2 (visit-select-claims t) (visit-select-at t) visit-select.Post
-visit-select-visit-requires-2 t c κs = (falls-on _ _ _ (reached-falls _ _ _ (c .before .before .before .before .before .before .before .before .before .before .before .before .before .before .before .before .before .before .before .before .before .before .pre .1 .0) _ _ _ _ _ _ _ _ _ _ (select-child _ _ _ _ _ (c .before .before .before .before .before .before .before .before .before .before .before .before .before .before .before .before .before .before .before .before .before .before .pre .1 .0) _ (c .before .before .before .before .before .before .before .before .before .before .before .before .before .before .before .before .before .before .before .before .before .before .pre .1 .1) (c .before .before .before .before .before .before .before .before .before .before .before .before .before .before .before .before .before .before .field .ensures)) (c .before .before .before .before .before .before .before .before .before .before .before .before .before .before .before .before .visit .ensures)) (c .before .before .before .before .before .before .before .before .before .before .before .before .before .before .before .before .before .before .before .before .before .before .pre .0), (c .before .before .before .before .before .before .before .before .before .before .before .before .before .before .before .before .before .before .before .before .before .before .pre .1 .0, member-child _ _ _ (c .before .before .before .before .before .before .before .before .before .before .before .before .before .before .before .before .before .before .before .before .before .before .pre .1 .0) _ _ _ _ _ (reached-tuple _ _ _ (c .before .before .before .before .before .before .before .before .before .before .before .before .before .before .before .before .before .before .before .before .before .before .pre .1 .0) _ _ _ _ _ _ _ _ _ _ (select-child _ _ _ _ _ (c .before .before .before .before .before .before .before .before .before .before .before .before .before .before .before .before .before .before .before .before .before .before .pre .1 .0) _ (c .before .before .before .before .before .before .before .before .before .before .before .before .before .before .before .before .before .before .before .before .before .before .pre .1 .1) (c .before .before .before .before .before .before .before .before .before .before .before .before .before .before .before .before .before .before .field .ensures)) (c .before .before .before .before .before .before .before .before .before .before .before .before .before .before .before .before .visit .ensures) _ _ _ (c .before .before .before .before .before .before .before .before .before .before .before .before .outcome .given .1) (c .before .before .before .before .before .before .before .before .before .value .given .1)) (c .before .before .before .before .before .before .node-record .ensures) (c .before .before .before .before .field-after .ensures) (c .before .before .found .given .1)))
+visit-select-visit-requires-2 t c κs = (falls-on _ _ _ (reached-falls _ _ _ (c .before .before .before .before .before .before .before .before .before .before .before .before .before .before .before .before .before .before .before .before .before .before .before .pre .1 .0 .ready) _ _ _ _ _ _ _ _ _ _ (select-child _ _ _ _ _ (c .before .before .before .before .before .before .before .before .before .before .before .before .before .before .before .before .before .before .before .before .before .before .before .pre .1 .0 .ready) _ (c .before .before .before .before .before .before .before .before .before .before .before .before .before .before .before .before .before .before .before .before .before .before .before .pre .1 .1) (first-read _ _ _ _ _ (c .before .before .before .before .before .before .before .before .before .before .before .before .before .before .before .before .before .before .before .before .before .before .before .pre .1 .0 .table) (c .before .before .before .before .before .before .before .before .before .before .before .before .before .before .before .before .before .before .before .before .before .before .before .pre .1 .1 .below) (c .before .before .before .before .before .before .before .before .before .before .before .before .before .before .before .before .before .before .before .before .entry .ensures) (c .before .before .before .before .before .before .before .before .before .before .before .before .before .before .before .before .before .before .before .first-in .ensures))) (c .before .before .before .before .before .before .before .before .before .before .before .before .before .before .before .before .before .visit .ensures)) (c .before .before .before .before .before .before .before .before .before .before .before .before .before .before .before .before .before .before .before .before .before .before .before .pre .0), (c .before .before .before .before .before .before .before .before .before .before .before .before .before .before .before .before .before .before .before .before .before .before .before .pre .1 .0, member-child _ _ _ (c .before .before .before .before .before .before .before .before .before .before .before .before .before .before .before .before .before .before .before .before .before .before .before .pre .1 .0 .ready) _ _ _ _ _ (reached-tuple _ _ _ (c .before .before .before .before .before .before .before .before .before .before .before .before .before .before .before .before .before .before .before .before .before .before .before .pre .1 .0 .ready) _ _ _ _ _ _ _ _ _ _ (select-child _ _ _ _ _ (c .before .before .before .before .before .before .before .before .before .before .before .before .before .before .before .before .before .before .before .before .before .before .before .pre .1 .0 .ready) _ (c .before .before .before .before .before .before .before .before .before .before .before .before .before .before .before .before .before .before .before .before .before .before .before .pre .1 .1) (first-read _ _ _ _ _ (c .before .before .before .before .before .before .before .before .before .before .before .before .before .before .before .before .before .before .before .before .before .before .before .pre .1 .0 .table) (c .before .before .before .before .before .before .before .before .before .before .before .before .before .before .before .before .before .before .before .before .before .before .before .pre .1 .1 .below) (c .before .before .before .before .before .before .before .before .before .before .before .before .before .before .before .before .before .before .before .before .entry .ensures) (c .before .before .before .before .before .before .before .before .before .before .before .before .before .before .before .before .before .before .before .first-in .ensures))) (c .before .before .before .before .before .before .before .before .before .before .before .before .before .before .before .before .before .visit .ensures) _ _ _ (c .before .before .before .before .before .before .before .before .before .before .before .before .before .outcome .given .1) (c .before .before .before .before .before .before .before .before .before .before .value .given .1)) (c .before .before .before .before .before .node-record .ensures) (c .before .before .before .before .field-after .ensures) (c .before .before .found .given .1)))
 
 visit-select-returns-5 : (t : ℕ) → visit-select-lts.Need-returns-5 (visit-select-claims t) (visit-select-at t) visit-select.Post
-visit-select-returns-5 t c = select-on _ _ _ _ _ _ _ _ _ _ _ _ _ (c .before .before .before .before .before .before .before .before .before .before .before .before .before .before .before .before .before .before .before .visit .ensures) (c .before .before .before .before .before .before .before .before .before .before .before .before .before .before .before .before .before .before .before .before .before .before .before .before .before .pre .1 .1) (c .before .before .before .before .before .before .before .before .before .before .before .before .before .before .before .before .before .before .before .before .before .field .ensures) _ _ _ (c .before .before .before .before .before .before .before .before .before .before .before .before .before .before .before .outcome .given .1) (c .before .before .before .before .before .before .before .before .before .before .before .before .value .given .1) _ (c .before .before .before .before .before .before .before .before .before .before .field2 .ensures) _ (c .before .before .before .before .before .before .before .before .before .node-record .ensures) _ (c .before .before .before .before .before .before .before .before .if1 .left) (c .before .before .before .before .before .before .before .field-after .ensures) _ _ _ (c .before .before .before .before .before .found .given .1) (c .before .before .visit2 .ensures)
+visit-select-returns-5 t c = select-on _ _ _ _ _ _ _ _ _ _ _ _ _ (c .before .before .before .before .before .before .before .before .before .before .before .before .before .before .before .before .before .before .before .before .visit .ensures) (c .before .before .before .before .before .before .before .before .before .before .before .before .before .before .before .before .before .before .before .before .before .before .before .before .before .before .pre .1 .1) (first-read _ _ _ _ _ (c .before .before .before .before .before .before .before .before .before .before .before .before .before .before .before .before .before .before .before .before .before .before .before .before .before .before .pre .1 .0 .table) (c .before .before .before .before .before .before .before .before .before .before .before .before .before .before .before .before .before .before .before .before .before .before .before .before .before .before .pre .1 .1 .below) (c .before .before .before .before .before .before .before .before .before .before .before .before .before .before .before .before .before .before .before .before .before .before .before .entry .ensures) (c .before .before .before .before .before .before .before .before .before .before .before .before .before .before .before .before .before .before .before .before .before .before .first-in .ensures)) _ _ _ (c .before .before .before .before .before .before .before .before .before .before .before .before .before .before .before .before .outcome .given .1) (c .before .before .before .before .before .before .before .before .before .before .before .before .before .value .given .1) _ (second-read _ _ _ _ _ (c .before .before .before .before .before .before .before .before .before .before .before .before .before .before .before .before .before .before .before .before .before .before .before .before .before .before .pre .1 .0 .table) (c .before .before .before .before .before .before .before .before .before .before .before .before .before .before .before .before .before .before .before .before .before .before .before .before .before .before .pre .1 .1 .below) (c .before .before .before .before .before .before .before .before .before .before .before .entry2 .ensures) (c .before .before .before .before .before .before .before .before .before .before .second-in .ensures)) _ (c .before .before .before .before .before .before .before .before .node-record .ensures) _ (c .before .before .before .before .before .before .before .before .before .if1 .left) (c .before .before .before .before .before .before .before .field-after .ensures) _ _ _ (c .before .before .before .before .before .found .given .1) (c .before .before .visit2 .ensures)
 
 pub +evaluate+visit+visit-call+visit-case+visit-conditional+visit-formal+visit-operator+visit-select-spec :
     {M : Type 1} → statement M
@@ -384,7 +427,7 @@ pub +evaluate+visit+visit-call+visit-case+visit-conditional+visit-formal+visit-o
     μ-visit-operator
     μ-visit-select
     (λ t. evaluate-lts.spec (evaluate-claims t) (evaluate-at t) evaluate.Post
-    (λ c κs. search needs)
+    (evaluate-entry-requires t)
     (λ c κs. search needs)
     (λ c κs. search needs)
     (λ c κs. search needs)
@@ -426,6 +469,7 @@ pub +evaluate+visit+visit-call+visit-case+visit-conditional+visit-formal+visit-o
     (λ t. visit-call-lts.spec (visit-call-claims t) (visit-call-at t) visit-call.Post
     (λ c κs. search needs)
     (visit-call-returns t)
+    (visit-call-entry-requires t)
     (λ c κs. search needs)
     (λ c κs. search needs)
     (λ c κs. search needs)
@@ -436,6 +480,7 @@ pub +evaluate+visit+visit-call+visit-case+visit-conditional+visit-formal+visit-o
     (λ c. search needs)
     (visit-call-returns-2 t))
     (λ t. visit-case-lts.spec (visit-case-claims t) (visit-case-at t) visit-case.Post
+    (visit-case-entry-requires t)
     (λ c κs. search needs)
     (visit-case-visit-requires t)
     (λ c. search needs)
@@ -447,8 +492,9 @@ pub +evaluate+visit+visit-call+visit-case+visit-conditional+visit-formal+visit-o
     (λ c κs. search needs)
     (λ c. search needs)
     (visit-case-returns-2 t)
-    (visit-case-node-record-requires t)
+    (visit-case-entry-requires-2 t)
     (λ c κs. search needs)
+    (visit-case-node-record-requires t)
     (λ c κs. search needs)
     (λ c. search needs)
     (λ c. search needs)
@@ -459,6 +505,7 @@ pub +evaluate+visit+visit-call+visit-case+visit-conditional+visit-formal+visit-o
     (λ c. search needs)
     (visit-case-returns-4 t))
     (λ t. visit-conditional-lts.spec (visit-conditional-claims t) (visit-conditional-at t) visit-conditional.Post
+    (visit-conditional-entry-requires t)
     (λ c κs. search needs)
     (visit-conditional-visit-requires t)
     (λ c. search needs)
@@ -470,6 +517,9 @@ pub +evaluate+visit+visit-call+visit-case+visit-conditional+visit-formal+visit-o
     (λ c κs. search needs)
     (λ c. search needs)
     (visit-conditional-returns-2 t)
+    (visit-conditional-entry-requires-2 t)
+    (λ c κs. search needs)
+    (λ c κs. search needs)
     (λ c κs. search needs)
     (visit-conditional-visit-requires-2 t)
     (λ c. search needs)
@@ -479,6 +529,7 @@ pub +evaluate+visit+visit-call+visit-case+visit-conditional+visit-formal+visit-o
     (visit-formal-returns t)
     (λ c κs. search needs)
     (λ c κs. search needs)
+    (visit-formal-entry-requires t)
     (λ c κs. search needs)
     (visit-formal-formal-record-requires t)
     (λ c κs. search needs)
@@ -493,6 +544,7 @@ pub +evaluate+visit+visit-call+visit-case+visit-conditional+visit-formal+visit-o
     (λ c. search needs)
     (visit-formal-returns-3 t))
     (λ t. visit-operator-lts.spec (visit-operator-claims t) (visit-operator-at t) visit-operator.Post
+    (visit-operator-entry-requires t)
     (λ c κs. search needs)
     (visit-operator-visit-requires t)
     (λ c. search needs)
@@ -504,6 +556,7 @@ pub +evaluate+visit+visit-call+visit-case+visit-conditional+visit-formal+visit-o
     (λ c κs. search needs)
     (λ c. search needs)
     (visit-operator-returns-2 t)
+    (visit-operator-entry-requires-2 t)
     (λ c κs. search needs)
     (visit-operator-visit-requires-2 t)
     (λ c. search needs)
@@ -515,12 +568,14 @@ pub +evaluate+visit+visit-call+visit-case+visit-conditional+visit-formal+visit-o
     (λ c κs. search needs)
     (λ c. search needs)
     (visit-operator-returns-4 t)
+    (visit-operator-entry-requires-3 t)
     (λ c κs. search needs)
     (λ c κs. search needs)
     (λ c κs. search needs)
     (visit-operator-same-length-5 t)
     (visit-operator-returns-5 t))
     λ t. visit-select-lts.spec (visit-select-claims t) (visit-select-at t) visit-select.Post
+    (visit-select-entry-requires t)
     (λ c κs. search needs)
     (visit-select-visit-requires t)
     (λ c. search needs)
@@ -532,12 +587,14 @@ pub +evaluate+visit+visit-call+visit-case+visit-conditional+visit-formal+visit-o
     (λ c κs. search needs)
     (λ c. search needs)
     (visit-select-returns-2 t)
+    (visit-select-entry-requires-2 t)
     (λ c κs. search needs)
-    (visit-select-node-record-requires t)
+    (visit-select-entry-requires-3 t)
     (λ c κs. search needs)
     (λ c κs. search needs)
     (λ c. search needs)
     (visit-select-returns-3 t)
+    (visit-select-node-record-requires t)
     (λ c. search needs)
     (λ c κs. search needs)
     (λ c. search needs)
