@@ -8,8 +8,9 @@ use native.Mathlib.Omega.{arith}
 use lib.IntN.{ℤ, pos}
 use native.Mathlib.Numerals.{add-one}
 use lib.ListN.{length, getD, getElem?, List·getD-eq-default}
-use lib.Dec.{eqb}
-use borrow.Author.Tests.{eq-eqb, ne-eqb}
+use lib.Dec.{ltb, eqb}
+use Rattle.definitions.specs.Bytes.{word}
+use borrow.Author.Tests.{eq-eqb, ne-eqb, lt-ltb, le-ltb}
 use Rattle.definitions.specs.Records.{recordAt, field, fieldCount}
 use Rattle.definitions.specs.Lists.{listed}
 use Rattle.definitions.specs.Operators.{isZero}
@@ -159,3 +160,11 @@ branch-zero z n m e = rw e refl
 
 pub branch-other : (z : ℤ) (n m : ℕ) → isZero z ≡ false → n ≡ cond (isZero z) m n
 branch-other z n m e = rw e refl
+
+-- the actual of a label
+pub actual-there : (b : List ℕ) (place count label x y n : ℕ) → x ≡ place → y ≡ label → label < count → n ≡ word b (x + 4 + 2 * y)
+    → some n ≡ cond (ltb label count) (some (word b (place + 4 + 2 * label))) none
+actual-there b place count label x y n ex ey h e = rw (lt-ltb label count h, e, ex, ey) refl
+
+pub actual-past : (b : List ℕ) (place count label : ℕ) → count ≤ label → none ≡ cond (ltb label count) (some (word b (place + 4 + 2 * label))) none
+actual-past b place count label h = rw (le-ltb label count h) refl

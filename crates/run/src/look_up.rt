@@ -2,18 +2,20 @@
 // the clause.
 ghost use mathlib.Core.Path.{_≡_};
 ghost use mathlib.Core.Bool.{cond};
+ghost use mathlib.Core.Option.{none, some};
+ghost use lib.Dec.{ltb};
+ghost use Rattle.definitions.specs.Bytes.{word};
 ghost use Rattle.definitions.specs.Operators.{isZero};
 ghost use Prim.Native.Nat.{_+_, _*_, _<_};
 ghost use Rattle.definitions.specs.Records.{field};
 ghost use lib.IntN.{pos};
 ghost use lib.ListN.{getD, getElem?};
-ghost use Rattle.definitions.specs.Layouts.{functions, items, nodes, due, bodyOf, nodeRecord, itemRecord};
+ghost use Rattle.definitions.specs.Layouts.{functions, nodes, due, bodyOf, nodeRecord};
 ghost use Rattle.definitions.specs.NodeFields.{fieldsFrom, clauseList, chosen};
 ghost use Rattle.definitions.specs.declared.Layout.the-variants.{Translation};
 ghost use Rattle.format.specs.Index.{Indexed};
 ghost use Rattle.run.specs.States.{foundOf, Ready};
-use definitions::Layout;
-use format::layout::first_item;
+use format::bytes::word;
 use format::layout::first_node;
 use format::records::field;
 use format::records::field_count;
@@ -34,14 +36,6 @@ pub(crate) fn node_record<'a>(b: &'a [u8], starts: &[u16; 1601], k: u16) -> &'a 
     ensures { λ r. ⌜ now r ≡ nodeRecord (now (b .entry)) k ⌝ }
 {
     indexed(b, starts, first_node(b) + wide(k))
-}
-
-// The record of formal `p`.
-pub(crate) fn formal_record<'a>(b: &'a [u8], starts: &[u16; 1601], p: u16) -> &'a [u8]
-    requires { ⌜ Indexed (now b) (now starts) (due (now b)) × (p < items (now b)) ⌝ }
-    ensures { λ r. ⌜ now r ≡ itemRecord Translation (now (b .entry)) p ⌝ }
-{
-    indexed(b, starts, first_item(Layout::Translation, b) + wide(p))
 }
 
 // The body of function `f`.
@@ -69,6 +63,17 @@ pub(crate) fn field_after(rec: &[u8], j: usize, i: u16) -> Found
     let at = j + wide(i);
     if at < field_count(rec) {
         Found::Node(field(rec, at))
+    } else {
+        Found::Nothing
+    }
+}
+
+// The actual that a label names in a formal's record, by where the record starts and how many actuals it lists.
+pub(crate) fn actual(b: &[u8], place: u16, count: u16, label: u16) -> Found
+    ensures { λ r. ⌜ foundOf r ≡ cond (ltb label count) (some (word (now (b .entry)) (place + 4 + 2 * label))) none ⌝ }
+{
+    if label < count {
+        Found::Node(word(b, wide(place) + 4 + 2 * wide(label)))
     } else {
         Found::Nothing
     }

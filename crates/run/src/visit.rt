@@ -6,11 +6,11 @@ ghost use Rattle.definitions.specs.Layouts.{nodes, nodeRecord};
 ghost use Rattle.definitions.specs.TranslationKinds as kinds;
 ghost use Rattle.run.specs.States.{Equipped, NodeIs, stateOf, reachedOf, visits, evaluates};
 use crate::look_up::Found;
+use crate::look_up::actual;
 use crate::look_up::body;
 use crate::look_up::branch;
 use crate::look_up::clause;
 use crate::look_up::field_after;
-use crate::look_up::formal_record;
 use crate::look_up::node_record;
 use crate::look_up::reading;
 use crate::node_table::entry;
@@ -133,8 +133,8 @@ fn visit_formal(
         return ended(numbers::NO_ACTUAL, left, made);
     }
     let label = label_at(cells, wide(w));
-    let p = first_in(entry(tab, k));
-    let found = field_after(formal_record(b, idx, p), 0, label);
+    let node = entry(tab, k);
+    let found = actual(b, second_in(node), third_in(node), label);
     let Found::Node(n) = found else {
         return ended(numbers::NO_ACTUAL, left, made);
     };

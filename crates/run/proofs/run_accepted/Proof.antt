@@ -1,5 +1,5 @@
 -- `run::run_accepted` meets its contract: the refusals 9 and 10, and else the rule's answer.
-use Rattle.run.proofs.Answering.{fitting, result-there, first-below, opened, run-ends, readings-refused, allowance-refused, run-answered}
+use Rattle.run.proofs.Answering.{fitting, result-there, first-below, run-ends, readings-refused, allowance-refused, run-answered}
 use native.Mathlib.Omega.{arith}
 use borrow.Author.Tests.{not-true, not-false}
 use borrow.Author.Needs.{needs}
@@ -48,7 +48,7 @@ cast-room c = record { fits = omega (arith, fitting (c .before .before .before .
 
 -- src/lib.rt:80:15
 node-table-requires : tie.Need-node-table-requires
-node-table-requires c κs = opened _ _ _ (c .before .before .before .before .before .before .before .before .pre)
+node-table-requires c κs = record { accepted = c .before .before .before .before .before .before .before .before .pre .accepted; records = c .before .before .before .before .before .before .before .before .pre .index }
 
 -- src/lib.rt:81:9
 visit-requires : tie.Need-visit-requires

@@ -4,19 +4,19 @@ use borrow.Author.Needs.{needs}
 use Rattle.run.proofs.node_table.entry.Statement.{statement}
 use Rattle.run.proofs.node_table.entry.Tie as tie
 
--- src/node_table.rt:45:9
+-- src/node_table.rt:77:9
 wide-requires : tie.Need-wide-requires
 wide-requires c κs = search needs
 
--- src/node_table.rt:45:5
+-- src/node_table.rt:77:5
 mul-result : tie.Need-mul-result
 mul-result c = search needs
 
--- src/node_table.rt:45:5
+-- src/node_table.rt:77:5
 element-copy-out-result : tie.Need-element-copy-out-result
 element-copy-out-result c = search needs
 
--- src/node_table.rt:41:1
+-- src/node_table.rt:73:1
 returns : tie.Need-returns
 returns c = entry-at (c .before .before .args .tab .now) _ _ (c .before .wide .ensures .0)
 

@@ -1,14 +1,15 @@
 -- The cycle of visits meets its contracts. The measure is three for each step left; one more where the kind is told, two more before.
 use borrow.Author.Needs.{needs}
-use Rattle.run.proofs.Nodes.{falls-counted, falls-told, falls-on, falls-same, select-child, left-child, right-child, condition-child, branch-child, scrutinee-child, formal-named, function-named, body-child, actual-child, clause-child, reached-falls, reached-tuple, member-child}
+use Rattle.run.proofs.Nodes.{falls-counted, falls-told, falls-on, falls-same, select-child, left-child, right-child, condition-child, branch-child, scrutinee-child, function-named, body-child, actual-child, clause-child, reached-falls, reached-tuple, member-child}
 use Rattle.run.proofs.ConstructorSteps.{select-ended, select-number, select-tag, select-missing, select-on, case-ended, case-number, case-missing, case-on}
 use Rattle.run.proofs.NumberSteps.{conditional-ended, conditional-constructor, conditional-on, left-ended, left-constructor, right-ended, right-constructor, operator-on}
 use Rattle.run.proofs.Steps.{visit-no-step, visit-no-nesting, visit-on, number-step, reading-step, tuple-step, formal-empty, formal-missing, formal-on, call-full, call-on}
-use Rattle.run.proofs.Entries.{kind-read, first-read, second-read, third-read, number-read, entry-room, clause-read, branch-read}
+use Rattle.run.proofs.Entries.{kind-read, first-read, second-read, third-read, number-read, actual-read, entry-room, clause-read, branch-read}
 use Rattle.run.proofs.NodeKinds.{node-is, node-last}
 use mir.ValLaws.{toZ-ofZ}
 use mir.Syntax.{w32}
 use mathlib.Core.Path.{refl, _∙_}
+use native.Mathlib.Omega.{arith}
 use Prim.Native.Nat.{ℕ, _+_, _*_, _<_}
 use borrow.Fn.Kinds.{In}
 use borrow.Fn.PlainCycle.{Measures, is, falls, and}
@@ -41,11 +42,11 @@ use Rattle.cells.proofs.cell.label_at.Reads as label-at-reads
 use Rattle.cells.proofs.cell.previous_at.Reads as previous-at-reads
 use Rattle.format.proofs.records.wide.Reads as wide-reads
 use Rattle.operators.proofs.compute.Reads as compute-reads
+use Rattle.run.proofs.look_up.actual.Reads as actual-reads
 use Rattle.run.proofs.look_up.body.Reads as body-reads
 use Rattle.run.proofs.look_up.branch.Reads as branch-reads
 use Rattle.run.proofs.look_up.clause.Reads as clause-reads
 use Rattle.run.proofs.look_up.field_after.Reads as field-after-reads
-use Rattle.run.proofs.look_up.formal_record.Reads as formal-record-reads
 use Rattle.run.proofs.look_up.node_record.Reads as node-record-reads
 use Rattle.run.proofs.look_up.reading.Reads as reading-reads
 use Rattle.run.proofs.node_table.entry.Reads as entry-reads
@@ -197,7 +198,7 @@ visit-conditional-claims t =
 
 abbrev visit-formal-claims : ℕ → visit-formal-lts.Claims
 visit-formal-claims t =
-    (ended-reads.Asked, ended-reads.Learnt, wide-reads.Asked, wide-reads.Learnt, label-at-reads.Asked, label-at-reads.Learnt, entry-reads.Asked, entry-reads.Learnt, first-in-reads.Asked, first-in-reads.Learnt, formal-record-reads.Asked, formal-record-reads.Learnt, field-after-reads.Asked, field-after-reads.Learnt, previous-at-reads.Asked, previous-at-reads.Learnt, visit-below t, visit.Post)
+    (ended-reads.Asked, ended-reads.Learnt, wide-reads.Asked, wide-reads.Learnt, label-at-reads.Asked, label-at-reads.Learnt, entry-reads.Asked, entry-reads.Learnt, second-in-reads.Asked, second-in-reads.Learnt, third-in-reads.Asked, third-in-reads.Learnt, actual-reads.Asked, actual-reads.Learnt, previous-at-reads.Asked, previous-at-reads.Learnt, visit-below t, visit.Post)
 
 abbrev visit-operator-claims : ℕ → visit-operator-lts.Claims
 visit-operator-claims t =
@@ -211,7 +212,7 @@ evaluate-entry-requires : (t : ℕ) → evaluate-lts.Need-entry-requires (evalua
 evaluate-entry-requires t c κs = entry-room _ _ _ _ (c .before .before .pre .1 .0 .ready) (c .before .before .pre .1 .1)
 
 evaluate-returns : (t : ℕ) → evaluate-lts.Need-returns (evaluate-claims t) (evaluate-at t) evaluate.Post
-evaluate-returns t c = number-step _ _ _ _ _ _ _ _ _ _ _ _ _ (node-is _ _ _ _ _ (c .before .before .before .before .before .before .before .pre .1 .1) refl (kind-read _ _ _ _ _ (c .before .before .before .before .before .before .before .pre .1 .0 .table) (c .before .before .before .before .before .before .before .pre .1 .1) (c .before .before .before .before .entry .ensures) (c .before .before .before .kind-in .ensures)) (c .before .before .if1 .taken)) (toZ-ofZ w32 _ (record { sfits = search needs })) (number-read _ _ _ _ _ (c .before .before .before .before .before .before .before .pre .1 .0 .table) (c .before .before .before .before .before .before .before .pre .1 .1) (c .before .before .before .before .entry .ensures) (c .before .number-in .ensures)) (c .number .ensures)
+evaluate-returns t c = number-step _ _ _ _ _ _ _ _ _ _ _ _ _ (node-is _ _ _ _ _ (c .before .before .before .before .before .before .before .pre .1 .1) refl (kind-read _ _ _ _ _ (c .before .before .before .before .before .before .before .pre .1 .0 .table) (c .before .before .before .before .before .before .before .pre .1 .1) (c .before .before .before .before .entry .ensures) (c .before .before .before .kind-in .ensures)) (c .before .before .if1 .taken)) (toZ-ofZ w32 _ (record { sfits = search needs })) (number-read _ _ _ _ _ (c .before .before .before .before .before .before .before .pre .1 .0 .table) (node-is _ _ _ _ _ (c .before .before .before .before .before .before .before .pre .1 .1) refl (kind-read _ _ _ _ _ (c .before .before .before .before .before .before .before .pre .1 .0 .table) (c .before .before .before .before .before .before .before .pre .1 .1) (c .before .before .before .before .entry .ensures) (c .before .before .before .kind-in .ensures)) (c .before .before .if1 .taken)) (c .before .before .before .before .entry .ensures) (c .before .number-in .ensures)) (c .number .ensures)
 
 evaluate-returns-2 : (t : ℕ) → evaluate-lts.Need-returns-2 (evaluate-claims t) (evaluate-at t) evaluate.Post
 evaluate-returns-2 t c = reading-step _ _ _ _ _ _ _ _ _ _ _ _ _ _ (node-is _ _ _ _ _ (c .before .before .before .before .before .before .before .before .before .pre .1 .1) refl (kind-read _ _ _ _ _ (c .before .before .before .before .before .before .before .before .before .pre .1 .0 .table) (c .before .before .before .before .before .before .before .before .before .pre .1 .1) (c .before .before .before .before .before .before .entry .ensures) (c .before .before .before .before .before .kind-in .ensures)) (c .before .before .before .if2 .taken)) (first-read _ _ _ _ _ (c .before .before .before .before .before .before .before .before .before .pre .1 .0 .table) (c .before .before .before .before .before .before .before .before .before .pre .1 .1) (c .before .before .before .before .before .before .entry .ensures) (c .before .before .first-in .ensures)) (toZ-ofZ w32 _ (record { sfits = search needs })) (c .before .reading .ensures) (c .number2 .ensures)
@@ -274,13 +275,13 @@ visit-call-entry-requires : (t : ℕ) → visit-call-lts.Need-entry-requires (vi
 visit-call-entry-requires t c κs = entry-room _ _ _ _ (c .before .before .before .pre .1 .0 .ready) (c .before .before .before .pre .1 .1 .below)
 
 visit-call-body-requires : (t : ℕ) → visit-call-lts.Need-body-requires (visit-call-claims t) (visit-call-at t) visit-call.Post
-visit-call-body-requires t c κs = ((c .before .before .before .before .before .before .before .before .before .before .before .pre .1 .0 .ready), function-named _ _ _ _ _ (c .before .before .before .before .before .before .before .before .before .before .before .pre .1 .0 .ready) _ (c .before .before .before .before .before .before .before .before .before .before .before .pre .1 .1) (second-read _ _ _ _ _ (c .before .before .before .before .before .before .before .before .before .before .before .pre .1 .0 .table) (c .before .before .before .before .before .before .before .before .before .before .before .pre .1 .1 .below) (c .before .before .before .before .before .before .before .entry .ensures) (c .second-in .ensures)))
+visit-call-body-requires t c κs = ((c .before .before .before .before .before .before .before .before .before .before .before .pre .1 .0 .ready), function-named _ _ _ _ _ (c .before .before .before .before .before .before .before .before .before .before .before .pre .1 .0 .ready) _ (c .before .before .before .before .before .before .before .before .before .before .before .pre .1 .1) (second-read _ _ _ _ _ (c .before .before .before .before .before .before .before .before .before .before .before .pre .1 .0 .table) (c .before .before .before .before .before .before .before .before .before .before .before .pre .1 .1) (λ q. omega (arith, q)) (c .before .before .before .before .before .before .before .entry .ensures) _ (c .second-in .ensures)))
 
 visit-call-visit-requires : (t : ℕ) → visit-call-lts.Need-visit-requires (visit-call-claims t) (visit-call-at t) visit-call.Post
-visit-call-visit-requires t c κs = (falls-same _ _ (c .before .before .before .before .before .before .before .before .before .before .before .before .before .pre .0), (c .before .before .before .before .before .before .before .before .before .before .before .before .before .pre .1 .0, body-child _ _ _ _ _ (c .before .before .before .before .before .before .before .before .before .before .before .before .before .pre .1 .0 .ready) _ _ (c .before .before .before .before .before .before .before .before .before .before .before .before .before .pre .1 .1) (second-read _ _ _ _ _ (c .before .before .before .before .before .before .before .before .before .before .before .before .before .pre .1 .0 .table) (c .before .before .before .before .before .before .before .before .before .before .before .before .before .pre .1 .1 .below) (c .before .before .before .before .before .before .before .before .before .entry .ensures) (c .before .before .second-in .ensures)) (c .before .body .ensures)))
+visit-call-visit-requires t c κs = (falls-same _ _ (c .before .before .before .before .before .before .before .before .before .before .before .before .before .pre .0), (c .before .before .before .before .before .before .before .before .before .before .before .before .before .pre .1 .0, body-child _ _ _ _ _ (c .before .before .before .before .before .before .before .before .before .before .before .before .before .pre .1 .0 .ready) _ _ (c .before .before .before .before .before .before .before .before .before .before .before .before .before .pre .1 .1) (second-read _ _ _ _ _ (c .before .before .before .before .before .before .before .before .before .before .before .before .before .pre .1 .0 .table) (c .before .before .before .before .before .before .before .before .before .before .before .before .before .pre .1 .1) (λ q. omega (arith, q)) (c .before .before .before .before .before .before .before .before .before .entry .ensures) _ (c .before .before .second-in .ensures)) (c .before .body .ensures)))
 
 visit-call-returns-2 : (t : ℕ) → visit-call-lts.Need-returns-2 (visit-call-claims t) (visit-call-at t) visit-call.Post
-visit-call-returns-2 t c = call-on _ _ _ _ _ _ _ _ _ _ (c .before .before .before .before .before .before .before .before .before .before .before .before .before .before .before .before .pre .1 .1) _ _ _ _ _ _ _ (c .before .before .before .before .before .before .before .before .before .before .before .before .before .if1 .left) (c .before .before .before .before .before .before .before .before .before .before .wide .ensures .0) (first-read _ _ _ _ _ (c .before .before .before .before .before .before .before .before .before .before .before .before .before .before .before .before .pre .1 .0 .table) (c .before .before .before .before .before .before .before .before .before .before .before .before .before .before .before .before .pre .1 .1 .below) (c .before .before .before .before .before .before .before .before .before .before .before .before .entry .ensures) (c .before .before .before .before .before .before .before .before .before .first-in .ensures)) (second-read _ _ _ _ _ (c .before .before .before .before .before .before .before .before .before .before .before .before .before .before .before .before .pre .1 .0 .table) (c .before .before .before .before .before .before .before .before .before .before .before .before .before .before .before .before .pre .1 .1 .below) (c .before .before .before .before .before .before .before .before .before .before .before .before .entry .ensures) (c .before .before .before .before .before .second-in .ensures)) (c .before .before .before .before .before .before .before .before .add-cell .ensures) (c .before .before .before .before .body .ensures) (c .before .before .visit .ensures)
+visit-call-returns-2 t c = call-on _ _ _ _ _ _ _ _ _ _ (c .before .before .before .before .before .before .before .before .before .before .before .before .before .before .before .before .pre .1 .1) _ _ _ _ _ _ _ (c .before .before .before .before .before .before .before .before .before .before .before .before .before .if1 .left) (c .before .before .before .before .before .before .before .before .before .before .wide .ensures .0) (first-read _ _ _ _ _ (c .before .before .before .before .before .before .before .before .before .before .before .before .before .before .before .before .pre .1 .0 .table) (c .before .before .before .before .before .before .before .before .before .before .before .before .before .before .before .before .pre .1 .1 .below) (c .before .before .before .before .before .before .before .before .before .before .before .before .entry .ensures) (c .before .before .before .before .before .before .before .before .before .first-in .ensures)) (second-read _ _ _ _ _ (c .before .before .before .before .before .before .before .before .before .before .before .before .before .before .before .before .pre .1 .0 .table) (c .before .before .before .before .before .before .before .before .before .before .before .before .before .before .before .before .pre .1 .1) (λ q. omega (arith, q)) (c .before .before .before .before .before .before .before .before .before .before .before .before .entry .ensures) _ (c .before .before .before .before .before .second-in .ensures)) (c .before .before .before .before .before .before .before .before .add-cell .ensures) (c .before .before .before .before .body .ensures) (c .before .before .visit .ensures)
 
 visit-case-entry-requires : (t : ℕ) → visit-case-lts.Need-entry-requires (visit-case-claims t) (visit-case-at t) visit-case.Post
 visit-case-entry-requires t c κs = entry-room _ _ _ _ (c .before .before .pre .1 .0 .ready) (c .before .before .pre .1 .1 .below)
@@ -325,10 +326,10 @@ visit-conditional-entry-requires-2 : (t : ℕ) → visit-conditional-lts.Need-en
 visit-conditional-entry-requires-2 t c κs = entry-room _ _ _ _ (c .before .before .before .before .before .before .before .before .before .before .before .before .before .before .pre .1 .0 .ready) (c .before .before .before .before .before .before .before .before .before .before .before .before .before .before .pre .1 .1 .below)
 
 visit-conditional-visit-requires-2 : (t : ℕ) → visit-conditional-lts.Need-visit-requires-2 (visit-conditional-claims t) (visit-conditional-at t) visit-conditional.Post
-visit-conditional-visit-requires-2 t c κs = (falls-on _ _ _ (reached-falls _ _ _ (c .before .before .before .before .before .before .before .before .before .before .before .before .before .before .before .before .before .before .before .pre .1 .0 .ready) _ _ _ _ _ _ _ _ _ _ (condition-child _ _ _ _ _ (c .before .before .before .before .before .before .before .before .before .before .before .before .before .before .before .before .before .before .before .pre .1 .0 .ready) _ (c .before .before .before .before .before .before .before .before .before .before .before .before .before .before .before .before .before .before .before .pre .1 .1) (first-read _ _ _ _ _ (c .before .before .before .before .before .before .before .before .before .before .before .before .before .before .before .before .before .before .before .pre .1 .0 .table) (c .before .before .before .before .before .before .before .before .before .before .before .before .before .before .before .before .before .before .before .pre .1 .1 .below) (c .before .before .before .before .before .before .before .before .before .before .before .before .before .before .before .before .entry .ensures) (c .before .before .before .before .before .before .before .before .before .before .before .before .before .before .before .first-in .ensures))) (c .before .before .before .before .before .before .before .before .before .before .before .before .before .visit .ensures)) (c .before .before .before .before .before .before .before .before .before .before .before .before .before .before .before .before .before .before .before .pre .0), (c .before .before .before .before .before .before .before .before .before .before .before .before .before .before .before .before .before .before .before .pre .1 .0, branch-child _ _ _ _ _ (c .before .before .before .before .before .before .before .before .before .before .before .before .before .before .before .before .before .before .before .pre .1 .0 .ready) _ _ (c .before .before .before .before .before .before .before .before .before .before .before .before .before .before .before .before .before .before .before .pre .1 .1) (branch-read _ _ _ _ _ (c .before .branch .ensures) (second-read _ _ _ _ _ (c .before .before .before .before .before .before .before .before .before .before .before .before .before .before .before .before .before .before .before .pre .1 .0 .table) (c .before .before .before .before .before .before .before .before .before .before .before .before .before .before .before .before .before .before .before .pre .1 .1 .below) (c .before .before .before .before .entry2 .ensures) (c .before .before .before .second-in .ensures)) (third-read _ _ _ _ _ (c .before .before .before .before .before .before .before .before .before .before .before .before .before .before .before .before .before .before .before .pre .1 .0 .table) (c .before .before .before .before .before .before .before .before .before .before .before .before .before .before .before .before .before .before .before .pre .1 .1 .below) (c .before .before .before .before .entry2 .ensures) (c .before .before .third-in .ensures)))))
+visit-conditional-visit-requires-2 t c κs = (falls-on _ _ _ (reached-falls _ _ _ (c .before .before .before .before .before .before .before .before .before .before .before .before .before .before .before .before .before .before .before .pre .1 .0 .ready) _ _ _ _ _ _ _ _ _ _ (condition-child _ _ _ _ _ (c .before .before .before .before .before .before .before .before .before .before .before .before .before .before .before .before .before .before .before .pre .1 .0 .ready) _ (c .before .before .before .before .before .before .before .before .before .before .before .before .before .before .before .before .before .before .before .pre .1 .1) (first-read _ _ _ _ _ (c .before .before .before .before .before .before .before .before .before .before .before .before .before .before .before .before .before .before .before .pre .1 .0 .table) (c .before .before .before .before .before .before .before .before .before .before .before .before .before .before .before .before .before .before .before .pre .1 .1 .below) (c .before .before .before .before .before .before .before .before .before .before .before .before .before .before .before .before .entry .ensures) (c .before .before .before .before .before .before .before .before .before .before .before .before .before .before .before .first-in .ensures))) (c .before .before .before .before .before .before .before .before .before .before .before .before .before .visit .ensures)) (c .before .before .before .before .before .before .before .before .before .before .before .before .before .before .before .before .before .before .before .pre .0), (c .before .before .before .before .before .before .before .before .before .before .before .before .before .before .before .before .before .before .before .pre .1 .0, branch-child _ _ _ _ _ (c .before .before .before .before .before .before .before .before .before .before .before .before .before .before .before .before .before .before .before .pre .1 .0 .ready) _ _ (c .before .before .before .before .before .before .before .before .before .before .before .before .before .before .before .before .before .before .before .pre .1 .1) (branch-read _ _ _ _ _ (c .before .branch .ensures) (second-read _ _ _ _ _ (c .before .before .before .before .before .before .before .before .before .before .before .before .before .before .before .before .before .before .before .pre .1 .0 .table) (c .before .before .before .before .before .before .before .before .before .before .before .before .before .before .before .before .before .before .before .pre .1 .1) (λ q. omega (arith, q)) (c .before .before .before .before .entry2 .ensures) _ (c .before .before .before .second-in .ensures)) (third-read _ _ _ _ _ (c .before .before .before .before .before .before .before .before .before .before .before .before .before .before .before .before .before .before .before .pre .1 .0 .table) (c .before .before .before .before .before .before .before .before .before .before .before .before .before .before .before .before .before .before .before .pre .1 .1) (λ q. omega (arith, q)) (c .before .before .before .before .entry2 .ensures) _ (c .before .before .third-in .ensures)))))
 
 visit-conditional-returns-3 : (t : ℕ) → visit-conditional-lts.Need-returns-3 (visit-conditional-claims t) (visit-conditional-at t) visit-conditional.Post
-visit-conditional-returns-3 t c = conditional-on _ _ _ _ _ _ _ _ _ _ _ _ _ (c .before .before .before .before .before .before .before .before .before .before .before .before .before .before .before .before .visit .ensures) (c .before .before .before .before .before .before .before .before .before .before .before .before .before .before .before .before .before .before .before .before .before .before .pre .1 .1) (first-read _ _ _ _ _ (c .before .before .before .before .before .before .before .before .before .before .before .before .before .before .before .before .before .before .before .before .before .before .pre .1 .0 .table) (c .before .before .before .before .before .before .before .before .before .before .before .before .before .before .before .before .before .before .before .before .before .before .pre .1 .1 .below) (c .before .before .before .before .before .before .before .before .before .before .before .before .before .before .before .before .before .before .before .entry .ensures) (c .before .before .before .before .before .before .before .before .before .before .before .before .before .before .before .before .before .before .first-in .ensures)) _ _ _ _ _ _ (c .before .before .before .before .before .before .before .before .before .before .before .before .outcome .given .1) (c .before .before .before .before .before .before .before .before .before .value .given .1) (toZ-ofZ w32 _ (record { sfits = search needs })) (branch-read _ _ _ _ _ (c .before .before .before .before .branch .ensures) (second-read _ _ _ _ _ (c .before .before .before .before .before .before .before .before .before .before .before .before .before .before .before .before .before .before .before .before .before .before .pre .1 .0 .table) (c .before .before .before .before .before .before .before .before .before .before .before .before .before .before .before .before .before .before .before .before .before .before .pre .1 .1 .below) (c .before .before .before .before .before .before .before .entry2 .ensures) (c .before .before .before .before .before .before .second-in .ensures)) (third-read _ _ _ _ _ (c .before .before .before .before .before .before .before .before .before .before .before .before .before .before .before .before .before .before .before .before .before .before .pre .1 .0 .table) (c .before .before .before .before .before .before .before .before .before .before .before .before .before .before .before .before .before .before .before .before .before .before .pre .1 .1 .below) (c .before .before .before .before .before .before .before .entry2 .ensures) (c .before .before .before .before .before .third-in .ensures))) (c .before .before .visit2 .ensures)
+visit-conditional-returns-3 t c = conditional-on _ _ _ _ _ _ _ _ _ _ _ _ _ (c .before .before .before .before .before .before .before .before .before .before .before .before .before .before .before .before .visit .ensures) (c .before .before .before .before .before .before .before .before .before .before .before .before .before .before .before .before .before .before .before .before .before .before .pre .1 .1) (first-read _ _ _ _ _ (c .before .before .before .before .before .before .before .before .before .before .before .before .before .before .before .before .before .before .before .before .before .before .pre .1 .0 .table) (c .before .before .before .before .before .before .before .before .before .before .before .before .before .before .before .before .before .before .before .before .before .before .pre .1 .1 .below) (c .before .before .before .before .before .before .before .before .before .before .before .before .before .before .before .before .before .before .before .entry .ensures) (c .before .before .before .before .before .before .before .before .before .before .before .before .before .before .before .before .before .before .first-in .ensures)) _ _ _ _ _ _ (c .before .before .before .before .before .before .before .before .before .before .before .before .outcome .given .1) (c .before .before .before .before .before .before .before .before .before .value .given .1) (toZ-ofZ w32 _ (record { sfits = search needs })) (branch-read _ _ _ _ _ (c .before .before .before .before .branch .ensures) (second-read _ _ _ _ _ (c .before .before .before .before .before .before .before .before .before .before .before .before .before .before .before .before .before .before .before .before .before .before .pre .1 .0 .table) (c .before .before .before .before .before .before .before .before .before .before .before .before .before .before .before .before .before .before .before .before .before .before .pre .1 .1) (λ q. omega (arith, q)) (c .before .before .before .before .before .before .before .entry2 .ensures) _ (c .before .before .before .before .before .before .second-in .ensures)) (third-read _ _ _ _ _ (c .before .before .before .before .before .before .before .before .before .before .before .before .before .before .before .before .before .before .before .before .before .before .pre .1 .0 .table) (c .before .before .before .before .before .before .before .before .before .before .before .before .before .before .before .before .before .before .before .before .before .before .pre .1 .1) (λ q. omega (arith, q)) (c .before .before .before .before .before .before .before .entry2 .ensures) _ (c .before .before .before .before .before .third-in .ensures))) (c .before .before .visit2 .ensures)
 
 visit-formal-returns : (t : ℕ) → visit-formal-lts.Need-returns (visit-formal-claims t) (visit-formal-at t) visit-formal.Post
 visit-formal-returns t c = formal-empty _ _ _ _ _ _ _ _ _ _ (c .before .before .before .before .pre .1 .1) _ (c .before .if1 .taken) (c .ended .ensures)
@@ -336,41 +337,38 @@ visit-formal-returns t c = formal-empty _ _ _ _ _ _ _ _ _ _ (c .before .before .
 visit-formal-entry-requires : (t : ℕ) → visit-formal-lts.Need-entry-requires (visit-formal-claims t) (visit-formal-at t) visit-formal.Post
 visit-formal-entry-requires t c κs = entry-room _ _ _ _ (c .before .before .before .before .before .before .pre .1 .0 .ready) (c .before .before .before .before .before .before .pre .1 .1 .below)
 
-visit-formal-formal-record-requires : (t : ℕ) → visit-formal-lts.Need-formal-record-requires (visit-formal-claims t) (visit-formal-at t) visit-formal.Post
-visit-formal-formal-record-requires t c κs = (c .before .before .before .before .before .before .before .before .pre .1 .0 .ready .index, formal-named _ _ _ _ _ (c .before .before .before .before .before .before .before .before .pre .1 .0 .ready) _ (c .before .before .before .before .before .before .before .before .pre .1 .1) (first-read _ _ _ _ _ (c .before .before .before .before .before .before .before .before .pre .1 .0 .table) (c .before .before .before .before .before .before .before .before .pre .1 .1 .below) (c .before .entry .ensures) (c .first-in .ensures)))
-
 visit-formal-returns-2 : (t : ℕ) → visit-formal-lts.Need-returns-2 (visit-formal-claims t) (visit-formal-at t) visit-formal.Post
-visit-formal-returns-2 t c = formal-missing _ _ _ _ _ _ _ _ _ _ (c .before .before .before .before .before .before .before .before .before .before .before .before .before .pre .1 .1) _ _ _ _ _ (c .before .before .before .before .before .before .before .before .before .before .if1 .left) (first-read _ _ _ _ _ (c .before .before .before .before .before .before .before .before .before .before .before .before .before .pre .1 .0 .table) (c .before .before .before .before .before .before .before .before .before .before .before .before .before .pre .1 .1 .below) (c .before .before .before .before .before .before .entry .ensures) (c .before .before .before .before .before .first-in .ensures)) (c .before .before .before .before .before .before .before .before .wide .ensures .0) (c .before .before .before .before .before .before .before .label-at .ensures) (c .before .before .before .before .formal-record .ensures) (c .before .before .before .field-after .ensures) _ (c .before .enum-told .given .1) (c .ended2 .ensures)
+visit-formal-returns-2 t c = formal-missing _ _ _ _ _ _ _ _ _ _ (c .before .before .before .before .before .before .before .before .before .before .before .before .before .pre .1 .1) _ _ _ _ _ (c .before .before .before .before .before .before .before .before .before .before .if1 .left) refl (c .before .before .before .before .before .before .before .before .wide .ensures .0) (c .before .before .before .before .before .before .before .label-at .ensures) refl (actual-read _ _ _ _ _ _ _ _ _ _ (c .before .before .before .before .before .before .before .before .before .before .before .before .before .pre .1 .0) (c .before .before .before .before .before .before .before .before .before .before .before .before .before .pre .1 .1) (c .before .before .before .before .before .before .entry .ensures) (c .before .before .before .before .before .second-in .ensures) (c .before .before .before .before .third-in .ensures) (c .before .before .before .actual .ensures)) _ (c .before .enum-told .given .1) (c .ended2 .ensures)
 
 visit-formal-visit-requires : (t : ℕ) → visit-formal-lts.Need-visit-requires (visit-formal-claims t) (visit-formal-at t) visit-formal.Post
-visit-formal-visit-requires t c κs = (falls-same _ _ (c .before .before .before .before .before .before .before .before .before .before .before .before .before .before .before .before .before .pre .0), (c .before .before .before .before .before .before .before .before .before .before .before .before .before .before .before .before .before .pre .1 .0, actual-child _ _ _ _ _ (c .before .before .before .before .before .before .before .before .before .before .before .before .before .before .before .before .before .pre .1 .0 .ready) _ _ _ _ _ (c .before .before .before .before .before .before .before .before .before .before .before .before .before .before .before .before .before .pre .1 .1) (first-read _ _ _ _ _ (c .before .before .before .before .before .before .before .before .before .before .before .before .before .before .before .before .before .pre .1 .0 .table) (c .before .before .before .before .before .before .before .before .before .before .before .before .before .before .before .before .before .pre .1 .1 .below) (c .before .before .before .before .before .before .before .before .before .before .entry .ensures) (c .before .before .before .before .before .before .before .before .before .first-in .ensures)) (c .before .before .before .before .before .before .before .before .formal-record .ensures) (c .before .before .before .before .before .before .before .field-after .ensures) (c .before .before .before .before .before .found .given .1)))
+visit-formal-visit-requires t c κs = (falls-same _ _ (c .before .before .before .before .before .before .before .before .before .before .before .before .before .before .before .before .before .pre .0), (c .before .before .before .before .before .before .before .before .before .before .before .before .before .before .before .before .before .pre .1 .0, actual-child _ _ _ _ _ (c .before .before .before .before .before .before .before .before .before .before .before .before .before .before .before .before .before .pre .1 .0 .ready) _ _ _ _ _ (c .before .before .before .before .before .before .before .before .before .before .before .before .before .before .before .before .before .pre .1 .1) refl refl (actual-read _ _ _ _ _ _ _ _ _ _ (c .before .before .before .before .before .before .before .before .before .before .before .before .before .before .before .before .before .pre .1 .0) (c .before .before .before .before .before .before .before .before .before .before .before .before .before .before .before .before .before .pre .1 .1) (c .before .before .before .before .before .before .before .before .before .before .entry .ensures) (c .before .before .before .before .before .before .before .before .before .second-in .ensures) (c .before .before .before .before .before .before .before .before .third-in .ensures) (c .before .before .before .before .before .before .before .actual .ensures)) (c .before .before .before .before .before .found .given .1)))
 
 visit-formal-returns-3 : (t : ℕ) → visit-formal-lts.Need-returns-3 (visit-formal-claims t) (visit-formal-at t) visit-formal.Post
-visit-formal-returns-3 t c = formal-on _ _ _ _ _ _ _ _ _ _ (c .before .before .before .before .before .before .before .before .before .before .before .before .before .before .before .before .before .before .before .before .pre .1 .1) _ _ _ _ _ (c .before .before .before .before .before .before .before .before .before .before .before .before .before .before .before .before .before .if1 .left) (first-read _ _ _ _ _ (c .before .before .before .before .before .before .before .before .before .before .before .before .before .before .before .before .before .before .before .before .pre .1 .0 .table) (c .before .before .before .before .before .before .before .before .before .before .before .before .before .before .before .before .before .before .before .before .pre .1 .1 .below) (c .before .before .before .before .before .before .before .before .before .before .before .before .before .entry .ensures) (c .before .before .before .before .before .before .before .before .before .before .before .before .first-in .ensures)) (c .before .before .before .before .before .before .before .before .before .before .before .before .before .before .before .wide .ensures .0) (c .before .before .before .before .before .before .before .before .before .before .before .before .before .before .label-at .ensures) (c .before .before .before .before .before .before .before .before .before .before .before .formal-record .ensures) (c .before .before .before .before .before .before .before .before .before .before .field-after .ensures) _ _ _ _ _ (c .before .before .before .before .before .before .before .before .found .given .1) (c .before .before .before .before .before .wide2 .ensures .0) (c .before .before .before .before .previous-at .ensures) (c .before .before .visit .ensures)
+visit-formal-returns-3 t c = formal-on _ _ _ _ _ _ _ _ _ _ (c .before .before .before .before .before .before .before .before .before .before .before .before .before .before .before .before .before .before .before .before .pre .1 .1) _ _ _ _ _ (c .before .before .before .before .before .before .before .before .before .before .before .before .before .before .before .before .before .if1 .left) refl (c .before .before .before .before .before .before .before .before .before .before .before .before .before .before .before .wide .ensures .0) (c .before .before .before .before .before .before .before .before .before .before .before .before .before .before .label-at .ensures) refl (actual-read _ _ _ _ _ _ _ _ _ _ (c .before .before .before .before .before .before .before .before .before .before .before .before .before .before .before .before .before .before .before .before .pre .1 .0) (c .before .before .before .before .before .before .before .before .before .before .before .before .before .before .before .before .before .before .before .before .pre .1 .1) (c .before .before .before .before .before .before .before .before .before .before .before .before .before .entry .ensures) (c .before .before .before .before .before .before .before .before .before .before .before .before .second-in .ensures) (c .before .before .before .before .before .before .before .before .before .before .before .third-in .ensures) (c .before .before .before .before .before .before .before .before .before .before .actual .ensures)) _ _ _ _ _ (c .before .before .before .before .before .before .before .before .found .given .1) (c .before .before .before .before .before .wide2 .ensures .0) (c .before .before .before .before .previous-at .ensures) (c .before .before .visit .ensures)
 
 visit-operator-entry-requires : (t : ℕ) → visit-operator-lts.Need-entry-requires (visit-operator-claims t) (visit-operator-at t) visit-operator.Post
 visit-operator-entry-requires t c κs = entry-room _ _ _ _ (c .before .before .pre .1 .0 .ready) (c .before .before .pre .1 .1 .below)
 
 visit-operator-visit-requires : (t : ℕ) → visit-operator-lts.Need-visit-requires (visit-operator-claims t) (visit-operator-at t) visit-operator.Post
-visit-operator-visit-requires t c κs = (falls-same _ _ (c .before .before .before .before .before .pre .0), (c .before .before .before .before .before .pre .1 .0, (left-child _ _ _ _ _ (c .before .before .before .before .before .pre .1 .0 .ready) _ (c .before .before .before .before .before .pre .1 .1) (second-read _ _ _ _ _ (c .before .before .before .before .before .pre .1 .0 .table) (c .before .before .before .before .before .pre .1 .1 .below) (c .before .before .entry .ensures) (c .before .second-in .ensures)))))
+visit-operator-visit-requires t c κs = (falls-same _ _ (c .before .before .before .before .before .pre .0), (c .before .before .before .before .before .pre .1 .0, (left-child _ _ _ _ _ (c .before .before .before .before .before .pre .1 .0 .ready) _ (c .before .before .before .before .before .pre .1 .1) (second-read _ _ _ _ _ (c .before .before .before .before .before .pre .1 .0 .table) (c .before .before .before .before .before .pre .1 .1) (λ q. omega (arith, q)) (c .before .before .entry .ensures) _ (c .before .second-in .ensures)))))
 
 visit-operator-returns : (t : ℕ) → visit-operator-lts.Need-returns (visit-operator-claims t) (visit-operator-at t) visit-operator.Post
-visit-operator-returns t c = left-ended _ _ _ _ _ _ _ _ _ _ _ _ _ (c .before .before .before .before .visit .ensures) (c .before .before .before .before .before .before .before .before .before .before .pre .1 .1) (second-read _ _ _ _ _ (c .before .before .before .before .before .before .before .before .before .before .pre .1 .0 .table) (c .before .before .before .before .before .before .before .before .before .before .pre .1 .1 .below) (c .before .before .before .before .before .before .before .entry .ensures) (c .before .before .before .before .before .before .second-in .ensures)) _ (c .enum-told .given .1)
+visit-operator-returns t c = left-ended _ _ _ _ _ _ _ _ _ _ _ _ _ (c .before .before .before .before .visit .ensures) (c .before .before .before .before .before .before .before .before .before .before .pre .1 .1) (second-read _ _ _ _ _ (c .before .before .before .before .before .before .before .before .before .before .pre .1 .0 .table) (c .before .before .before .before .before .before .before .before .before .before .pre .1 .1) (λ q. omega (arith, q)) (c .before .before .before .before .before .before .before .entry .ensures) _ (c .before .before .before .before .before .before .second-in .ensures)) _ (c .enum-told .given .1)
 
 visit-operator-returns-2 : (t : ℕ) → visit-operator-lts.Need-returns-2 (visit-operator-claims t) (visit-operator-at t) visit-operator.Post
-visit-operator-returns-2 t c = left-constructor _ _ _ _ _ _ _ _ _ _ _ _ _ (c .before .before .before .before .before .before .before .before .visit .ensures) (c .before .before .before .before .before .before .before .before .before .before .before .before .before .before .pre .1 .1) (second-read _ _ _ _ _ (c .before .before .before .before .before .before .before .before .before .before .before .before .before .before .pre .1 .0 .table) (c .before .before .before .before .before .before .before .before .before .before .before .before .before .before .pre .1 .1 .below) (c .before .before .before .before .before .before .before .before .before .before .before .entry .ensures) (c .before .before .before .before .before .before .before .before .before .before .second-in .ensures)) _ _ _ _ (c .before .before .before .before .outcome .given .1) (c .before .enum-told2 .given .1) (c .ended .ensures)
+visit-operator-returns-2 t c = left-constructor _ _ _ _ _ _ _ _ _ _ _ _ _ (c .before .before .before .before .before .before .before .before .visit .ensures) (c .before .before .before .before .before .before .before .before .before .before .before .before .before .before .pre .1 .1) (second-read _ _ _ _ _ (c .before .before .before .before .before .before .before .before .before .before .before .before .before .before .pre .1 .0 .table) (c .before .before .before .before .before .before .before .before .before .before .before .before .before .before .pre .1 .1) (λ q. omega (arith, q)) (c .before .before .before .before .before .before .before .before .before .before .before .entry .ensures) _ (c .before .before .before .before .before .before .before .before .before .before .second-in .ensures)) _ _ _ _ (c .before .before .before .before .outcome .given .1) (c .before .enum-told2 .given .1) (c .ended .ensures)
 
 visit-operator-entry-requires-2 : (t : ℕ) → visit-operator-lts.Need-entry-requires-2 (visit-operator-claims t) (visit-operator-at t) visit-operator.Post
 visit-operator-entry-requires-2 t c κs = entry-room _ _ _ _ (c .before .before .before .before .before .before .before .before .before .before .before .before .before .before .pre .1 .0 .ready) (c .before .before .before .before .before .before .before .before .before .before .before .before .before .before .pre .1 .1 .below)
 
 visit-operator-visit-requires-2 : (t : ℕ) → visit-operator-lts.Need-visit-requires-2 (visit-operator-claims t) (visit-operator-at t) visit-operator.Post
-visit-operator-visit-requires-2 t c κs = (falls-on _ _ _ (reached-falls _ _ _ (c .before .before .before .before .before .before .before .before .before .before .before .before .before .before .before .before .before .pre .1 .0 .ready) _ _ _ _ _ _ _ _ _ _ (left-child _ _ _ _ _ (c .before .before .before .before .before .before .before .before .before .before .before .before .before .before .before .before .before .pre .1 .0 .ready) _ (c .before .before .before .before .before .before .before .before .before .before .before .before .before .before .before .before .before .pre .1 .1) (second-read _ _ _ _ _ (c .before .before .before .before .before .before .before .before .before .before .before .before .before .before .before .before .before .pre .1 .0 .table) (c .before .before .before .before .before .before .before .before .before .before .before .before .before .before .before .before .before .pre .1 .1 .below) (c .before .before .before .before .before .before .before .before .before .before .before .before .before .before .entry .ensures) (c .before .before .before .before .before .before .before .before .before .before .before .before .before .second-in .ensures))) (c .before .before .before .before .before .before .before .before .before .before .before .visit .ensures)) (c .before .before .before .before .before .before .before .before .before .before .before .before .before .before .before .before .before .pre .0), (c .before .before .before .before .before .before .before .before .before .before .before .before .before .before .before .before .before .pre .1 .0, right-child _ _ _ _ _ (c .before .before .before .before .before .before .before .before .before .before .before .before .before .before .before .before .before .pre .1 .0 .ready) _ (c .before .before .before .before .before .before .before .before .before .before .before .before .before .before .before .before .before .pre .1 .1) (third-read _ _ _ _ _ (c .before .before .before .before .before .before .before .before .before .before .before .before .before .before .before .before .before .pre .1 .0 .table) (c .before .before .before .before .before .before .before .before .before .before .before .before .before .before .before .before .before .pre .1 .1 .below) (c .before .before .entry2 .ensures) (c .before .third-in .ensures))))
+visit-operator-visit-requires-2 t c κs = (falls-on _ _ _ (reached-falls _ _ _ (c .before .before .before .before .before .before .before .before .before .before .before .before .before .before .before .before .before .pre .1 .0 .ready) _ _ _ _ _ _ _ _ _ _ (left-child _ _ _ _ _ (c .before .before .before .before .before .before .before .before .before .before .before .before .before .before .before .before .before .pre .1 .0 .ready) _ (c .before .before .before .before .before .before .before .before .before .before .before .before .before .before .before .before .before .pre .1 .1) (second-read _ _ _ _ _ (c .before .before .before .before .before .before .before .before .before .before .before .before .before .before .before .before .before .pre .1 .0 .table) (c .before .before .before .before .before .before .before .before .before .before .before .before .before .before .before .before .before .pre .1 .1) (λ q. omega (arith, q)) (c .before .before .before .before .before .before .before .before .before .before .before .before .before .before .entry .ensures) _ (c .before .before .before .before .before .before .before .before .before .before .before .before .before .second-in .ensures))) (c .before .before .before .before .before .before .before .before .before .before .before .visit .ensures)) (c .before .before .before .before .before .before .before .before .before .before .before .before .before .before .before .before .before .pre .0), (c .before .before .before .before .before .before .before .before .before .before .before .before .before .before .before .before .before .pre .1 .0, right-child _ _ _ _ _ (c .before .before .before .before .before .before .before .before .before .before .before .before .before .before .before .before .before .pre .1 .0 .ready) _ (c .before .before .before .before .before .before .before .before .before .before .before .before .before .before .before .before .before .pre .1 .1) (third-read _ _ _ _ _ (c .before .before .before .before .before .before .before .before .before .before .before .before .before .before .before .before .before .pre .1 .0 .table) (c .before .before .before .before .before .before .before .before .before .before .before .before .before .before .before .before .before .pre .1 .1) (λ q. omega (arith, q)) (c .before .before .entry2 .ensures) _ (c .before .third-in .ensures))))
 
 visit-operator-returns-3 : (t : ℕ) → visit-operator-lts.Need-returns-3 (visit-operator-claims t) (visit-operator-at t) visit-operator.Post
-visit-operator-returns-3 t c = right-ended _ _ _ _ _ _ _ _ _ _ _ _ _ (c .before .before .before .before .before .before .before .before .before .before .before .before .before .before .before .before .visit .ensures) (c .before .before .before .before .before .before .before .before .before .before .before .before .before .before .before .before .before .before .before .before .before .before .pre .1 .1) (second-read _ _ _ _ _ (c .before .before .before .before .before .before .before .before .before .before .before .before .before .before .before .before .before .before .before .before .before .before .pre .1 .0 .table) (c .before .before .before .before .before .before .before .before .before .before .before .before .before .before .before .before .before .before .before .before .before .before .pre .1 .1 .below) (c .before .before .before .before .before .before .before .before .before .before .before .before .before .before .before .before .before .before .before .entry .ensures) (c .before .before .before .before .before .before .before .before .before .before .before .before .before .before .before .before .before .before .second-in .ensures)) _ _ (c .before .before .before .before .before .before .before .before .before .before .before .before .outcome .given .1) (c .before .before .before .before .before .before .before .before .before .value .given .1) _ (third-read _ _ _ _ _ (c .before .before .before .before .before .before .before .before .before .before .before .before .before .before .before .before .before .before .before .before .before .before .pre .1 .0 .table) (c .before .before .before .before .before .before .before .before .before .before .before .before .before .before .before .before .before .before .before .before .before .before .pre .1 .1 .below) (c .before .before .before .before .before .before .before .entry2 .ensures) (c .before .before .before .before .before .before .third-in .ensures)) _ _ (c .before .before .before .before .visit2 .ensures) _ (c .enum-told3 .given .1)
+visit-operator-returns-3 t c = right-ended _ _ _ _ _ _ _ _ _ _ _ _ _ (c .before .before .before .before .before .before .before .before .before .before .before .before .before .before .before .before .visit .ensures) (c .before .before .before .before .before .before .before .before .before .before .before .before .before .before .before .before .before .before .before .before .before .before .pre .1 .1) (second-read _ _ _ _ _ (c .before .before .before .before .before .before .before .before .before .before .before .before .before .before .before .before .before .before .before .before .before .before .pre .1 .0 .table) (c .before .before .before .before .before .before .before .before .before .before .before .before .before .before .before .before .before .before .before .before .before .before .pre .1 .1) (λ q. omega (arith, q)) (c .before .before .before .before .before .before .before .before .before .before .before .before .before .before .before .before .before .before .before .entry .ensures) _ (c .before .before .before .before .before .before .before .before .before .before .before .before .before .before .before .before .before .before .second-in .ensures)) _ _ (c .before .before .before .before .before .before .before .before .before .before .before .before .outcome .given .1) (c .before .before .before .before .before .before .before .before .before .value .given .1) _ (third-read _ _ _ _ _ (c .before .before .before .before .before .before .before .before .before .before .before .before .before .before .before .before .before .before .before .before .before .before .pre .1 .0 .table) (c .before .before .before .before .before .before .before .before .before .before .before .before .before .before .before .before .before .before .before .before .before .before .pre .1 .1) (λ q. omega (arith, q)) (c .before .before .before .before .before .before .before .entry2 .ensures) _ (c .before .before .before .before .before .before .third-in .ensures)) _ _ (c .before .before .before .before .visit2 .ensures) _ (c .enum-told3 .given .1)
 
 visit-operator-returns-4 : (t : ℕ) → visit-operator-lts.Need-returns-4 (visit-operator-claims t) (visit-operator-at t) visit-operator.Post
-visit-operator-returns-4 t c = right-constructor _ _ _ _ _ _ _ _ _ _ _ _ _ (c .before .before .before .before .before .before .before .before .before .before .before .before .before .before .before .before .before .before .before .before .visit .ensures) (c .before .before .before .before .before .before .before .before .before .before .before .before .before .before .before .before .before .before .before .before .before .before .before .before .before .before .pre .1 .1) (second-read _ _ _ _ _ (c .before .before .before .before .before .before .before .before .before .before .before .before .before .before .before .before .before .before .before .before .before .before .before .before .before .before .pre .1 .0 .table) (c .before .before .before .before .before .before .before .before .before .before .before .before .before .before .before .before .before .before .before .before .before .before .before .before .before .before .pre .1 .1 .below) (c .before .before .before .before .before .before .before .before .before .before .before .before .before .before .before .before .before .before .before .before .before .before .before .entry .ensures) (c .before .before .before .before .before .before .before .before .before .before .before .before .before .before .before .before .before .before .before .before .before .before .second-in .ensures)) _ _ (c .before .before .before .before .before .before .before .before .before .before .before .before .before .before .before .before .outcome .given .1) (c .before .before .before .before .before .before .before .before .before .before .before .before .before .value .given .1) _ (third-read _ _ _ _ _ (c .before .before .before .before .before .before .before .before .before .before .before .before .before .before .before .before .before .before .before .before .before .before .before .before .before .before .pre .1 .0 .table) (c .before .before .before .before .before .before .before .before .before .before .before .before .before .before .before .before .before .before .before .before .before .before .before .before .before .before .pre .1 .1 .below) (c .before .before .before .before .before .before .before .before .before .before .before .entry2 .ensures) (c .before .before .before .before .before .before .before .before .before .before .third-in .ensures)) _ _ (c .before .before .before .before .before .before .before .before .visit2 .ensures) _ _ _ _ (c .before .before .before .before .outcome2 .given .1) (c .before .enum-told4 .given .1) (c .ended2 .ensures)
+visit-operator-returns-4 t c = right-constructor _ _ _ _ _ _ _ _ _ _ _ _ _ (c .before .before .before .before .before .before .before .before .before .before .before .before .before .before .before .before .before .before .before .before .visit .ensures) (c .before .before .before .before .before .before .before .before .before .before .before .before .before .before .before .before .before .before .before .before .before .before .before .before .before .before .pre .1 .1) (second-read _ _ _ _ _ (c .before .before .before .before .before .before .before .before .before .before .before .before .before .before .before .before .before .before .before .before .before .before .before .before .before .before .pre .1 .0 .table) (c .before .before .before .before .before .before .before .before .before .before .before .before .before .before .before .before .before .before .before .before .before .before .before .before .before .before .pre .1 .1) (λ q. omega (arith, q)) (c .before .before .before .before .before .before .before .before .before .before .before .before .before .before .before .before .before .before .before .before .before .before .before .entry .ensures) _ (c .before .before .before .before .before .before .before .before .before .before .before .before .before .before .before .before .before .before .before .before .before .before .second-in .ensures)) _ _ (c .before .before .before .before .before .before .before .before .before .before .before .before .before .before .before .before .outcome .given .1) (c .before .before .before .before .before .before .before .before .before .before .before .before .before .value .given .1) _ (third-read _ _ _ _ _ (c .before .before .before .before .before .before .before .before .before .before .before .before .before .before .before .before .before .before .before .before .before .before .before .before .before .before .pre .1 .0 .table) (c .before .before .before .before .before .before .before .before .before .before .before .before .before .before .before .before .before .before .before .before .before .before .before .before .before .before .pre .1 .1) (λ q. omega (arith, q)) (c .before .before .before .before .before .before .before .before .before .before .before .entry2 .ensures) _ (c .before .before .before .before .before .before .before .before .before .before .third-in .ensures)) _ _ (c .before .before .before .before .before .before .before .before .visit2 .ensures) _ _ _ _ (c .before .before .before .before .outcome2 .given .1) (c .before .enum-told4 .given .1) (c .ended2 .ensures)
 
 visit-operator-entry-requires-3 : (t : ℕ) → visit-operator-lts.Need-entry-requires-3 (visit-operator-claims t) (visit-operator-at t) visit-operator.Post
 visit-operator-entry-requires-3 t c κs = entry-room _ _ _ _ (c .before .before .before .before .before .before .before .before .before .before .before .before .before .before .before .before .before .before .before .before .before .before .before .before .before .before .pre .1 .0 .ready) (c .before .before .before .before .before .before .before .before .before .before .before .before .before .before .before .before .before .before .before .before .before .before .before .before .before .before .pre .1 .1 .below)
@@ -379,7 +377,7 @@ visit-operator-same-length-5 : (t : ℕ) → visit-operator-lts.Need-same-length
 visit-operator-same-length-5 t c = c .before .before .before .before .before .before .before .before .before .before .before .cells2 .given ∙ c .before .before .before .before .before .before .before .before .before .before .before .before .before .before .before .before .before .before .before .before .before .before .before .cells .given
 
 visit-operator-returns-5 : (t : ℕ) → visit-operator-lts.Need-returns-5 (visit-operator-claims t) (visit-operator-at t) visit-operator.Post
-visit-operator-returns-5 t c = operator-on _ _ _ _ _ _ _ _ _ _ _ _ _ (c .before .before .before .before .before .before .before .before .before .before .before .before .before .before .before .before .before .before .before .before .before .before .before .before .visit .ensures) (c .before .before .before .before .before .before .before .before .before .before .before .before .before .before .before .before .before .before .before .before .before .before .before .before .before .before .before .before .before .before .pre .1 .1) (second-read _ _ _ _ _ (c .before .before .before .before .before .before .before .before .before .before .before .before .before .before .before .before .before .before .before .before .before .before .before .before .before .before .before .before .before .before .pre .1 .0 .table) (c .before .before .before .before .before .before .before .before .before .before .before .before .before .before .before .before .before .before .before .before .before .before .before .before .before .before .before .before .before .before .pre .1 .1 .below) (c .before .before .before .before .before .before .before .before .before .before .before .before .before .before .before .before .before .before .before .before .before .before .before .before .before .before .before .entry .ensures) (c .before .before .before .before .before .before .before .before .before .before .before .before .before .before .before .before .before .before .before .before .before .before .before .before .before .before .second-in .ensures)) _ _ (c .before .before .before .before .before .before .before .before .before .before .before .before .before .before .before .before .before .before .before .before .outcome .given .1) (c .before .before .before .before .before .before .before .before .before .before .before .before .before .before .before .before .before .value .given .1) _ (third-read _ _ _ _ _ (c .before .before .before .before .before .before .before .before .before .before .before .before .before .before .before .before .before .before .before .before .before .before .before .before .before .before .before .before .before .before .pre .1 .0 .table) (c .before .before .before .before .before .before .before .before .before .before .before .before .before .before .before .before .before .before .before .before .before .before .before .before .before .before .before .before .before .before .pre .1 .1 .below) (c .before .before .before .before .before .before .before .before .before .before .before .before .before .before .before .entry2 .ensures) (c .before .before .before .before .before .before .before .before .before .before .before .before .before .before .third-in .ensures)) _ _ (c .before .before .before .before .before .before .before .before .before .before .before .before .visit2 .ensures) _ _ _ _ _ _ _ (c .before .before .before .before .before .before .before .before .outcome2 .given .1) (c .before .before .before .before .before .value2 .given .1) (toZ-ofZ w32 _ (record { sfits = search needs })) (toZ-ofZ w32 _ (record { sfits = search needs })) (first-read _ _ _ _ _ (c .before .before .before .before .before .before .before .before .before .before .before .before .before .before .before .before .before .before .before .before .before .before .before .before .before .before .before .before .before .before .pre .1 .0 .table) (c .before .before .before .before .before .before .before .before .before .before .before .before .before .before .before .before .before .before .before .before .before .before .before .before .before .before .before .before .before .before .pre .1 .1 .below) (c .before .before .before .entry3 .ensures) (c .before .before .first-in .ensures)) (c .before .compute .ensures) (c .given .ensures)
+visit-operator-returns-5 t c = operator-on _ _ _ _ _ _ _ _ _ _ _ _ _ (c .before .before .before .before .before .before .before .before .before .before .before .before .before .before .before .before .before .before .before .before .before .before .before .before .visit .ensures) (c .before .before .before .before .before .before .before .before .before .before .before .before .before .before .before .before .before .before .before .before .before .before .before .before .before .before .before .before .before .before .pre .1 .1) (second-read _ _ _ _ _ (c .before .before .before .before .before .before .before .before .before .before .before .before .before .before .before .before .before .before .before .before .before .before .before .before .before .before .before .before .before .before .pre .1 .0 .table) (c .before .before .before .before .before .before .before .before .before .before .before .before .before .before .before .before .before .before .before .before .before .before .before .before .before .before .before .before .before .before .pre .1 .1) (λ q. omega (arith, q)) (c .before .before .before .before .before .before .before .before .before .before .before .before .before .before .before .before .before .before .before .before .before .before .before .before .before .before .before .entry .ensures) _ (c .before .before .before .before .before .before .before .before .before .before .before .before .before .before .before .before .before .before .before .before .before .before .before .before .before .before .second-in .ensures)) _ _ (c .before .before .before .before .before .before .before .before .before .before .before .before .before .before .before .before .before .before .before .before .outcome .given .1) (c .before .before .before .before .before .before .before .before .before .before .before .before .before .before .before .before .before .value .given .1) _ (third-read _ _ _ _ _ (c .before .before .before .before .before .before .before .before .before .before .before .before .before .before .before .before .before .before .before .before .before .before .before .before .before .before .before .before .before .before .pre .1 .0 .table) (c .before .before .before .before .before .before .before .before .before .before .before .before .before .before .before .before .before .before .before .before .before .before .before .before .before .before .before .before .before .before .pre .1 .1) (λ q. omega (arith, q)) (c .before .before .before .before .before .before .before .before .before .before .before .before .before .before .before .entry2 .ensures) _ (c .before .before .before .before .before .before .before .before .before .before .before .before .before .before .third-in .ensures)) _ _ (c .before .before .before .before .before .before .before .before .before .before .before .before .visit2 .ensures) _ _ _ _ _ _ _ (c .before .before .before .before .before .before .before .before .outcome2 .given .1) (c .before .before .before .before .before .value2 .given .1) (toZ-ofZ w32 _ (record { sfits = search needs })) (toZ-ofZ w32 _ (record { sfits = search needs })) (first-read _ _ _ _ _ (c .before .before .before .before .before .before .before .before .before .before .before .before .before .before .before .before .before .before .before .before .before .before .before .before .before .before .before .before .before .before .pre .1 .0 .table) (c .before .before .before .before .before .before .before .before .before .before .before .before .before .before .before .before .before .before .before .before .before .before .before .before .before .before .before .before .before .before .pre .1 .1 .below) (c .before .before .before .entry3 .ensures) (c .before .before .first-in .ensures)) (c .before .compute .ensures) (c .given .ensures)
 
 visit-select-entry-requires : (t : ℕ) → visit-select-lts.Need-entry-requires (visit-select-claims t) (visit-select-at t) visit-select.Post
 visit-select-entry-requires t c κs = entry-room _ _ _ _ (c .before .before .pre .1 .0 .ready) (c .before .before .pre .1 .1 .below)
@@ -400,19 +398,19 @@ visit-select-entry-requires-3 : (t : ℕ) → visit-select-lts.Need-entry-requir
 visit-select-entry-requires-3 t c κs = entry-room _ _ _ _ (c .before .before .before .before .before .before .before .before .before .before .before .before .before .before .before .before .before .pre .1 .0 .ready) (reached-tuple _ _ _ (c .before .before .before .before .before .before .before .before .before .before .before .before .before .before .before .before .before .pre .1 .0 .ready) _ _ _ _ _ _ _ _ _ _ (select-child _ _ _ _ _ (c .before .before .before .before .before .before .before .before .before .before .before .before .before .before .before .before .before .pre .1 .0 .ready) _ (c .before .before .before .before .before .before .before .before .before .before .before .before .before .before .before .before .before .pre .1 .1) (first-read _ _ _ _ _ (c .before .before .before .before .before .before .before .before .before .before .before .before .before .before .before .before .before .pre .1 .0 .table) (c .before .before .before .before .before .before .before .before .before .before .before .before .before .before .before .before .before .pre .1 .1 .below) (c .before .before .before .before .before .before .before .before .before .before .before .before .before .before .entry .ensures) (c .before .before .before .before .before .before .before .before .before .before .before .before .before .first-in .ensures))) (c .before .before .before .before .before .before .before .before .before .before .before .visit .ensures) _ _ _ (c .before .before .before .before .before .before .before .outcome .given .1) (c .before .before .before .before .value .given .1) .below)
 
 visit-select-returns-3 : (t : ℕ) → visit-select-lts.Need-returns-3 (visit-select-claims t) (visit-select-at t) visit-select.Post
-visit-select-returns-3 t c = select-tag _ _ _ _ _ _ _ _ _ _ _ _ _ (c .before .before .before .before .before .before .before .before .before .before .before .before .before .before .visit .ensures) (c .before .before .before .before .before .before .before .before .before .before .before .before .before .before .before .before .before .before .before .before .pre .1 .1) (first-read _ _ _ _ _ (c .before .before .before .before .before .before .before .before .before .before .before .before .before .before .before .before .before .before .before .before .pre .1 .0 .table) (c .before .before .before .before .before .before .before .before .before .before .before .before .before .before .before .before .before .before .before .before .pre .1 .1 .below) (c .before .before .before .before .before .before .before .before .before .before .before .before .before .before .before .before .before .entry .ensures) (c .before .before .before .before .before .before .before .before .before .before .before .before .before .before .before .before .first-in .ensures)) _ _ _ (c .before .before .before .before .before .before .before .before .before .before .outcome .given .1) (c .before .before .before .before .before .before .before .value .given .1) _ (second-read _ _ _ _ _ (c .before .before .before .before .before .before .before .before .before .before .before .before .before .before .before .before .before .before .before .before .pre .1 .0 .table) (c .before .before .before .before .before .before .before .before .before .before .before .before .before .before .before .before .before .before .before .before .pre .1 .1 .below) (c .before .before .before .before .before .entry2 .ensures) (c .before .before .before .before .second-in .ensures)) _ refl _ _ (c .before .before .before .if1 .taken) (first-read _ _ _ _ _ (c .before .before .before .before .before .before .before .before .before .before .before .before .before .before .before .before .before .before .before .before .pre .1 .0 .table) (reached-tuple _ _ _ (c .before .before .before .before .before .before .before .before .before .before .before .before .before .before .before .before .before .before .before .before .pre .1 .0 .ready) _ _ _ _ _ _ _ _ _ _ (select-child _ _ _ _ _ (c .before .before .before .before .before .before .before .before .before .before .before .before .before .before .before .before .before .before .before .before .pre .1 .0 .ready) _ (c .before .before .before .before .before .before .before .before .before .before .before .before .before .before .before .before .before .before .before .before .pre .1 .1) (first-read _ _ _ _ _ (c .before .before .before .before .before .before .before .before .before .before .before .before .before .before .before .before .before .before .before .before .pre .1 .0 .table) (c .before .before .before .before .before .before .before .before .before .before .before .before .before .before .before .before .before .before .before .before .pre .1 .1 .below) (c .before .before .before .before .before .before .before .before .before .before .before .before .before .before .before .before .before .entry .ensures) (c .before .before .before .before .before .before .before .before .before .before .before .before .before .before .before .before .first-in .ensures))) (c .before .before .before .before .before .before .before .before .before .before .before .before .before .before .visit .ensures) _ _ _ (c .before .before .before .before .before .before .before .before .before .before .outcome .given .1) (c .before .before .before .before .before .before .before .value .given .1) .below) (c .before .before .entry3 .ensures) (c .before .first-in2 .ensures)) (c .tag .ensures)
+visit-select-returns-3 t c = select-tag _ _ _ _ _ _ _ _ _ _ _ _ _ (c .before .before .before .before .before .before .before .before .before .before .before .before .before .before .visit .ensures) (c .before .before .before .before .before .before .before .before .before .before .before .before .before .before .before .before .before .before .before .before .pre .1 .1) (first-read _ _ _ _ _ (c .before .before .before .before .before .before .before .before .before .before .before .before .before .before .before .before .before .before .before .before .pre .1 .0 .table) (c .before .before .before .before .before .before .before .before .before .before .before .before .before .before .before .before .before .before .before .before .pre .1 .1 .below) (c .before .before .before .before .before .before .before .before .before .before .before .before .before .before .before .before .before .entry .ensures) (c .before .before .before .before .before .before .before .before .before .before .before .before .before .before .before .before .first-in .ensures)) _ _ _ (c .before .before .before .before .before .before .before .before .before .before .outcome .given .1) (c .before .before .before .before .before .before .before .value .given .1) _ (second-read _ _ _ _ _ (c .before .before .before .before .before .before .before .before .before .before .before .before .before .before .before .before .before .before .before .before .pre .1 .0 .table) (c .before .before .before .before .before .before .before .before .before .before .before .before .before .before .before .before .before .before .before .before .pre .1 .1) (λ q. omega (arith, q)) (c .before .before .before .before .before .entry2 .ensures) _ (c .before .before .before .before .second-in .ensures)) _ refl _ _ (c .before .before .before .if1 .taken) (first-read _ _ _ _ _ (c .before .before .before .before .before .before .before .before .before .before .before .before .before .before .before .before .before .before .before .before .pre .1 .0 .table) (reached-tuple _ _ _ (c .before .before .before .before .before .before .before .before .before .before .before .before .before .before .before .before .before .before .before .before .pre .1 .0 .ready) _ _ _ _ _ _ _ _ _ _ (select-child _ _ _ _ _ (c .before .before .before .before .before .before .before .before .before .before .before .before .before .before .before .before .before .before .before .before .pre .1 .0 .ready) _ (c .before .before .before .before .before .before .before .before .before .before .before .before .before .before .before .before .before .before .before .before .pre .1 .1) (first-read _ _ _ _ _ (c .before .before .before .before .before .before .before .before .before .before .before .before .before .before .before .before .before .before .before .before .pre .1 .0 .table) (c .before .before .before .before .before .before .before .before .before .before .before .before .before .before .before .before .before .before .before .before .pre .1 .1 .below) (c .before .before .before .before .before .before .before .before .before .before .before .before .before .before .before .before .before .entry .ensures) (c .before .before .before .before .before .before .before .before .before .before .before .before .before .before .before .before .first-in .ensures))) (c .before .before .before .before .before .before .before .before .before .before .before .before .before .before .visit .ensures) _ _ _ (c .before .before .before .before .before .before .before .before .before .before .outcome .given .1) (c .before .before .before .before .before .before .before .value .given .1) .below) (c .before .before .entry3 .ensures) (c .before .first-in2 .ensures)) (c .tag .ensures)
 
 visit-select-node-record-requires : (t : ℕ) → visit-select-lts.Need-node-record-requires (visit-select-claims t) (visit-select-at t) visit-select.Post
 visit-select-node-record-requires t c κs = (c .before .before .before .before .before .before .before .before .before .before .before .before .before .before .before .before .before .pre .1 .0 .ready .index, (reached-tuple _ _ _ (c .before .before .before .before .before .before .before .before .before .before .before .before .before .before .before .before .before .pre .1 .0 .ready) _ _ _ _ _ _ _ _ _ _ (select-child _ _ _ _ _ (c .before .before .before .before .before .before .before .before .before .before .before .before .before .before .before .before .before .pre .1 .0 .ready) _ (c .before .before .before .before .before .before .before .before .before .before .before .before .before .before .before .before .before .pre .1 .1) (first-read _ _ _ _ _ (c .before .before .before .before .before .before .before .before .before .before .before .before .before .before .before .before .before .pre .1 .0 .table) (c .before .before .before .before .before .before .before .before .before .before .before .before .before .before .before .before .before .pre .1 .1 .below) (c .before .before .before .before .before .before .before .before .before .before .before .before .before .before .entry .ensures) (c .before .before .before .before .before .before .before .before .before .before .before .before .before .first-in .ensures))) (c .before .before .before .before .before .before .before .before .before .before .before .visit .ensures) _ _ _ (c .before .before .before .before .before .before .before .outcome .given .1) (c .before .before .before .before .value .given .1) .below))
 
 visit-select-returns-4 : (t : ℕ) → visit-select-lts.Need-returns-4 (visit-select-claims t) (visit-select-at t) visit-select.Post
-visit-select-returns-4 t c = select-missing _ _ _ _ _ _ _ _ _ _ _ _ _ (c .before .before .before .before .before .before .before .before .before .before .before .before .before .before .before .before .visit .ensures) (c .before .before .before .before .before .before .before .before .before .before .before .before .before .before .before .before .before .before .before .before .before .before .pre .1 .1) (first-read _ _ _ _ _ (c .before .before .before .before .before .before .before .before .before .before .before .before .before .before .before .before .before .before .before .before .before .before .pre .1 .0 .table) (c .before .before .before .before .before .before .before .before .before .before .before .before .before .before .before .before .before .before .before .before .before .before .pre .1 .1 .below) (c .before .before .before .before .before .before .before .before .before .before .before .before .before .before .before .before .before .before .before .entry .ensures) (c .before .before .before .before .before .before .before .before .before .before .before .before .before .before .before .before .before .before .first-in .ensures)) _ _ _ (c .before .before .before .before .before .before .before .before .before .before .before .before .outcome .given .1) (c .before .before .before .before .before .before .before .before .before .value .given .1) _ (second-read _ _ _ _ _ (c .before .before .before .before .before .before .before .before .before .before .before .before .before .before .before .before .before .before .before .before .before .before .pre .1 .0 .table) (c .before .before .before .before .before .before .before .before .before .before .before .before .before .before .before .before .before .before .before .before .before .before .pre .1 .1 .below) (c .before .before .before .before .before .before .before .entry2 .ensures) (c .before .before .before .before .before .before .second-in .ensures)) _ (c .before .before .before .before .node-record .ensures) _ (c .before .before .before .before .before .if1 .left) (c .before .before .before .field-after .ensures) _ (c .before .enum-told3 .given .1) (c .ended2 .ensures)
+visit-select-returns-4 t c = select-missing _ _ _ _ _ _ _ _ _ _ _ _ _ (c .before .before .before .before .before .before .before .before .before .before .before .before .before .before .before .before .visit .ensures) (c .before .before .before .before .before .before .before .before .before .before .before .before .before .before .before .before .before .before .before .before .before .before .pre .1 .1) (first-read _ _ _ _ _ (c .before .before .before .before .before .before .before .before .before .before .before .before .before .before .before .before .before .before .before .before .before .before .pre .1 .0 .table) (c .before .before .before .before .before .before .before .before .before .before .before .before .before .before .before .before .before .before .before .before .before .before .pre .1 .1 .below) (c .before .before .before .before .before .before .before .before .before .before .before .before .before .before .before .before .before .before .before .entry .ensures) (c .before .before .before .before .before .before .before .before .before .before .before .before .before .before .before .before .before .before .first-in .ensures)) _ _ _ (c .before .before .before .before .before .before .before .before .before .before .before .before .outcome .given .1) (c .before .before .before .before .before .before .before .before .before .value .given .1) _ (second-read _ _ _ _ _ (c .before .before .before .before .before .before .before .before .before .before .before .before .before .before .before .before .before .before .before .before .before .before .pre .1 .0 .table) (c .before .before .before .before .before .before .before .before .before .before .before .before .before .before .before .before .before .before .before .before .before .before .pre .1 .1) (λ q. omega (arith, q)) (c .before .before .before .before .before .before .before .entry2 .ensures) _ (c .before .before .before .before .before .before .second-in .ensures)) _ (c .before .before .before .before .node-record .ensures) _ (c .before .before .before .before .before .if1 .left) (c .before .before .before .field-after .ensures) _ (c .before .enum-told3 .given .1) (c .ended2 .ensures)
 
 visit-select-visit-requires-2 : (t : ℕ) → visit-select-lts.Need-visit-requires-2 (visit-select-claims t) (visit-select-at t) visit-select.Post
 visit-select-visit-requires-2 t c κs = (falls-on _ _ _ (reached-falls _ _ _ (c .before .before .before .before .before .before .before .before .before .before .before .before .before .before .before .before .before .before .before .before .before .before .before .pre .1 .0 .ready) _ _ _ _ _ _ _ _ _ _ (select-child _ _ _ _ _ (c .before .before .before .before .before .before .before .before .before .before .before .before .before .before .before .before .before .before .before .before .before .before .before .pre .1 .0 .ready) _ (c .before .before .before .before .before .before .before .before .before .before .before .before .before .before .before .before .before .before .before .before .before .before .before .pre .1 .1) (first-read _ _ _ _ _ (c .before .before .before .before .before .before .before .before .before .before .before .before .before .before .before .before .before .before .before .before .before .before .before .pre .1 .0 .table) (c .before .before .before .before .before .before .before .before .before .before .before .before .before .before .before .before .before .before .before .before .before .before .before .pre .1 .1 .below) (c .before .before .before .before .before .before .before .before .before .before .before .before .before .before .before .before .before .before .before .before .entry .ensures) (c .before .before .before .before .before .before .before .before .before .before .before .before .before .before .before .before .before .before .before .first-in .ensures))) (c .before .before .before .before .before .before .before .before .before .before .before .before .before .before .before .before .before .visit .ensures)) (c .before .before .before .before .before .before .before .before .before .before .before .before .before .before .before .before .before .before .before .before .before .before .before .pre .0), (c .before .before .before .before .before .before .before .before .before .before .before .before .before .before .before .before .before .before .before .before .before .before .before .pre .1 .0, member-child _ _ _ (c .before .before .before .before .before .before .before .before .before .before .before .before .before .before .before .before .before .before .before .before .before .before .before .pre .1 .0 .ready) _ _ _ _ _ (reached-tuple _ _ _ (c .before .before .before .before .before .before .before .before .before .before .before .before .before .before .before .before .before .before .before .before .before .before .before .pre .1 .0 .ready) _ _ _ _ _ _ _ _ _ _ (select-child _ _ _ _ _ (c .before .before .before .before .before .before .before .before .before .before .before .before .before .before .before .before .before .before .before .before .before .before .before .pre .1 .0 .ready) _ (c .before .before .before .before .before .before .before .before .before .before .before .before .before .before .before .before .before .before .before .before .before .before .before .pre .1 .1) (first-read _ _ _ _ _ (c .before .before .before .before .before .before .before .before .before .before .before .before .before .before .before .before .before .before .before .before .before .before .before .pre .1 .0 .table) (c .before .before .before .before .before .before .before .before .before .before .before .before .before .before .before .before .before .before .before .before .before .before .before .pre .1 .1 .below) (c .before .before .before .before .before .before .before .before .before .before .before .before .before .before .before .before .before .before .before .before .entry .ensures) (c .before .before .before .before .before .before .before .before .before .before .before .before .before .before .before .before .before .before .before .first-in .ensures))) (c .before .before .before .before .before .before .before .before .before .before .before .before .before .before .before .before .before .visit .ensures) _ _ _ (c .before .before .before .before .before .before .before .before .before .before .before .before .before .outcome .given .1) (c .before .before .before .before .before .before .before .before .before .before .value .given .1)) (c .before .before .before .before .before .node-record .ensures) (c .before .before .before .before .field-after .ensures) (c .before .before .found .given .1)))
 
 visit-select-returns-5 : (t : ℕ) → visit-select-lts.Need-returns-5 (visit-select-claims t) (visit-select-at t) visit-select.Post
-visit-select-returns-5 t c = select-on _ _ _ _ _ _ _ _ _ _ _ _ _ (c .before .before .before .before .before .before .before .before .before .before .before .before .before .before .before .before .before .before .before .before .visit .ensures) (c .before .before .before .before .before .before .before .before .before .before .before .before .before .before .before .before .before .before .before .before .before .before .before .before .before .before .pre .1 .1) (first-read _ _ _ _ _ (c .before .before .before .before .before .before .before .before .before .before .before .before .before .before .before .before .before .before .before .before .before .before .before .before .before .before .pre .1 .0 .table) (c .before .before .before .before .before .before .before .before .before .before .before .before .before .before .before .before .before .before .before .before .before .before .before .before .before .before .pre .1 .1 .below) (c .before .before .before .before .before .before .before .before .before .before .before .before .before .before .before .before .before .before .before .before .before .before .before .entry .ensures) (c .before .before .before .before .before .before .before .before .before .before .before .before .before .before .before .before .before .before .before .before .before .before .first-in .ensures)) _ _ _ (c .before .before .before .before .before .before .before .before .before .before .before .before .before .before .before .before .outcome .given .1) (c .before .before .before .before .before .before .before .before .before .before .before .before .before .value .given .1) _ (second-read _ _ _ _ _ (c .before .before .before .before .before .before .before .before .before .before .before .before .before .before .before .before .before .before .before .before .before .before .before .before .before .before .pre .1 .0 .table) (c .before .before .before .before .before .before .before .before .before .before .before .before .before .before .before .before .before .before .before .before .before .before .before .before .before .before .pre .1 .1 .below) (c .before .before .before .before .before .before .before .before .before .before .before .entry2 .ensures) (c .before .before .before .before .before .before .before .before .before .before .second-in .ensures)) _ (c .before .before .before .before .before .before .before .before .node-record .ensures) _ (c .before .before .before .before .before .before .before .before .before .if1 .left) (c .before .before .before .before .before .before .before .field-after .ensures) _ _ _ (c .before .before .before .before .before .found .given .1) (c .before .before .visit2 .ensures)
+visit-select-returns-5 t c = select-on _ _ _ _ _ _ _ _ _ _ _ _ _ (c .before .before .before .before .before .before .before .before .before .before .before .before .before .before .before .before .before .before .before .before .visit .ensures) (c .before .before .before .before .before .before .before .before .before .before .before .before .before .before .before .before .before .before .before .before .before .before .before .before .before .before .pre .1 .1) (first-read _ _ _ _ _ (c .before .before .before .before .before .before .before .before .before .before .before .before .before .before .before .before .before .before .before .before .before .before .before .before .before .before .pre .1 .0 .table) (c .before .before .before .before .before .before .before .before .before .before .before .before .before .before .before .before .before .before .before .before .before .before .before .before .before .before .pre .1 .1 .below) (c .before .before .before .before .before .before .before .before .before .before .before .before .before .before .before .before .before .before .before .before .before .before .before .entry .ensures) (c .before .before .before .before .before .before .before .before .before .before .before .before .before .before .before .before .before .before .before .before .before .before .first-in .ensures)) _ _ _ (c .before .before .before .before .before .before .before .before .before .before .before .before .before .before .before .before .outcome .given .1) (c .before .before .before .before .before .before .before .before .before .before .before .before .before .value .given .1) _ (second-read _ _ _ _ _ (c .before .before .before .before .before .before .before .before .before .before .before .before .before .before .before .before .before .before .before .before .before .before .before .before .before .before .pre .1 .0 .table) (c .before .before .before .before .before .before .before .before .before .before .before .before .before .before .before .before .before .before .before .before .before .before .before .before .before .before .pre .1 .1) (λ q. omega (arith, q)) (c .before .before .before .before .before .before .before .before .before .before .before .entry2 .ensures) _ (c .before .before .before .before .before .before .before .before .before .before .second-in .ensures)) _ (c .before .before .before .before .before .before .before .before .node-record .ensures) _ (c .before .before .before .before .before .before .before .before .before .if1 .left) (c .before .before .before .before .before .before .before .field-after .ensures) _ _ _ (c .before .before .before .before .before .found .given .1) (c .before .before .visit2 .ensures)
 
 pub +evaluate+visit+visit-call+visit-case+visit-conditional+visit-formal+visit-operator+visit-select-spec :
     {M : Type 1} → statement M
@@ -531,7 +529,7 @@ pub +evaluate+visit+visit-call+visit-case+visit-conditional+visit-formal+visit-o
     (λ c κs. search needs)
     (visit-formal-entry-requires t)
     (λ c κs. search needs)
-    (visit-formal-formal-record-requires t)
+    (λ c κs. search needs)
     (λ c κs. search needs)
     (λ c. search needs)
     (λ c. search needs)

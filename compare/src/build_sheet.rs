@@ -1,0 +1,239 @@
+//! A small builder of sheet files: expression trees in, records out.
+//! It writes what it is told; nothing here checks the rules of a sheet.
+
+#[derive(Clone, Debug)]
+pub enum Expr {
+    Number(i32),
+    Reading(u16),
+    Parameter(u16),
+    Pattern(u16),
+    Operator(u16, Box<Expr>, Box<Expr>),
+    If(Box<Expr>, Box<Expr>, Box<Expr>),
+    Call(u16, Vec<Expr>),
+    Build(u16, Vec<Expr>),
+    Case(Box<Expr>, Vec<(u16, Expr)>),
+}
+
+pub const ADD: u16 = 0;
+pub const SUBTRACT: u16 = 1;
+pub const MULTIPLY: u16 = 2;
+pub const DIVIDE: u16 = 3;
+pub const LESS: u16 = 4;
+pub const EQUAL: u16 = 5;
+
+// Short forms for sheets written by hand.
+pub fn num(number: i32) -> Expr {
+    Expr::Number(number)
+}
+pub fn par(position: u16) -> Expr {
+    Expr::Parameter(position)
+}
+pub fn pat(position: u16) -> Expr {
+    Expr::Pattern(position)
+}
+pub fn op(code: u16, left: Expr, right: Expr) -> Expr {
+    Expr::Operator(code, Box::new(left), Box::new(right))
+}
+pub fn cond(condition: Expr, yes: Expr, no: Expr) -> Expr {
+    Expr::If(Box::new(condition), Box::new(yes), Box::new(no))
+}
+pub fn call(function: u16, arguments: Vec<Expr>) -> Expr {
+    Expr::Call(function, arguments)
+}
+pub fn build(constructor: u16, arguments: Vec<Expr>) -> Expr {
+    Expr::Build(constructor, arguments)
+}
+pub fn case(scrutinee: Expr, clauses: Vec<(u16, Expr)>) -> Expr {
+    Expr::Case(Box::new(scrutinee), clauses)
+}
+
+/// A whole sheet: readings, arities, and functions with parameter count.
+#[derive(Clone, Debug)]
+pub struct Program {
+    pub readings: u16,
+    pub arities: Vec<u16>,
+    pub functions: Vec<(u16, Expr)>,
+}
+
+/// A node before it has a number: kind, fields, and which fields are
+/// children (position in the function's list).
+struct Loose {
+    kind: u16,
+    fields: Vec<u16>,
+    children: Vec<(usize, usize)>,
+}
+
+impl Expr {
+    /// Number of nodes.
+    pub fn size(&self) -> usize {
+        1 + match self {
+            Expr::Operator(_, left, right) => left.size() + right.size(),
+            Expr::If(condition, yes, no) => condition.size() + yes.size() + no.size(),
+            Expr::Call(_, all) | Expr::Build(_, all) => all.iter().map(Expr::size).sum(),
+            Expr::Case(scrutinee, clauses) => {
+                scrutinee.size() + clauses.iter().map(|clause| clause.1.size()).sum::<usize>()
+            }
+            _ => 0,
+        }
+    }
+
+    /// Adds the nodes in post-order; the position of this one.
+    fn flatten(&self, into: &mut Vec<Loose>) -> usize {
+        let mut fields = Vec::new();
+        let mut children = Vec::new();
+        let mut child = |expr: &Expr, fields: &mut Vec<u16>, into: &mut Vec<Loose>| {
+            let position = expr.flatten(into);
+            children.push((fields.len(), position));
+            fields.push(0);
+        };
+        let kind = match self {
+            Expr::Number(number) => {
+                let bits = *number as u32;
+                fields.extend_from_slice(&[bits as u16, (bits >> 16) as u16]);
+                16
+            }
+            Expr::Reading(reading) => {
+                fields.push(*reading);
+                17
+            }
+            Expr::Parameter(position) => {
+                fields.push(*position);
+                18
+            }
+            Expr::Pattern(position) => {
+                fields.push(*position);
+                19
+            }
+            Expr::Operator(code, left, right) => {
+                fields.push(*code);
+                child(left, &mut fields, into);
+                child(right, &mut fields, into);
+                20
+            }
+            Expr::If(condition, yes, no) => {
+                child(condition, &mut fields, into);
+                child(yes, &mut fields, into);
+                child(no, &mut fields, into);
+                21
+            }
+            Expr::Call(target, arguments) | Expr::Build(target, arguments) => {
+                fields.push(*target);
+                for argument in arguments {
+                    child(argument, &mut fields, into);
+                }
+                if matches!(self, Expr::Call(..)) {
+                    22
+                } else {
+                    23
+                }
+            }
+            Expr::Case(scrutinee, clauses) => {
+                child(scrutinee, &mut fields, into);
+                for (constructor, node) in clauses {
+                    fields.push(*constructor);
+                    child(node, &mut fields, into);
+                }
+                24
+            }
+        };
+        into.push(Loose {
+            kind,
+            fields,
+            children,
+        });
+        into.len() - 1
+    }
+}
+
+pub fn put_record(file: &mut Vec<u8>, kind: u16, fields: &[u16]) {
+    file.extend_from_slice(&((4 + 2 * fields.len()) as u16).to_le_bytes());
+    file.extend_from_slice(&kind.to_le_bytes());
+    for field in fields {
+        file.extend_from_slice(&field.to_le_bytes());
+    }
+}
+
+impl Program {
+    /// The file, with the nodes of each function in post-order.
+    pub fn encode(&self) -> Vec<u8> {
+        self.encode_ordered(|_| 0, false)
+    }
+
+    /// The file, with the nodes of each function in an order picked by
+    /// `pick` (below its argument) among the nodes whose children are out.
+    pub fn encode_shuffled(&self, pick: impl FnMut(usize) -> usize) -> Vec<u8> {
+        self.encode_ordered(pick, true)
+    }
+
+    fn encode_ordered(&self, mut pick: impl FnMut(usize) -> usize, shuffle: bool) -> Vec<u8> {
+        let mut runs = Vec::new();
+        for (_, expr) in &self.functions {
+            let mut nodes = Vec::new();
+            expr.flatten(&mut nodes);
+            runs.push(nodes);
+        }
+        let total: usize = runs.iter().map(Vec::len).sum();
+        let mut file = Vec::new();
+        let head = [
+            self.readings,
+            self.arities.len() as u16,
+            self.functions.len() as u16,
+            total as u16,
+        ];
+        put_record(&mut file, 1, &head);
+        for &arity in &self.arities {
+            put_record(&mut file, 2, &[arity]);
+        }
+        for ((parameters, _), nodes) in self.functions.iter().zip(&runs) {
+            put_record(&mut file, 3, &[*parameters, nodes.len() as u16]);
+        }
+        let mut first = 0;
+        for nodes in &runs {
+            let order: Vec<usize> = match shuffle {
+                true => shuffled(nodes, &mut pick),
+                false => (0..nodes.len()).collect(),
+            };
+            let mut number_of = vec![0; nodes.len()];
+            for (place, &node) in order.iter().enumerate() {
+                number_of[node] = (first + place) as u16;
+            }
+            for &node in &order {
+                let mut fields = nodes[node].fields.clone();
+                for &(field, child) in &nodes[node].children {
+                    fields[field] = number_of[child];
+                }
+                put_record(&mut file, nodes[node].kind, &fields);
+            }
+            first += nodes.len();
+        }
+        file
+    }
+}
+
+/// An order in which every child comes before its parent.
+fn shuffled(nodes: &[Loose], pick: &mut impl FnMut(usize) -> usize) -> Vec<usize> {
+    let mut parent = vec![usize::MAX; nodes.len()];
+    let mut waiting = vec![0; nodes.len()];
+    for (position, node) in nodes.iter().enumerate() {
+        waiting[position] = node.children.len();
+        for &(_, child) in &node.children {
+            parent[child] = position;
+        }
+    }
+    let mut ready: Vec<usize> = (0..nodes.len())
+        .filter(|&node| waiting[node] == 0)
+        .collect();
+    let mut order = Vec::new();
+    while !ready.is_empty() {
+        let chosen = pick(ready.len());
+        let node = ready.swap_remove(chosen);
+        order.push(node);
+        if parent[node] != usize::MAX {
+            waiting[parent[node]] -= 1;
+            if waiting[parent[node]] == 0 {
+                ready.push(parent[node]);
+            }
+        }
+    }
+    order
+}

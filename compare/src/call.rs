@@ -1,0 +1,156 @@
+//! One call of the interface with all its input, earlier bytes of the output
+//! buffers included; and what it leaves behind.
+
+use crate::interface::{Allowances, Interface};
+
+#[derive(Clone, Debug)]
+pub struct RunInput {
+    pub readings: Vec<i32>,
+    pub allowances: Allowances,
+    /// Lent cells and record, with their earlier bytes.
+    pub cells: Vec<u8>,
+    pub record: Vec<u8>,
+}
+
+#[derive(Clone, Debug)]
+pub enum Call {
+    Translate {
+        sheet: Vec<u8>,
+        out: Vec<u8>,
+    },
+    /// `of` is the sheet whose unchanged translation `file` is, if any.
+    Run {
+        of: Option<Vec<u8>>,
+        file: Vec<u8>,
+        input: RunInput,
+    },
+    Joined {
+        sheet: Vec<u8>,
+        out: Vec<u8>,
+        input: RunInput,
+    },
+    List {
+        cells: Vec<u8>,
+        cell: u64,
+        out: Vec<u8>,
+    },
+}
+
+/// The answer and the buffers after a call. Output buffers carry guard bytes
+/// at both ends.
+#[derive(Clone, Debug, PartialEq, Eq)]
+pub struct After {
+    pub answer: u64,
+    pub out: Vec<u8>,
+    pub cells: Vec<u8>,
+    pub record: Vec<u8>,
+    /// The input slices are as they were.
+    pub input_kept: bool,
+}
+
+const GUARD: usize = 16;
+const GUARD_BYTE: u8 = 0xA5;
+
+fn guarded(bytes: &[u8]) -> Vec<u8> {
+    let mut all = vec![GUARD_BYTE; GUARD];
+    all.extend_from_slice(bytes);
+    all.extend_from_slice(&[GUARD_BYTE; GUARD]);
+    all
+}
+
+/// The part of a guarded buffer that was lent.
+fn lent(buffer: &mut [u8]) -> &mut [u8] {
+    let end = buffer.len() - GUARD;
+    &mut buffer[GUARD..end]
+}
+
+/// The lent part of a buffer in an `After`.
+pub fn inner(buffer: &[u8]) -> &[u8] {
+    if buffer.is_empty() {
+        return buffer;
+    }
+    &buffer[GUARD..buffer.len() - GUARD]
+}
+
+impl Call {
+    pub fn name(&self) -> &'static str {
+        match self {
+            Call::Translate { .. } => "translate",
+            Call::Run { .. } => "run",
+            Call::Joined { .. } => "translate_and_run",
+            Call::List { .. } => "list_context",
+        }
+    }
+
+    /// Performs the call on copies of its buffers.
+    pub fn perform(&self, on: &dyn Interface) -> After {
+        match self {
+            Call::Translate { sheet, out } => {
+                let (file, mut out) = (sheet.clone(), guarded(out));
+                let answer = on.translate(&file, lent(&mut out));
+                let input_kept = std::hint::black_box(&file) == sheet;
+                After {
+                    answer,
+                    out,
+                    cells: vec![],
+                    record: vec![],
+                    input_kept,
+                }
+            }
+            Call::Run { file, input, .. } => {
+                let (copy, readings) = (file.clone(), input.readings.clone());
+                let (mut cells, mut record) = (guarded(&input.cells), guarded(&input.record));
+                let answer = on.run(
+                    &copy,
+                    &readings,
+                    input.allowances,
+                    lent(&mut cells),
+                    lent(&mut record),
+                );
+                let input_kept = std::hint::black_box(&copy) == file
+                    && std::hint::black_box(&readings) == &input.readings;
+                After {
+                    answer,
+                    out: vec![],
+                    cells,
+                    record,
+                    input_kept,
+                }
+            }
+            Call::Joined { sheet, out, input } => {
+                let (copy, readings) = (sheet.clone(), input.readings.clone());
+                let (mut cells, mut record) = (guarded(&input.cells), guarded(&input.record));
+                let mut out = guarded(out);
+                let answer = on.translate_and_run(
+                    &copy,
+                    lent(&mut out),
+                    &readings,
+                    input.allowances,
+                    lent(&mut cells),
+                    lent(&mut record),
+                );
+                let input_kept = std::hint::black_box(&copy) == sheet
+                    && std::hint::black_box(&readings) == &input.readings;
+                After {
+                    answer,
+                    out,
+                    cells,
+                    record,
+                    input_kept,
+                }
+            }
+            Call::List { cells, cell, out } => {
+                let (copy, mut out) = (cells.clone(), guarded(out));
+                let answer = on.list_context(&copy, *cell, lent(&mut out));
+                let input_kept = std::hint::black_box(&copy) == cells;
+                After {
+                    answer,
+                    out,
+                    cells: vec![],
+                    record: vec![],
+                    input_kept,
+                }
+            }
+        }
+    }
+}

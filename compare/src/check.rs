@@ -1,0 +1,119 @@
+//! Compares one call: the answers and whole buffers of both sides, and the
+//! answer of a translated sheet's run with call by name.
+
+use crate::call::{inner, After, Call, RunInput};
+use crate::interface::Interface;
+use crate::model::answer::Answer;
+use crate::model::name;
+use crate::model::{sheet, Model};
+
+/// What differs, in words, and the call to try again.
+#[derive(Debug)]
+pub struct Difference {
+    pub what: String,
+    pub call: Box<Call>,
+}
+
+/// Performs the call on both sides; what the reference left, if both agree.
+pub fn check(call: &Call, subject: &dyn Interface, reference: &Model) -> Result<After, Difference> {
+    let ours = call.perform(reference);
+    let theirs = call.perform(subject);
+    let what = match differs(&theirs, &ours) {
+        Some(what) => Some(what),
+        None => against_meaning(call, &theirs),
+    };
+    match what {
+        None => Ok(ours),
+        Some(what) => Err(Difference {
+            what: format!("{}: {what}", call.name()),
+            call: Box::new(call.clone()),
+        }),
+    }
+}
+
+/// Describes the first difference between the two sides.
+pub fn differs(theirs: &After, ours: &After) -> Option<String> {
+    let packed = |answer: u64| format!("{} with {}", answer >> 32, answer as u32);
+    if theirs.answer != ours.answer {
+        let (theirs, ours) = (packed(theirs.answer), packed(ours.answer));
+        return Some(format!("answer: interface {theirs}, model {ours}"));
+    }
+    if !theirs.input_kept {
+        return Some("the interface wrote into an input".to_string());
+    }
+    if theirs.record != ours.record {
+        let show = |after: &After| match Answer::from_record(inner(&after.record)) {
+            Some(answer) => format!("{answer:?}"),
+            None => format!("{:?}", inner(&after.record)),
+        };
+        return Some(format!(
+            "record: interface {}, model {}",
+            show(theirs),
+            show(ours)
+        ));
+    }
+    let buffers = [
+        ("output", &theirs.out, &ours.out),
+        ("cells", &theirs.cells, &ours.cells),
+    ];
+    for (name, theirs, ours) in buffers {
+        if theirs == ours {
+            continue;
+        }
+        let at = theirs
+            .iter()
+            .zip(ours)
+            .take_while(|pair| pair.0 == pair.1)
+            .count();
+        let offset = at as i64 - (theirs.len() - inner(theirs).len()) as i64 / 2;
+        return Some(format!(
+            "{name}: byte {offset} of {} is {} in the interface, {} in the model",
+            inner(theirs).len(),
+            theirs[at],
+            ours[at]
+        ));
+    }
+    None
+}
+
+/// The outcome is a number, a constructor or a run fault.
+pub fn ends(outcome: u16) -> bool {
+    matches!(outcome, 0 | 100 | 14..=19)
+}
+
+/// A number, constructor or run fault of a translated sheet's run has to be
+/// the sheet's own answer.
+fn against_meaning(call: &Call, after: &After) -> Option<String> {
+    let (sheet, input) = match call {
+        Call::Run {
+            of: Some(sheet),
+            input,
+            ..
+        } => (sheet, input),
+        Call::Joined { sheet, input, .. } => (sheet, input),
+        _ => return None,
+    };
+    if after.answer != 0 {
+        return None;
+    }
+    let answer = Answer::from_record(inner(&after.record))?;
+    if !ends(answer.outcome) {
+        return None;
+    }
+    compare_meaning(sheet, input, &answer)
+}
+
+/// Call by name never takes more steps, nor more depth, than the run, so the
+/// run's own figures are a budget within which it must answer.
+fn compare_meaning(file: &[u8], input: &RunInput, answer: &Answer) -> Option<String> {
+    let read = match sheet::read(&Model::correct(), file) {
+        Ok(read) => read,
+        Err(refusal) => return Some(format!("run of a sheet that is refused: {refusal:?}")),
+    };
+    let nesting = input.allowances.nesting;
+    let own = name::answer(&read, &input.readings, answer.steps as u64, nesting);
+    if own.outcome() == Some((answer.outcome, answer.value)) {
+        return None;
+    }
+    Some(format!("call by name gives {own:?}, the run {answer:?}"))
+}

@@ -1,0 +1,252 @@
+//! Chooses the calls with which a file is examined, and compares them.
+
+use crate::call::{inner, After, Call, RunInput};
+use crate::check::{check, Difference};
+use crate::generate::random::Random;
+use crate::generate::sizes;
+use crate::interface::{Allowances, Interface};
+use crate::model::answer::Answer;
+use crate::model::{joined, listing, Model};
+use crate::tally::Tally;
+
+pub struct Examiner<'a> {
+    pub subject: &'a dyn Interface,
+    pub reference: &'a Model,
+    pub tally: &'a mut Tally,
+}
+
+/// Readings due, by the head of a sheet or translation (small if damaged).
+fn readings_due(file: &[u8]) -> usize {
+    match file.len() {
+        0..=5 => 0,
+        _ => (u16::from_le_bytes([file[4], file[5]]) as usize).min(40),
+    }
+}
+
+fn is_stop(outcome: u16) -> bool {
+    (11..=13).contains(&outcome)
+}
+
+impl Examiner<'_> {
+    fn check(&mut self, call: &Call) -> Result<After, Difference> {
+        let after = check(call, self.subject, self.reference)?;
+        self.tally.add(call, &after);
+        Ok(after)
+    }
+
+    /// A sheet, well-formed or damaged.
+    pub fn sheet(&mut self, random: &mut Random, sheet: &[u8]) -> Result<(), Difference> {
+        let mut scratch = vec![0; 40_960];
+        let length = joined::translate_into(self.reference, sheet, &mut scratch);
+        let room = sizes::room(random, length.unwrap_or(100));
+        let out = random.bytes(room);
+        self.check(&Call::Translate {
+            sheet: sheet.to_vec(),
+            out,
+        })?;
+
+        let room = sizes::room(random, length.unwrap_or(100));
+        let joined = Call::Joined {
+            sheet: sheet.to_vec(),
+            out: random.bytes(room),
+            input: run_input(random, readings_due(sheet)),
+        };
+        let after = self.check(&joined)?;
+        self.list(random, inner(&after.cells), &after)?;
+
+        match length {
+            Ok(length) => {
+                // Just enough room, so that every accepted sheet is translated.
+                let out = random.bytes(length);
+                self.check(&Call::Translate {
+                    sheet: sheet.to_vec(),
+                    out,
+                })?;
+                self.translation(random, &scratch[..length], Some(sheet))
+            }
+            Err(_) if random.chance(5) => self.translation(random, sheet, None),
+            Err(_) => Ok(()),
+        }
+    }
+
+    /// A translation; `of` is the sheet that it is the translation of.
+    pub fn translation(
+        &mut self,
+        random: &mut Random,
+        file: &[u8],
+        of: Option<&[u8]>,
+    ) -> Result<(), Difference> {
+        let due = readings_due(file);
+        let call = |input: RunInput| Call::Run {
+            of: of.map(<[u8]>::to_vec),
+            file: file.to_vec(),
+            input,
+        };
+        let after = self.check(&call(run_input(random, due)))?;
+        self.list(random, inner(&after.cells), &after)?;
+
+        // Ample allowances and the right number of readings.
+        let (steps, cells) = match random.below(100) {
+            0 => (40_000, 8192),
+            1..=3 => (3000, 8192),
+            _ => (1500, 300),
+        };
+        let allowances = Allowances {
+            steps,
+            nesting: 1024,
+            cells,
+        };
+        let readings = (0..due).map(|_| random.number()).collect();
+        let ample = RunInput {
+            readings,
+            allowances,
+            cells: random.bytes(4 * cells as usize),
+            record: random.bytes(20),
+        };
+        let after = self.check(&call(ample.clone()))?;
+        self.list(random, inner(&after.cells), &after)?;
+        let Some(answer) = Answer::from_record(inner(&after.record)) else {
+            return Ok(());
+        };
+        if answer.outcome > 0 && answer.outcome <= 10 {
+            return Ok(());
+        }
+        for allowances in edges(random, allowances, &answer) {
+            let lent = 4 * (allowances.cells as usize).min(8200);
+            let input = RunInput {
+                allowances,
+                cells: random.bytes(lent),
+                record: random.bytes(20),
+                ..ample.clone()
+            };
+            let after = self.check(&call(input.clone()))?;
+            let Some(answer) = Answer::from_record(inner(&after.record)) else {
+                continue;
+            };
+            // Where nesting and steps run out at once.
+            if answer.outcome == 12 {
+                let allowances = Allowances {
+                    steps: answer.steps,
+                    ..allowances
+                };
+                self.check(&call(RunInput {
+                    allowances,
+                    ..input
+                }))?;
+            }
+        }
+        Ok(())
+    }
+
+    /// Listings from the cells that a run left, and from damaged ones.
+    fn list(&mut self, random: &mut Random, cells: &[u8], after: &After) -> Result<(), Difference> {
+        if random.below(4000) == 0 {
+            self.list_many(random)?;
+        }
+        let answer = Answer::from_record(inner(&after.record)).unwrap_or_default();
+        if answer.cells == 0 && !random.chance(5) {
+            return Ok(());
+        }
+        let made = 4 * (answer.cells as usize);
+        let mut lent = match random.below(4) {
+            0 => cells[..made.min(cells.len())].to_vec(),
+            1 => cells[..random.below(cells.len().min(made + 12) + 1)].to_vec(),
+            _ => cells[..cells.len().min(made + random.below(9))].to_vec(),
+        };
+        if random.chance(30) {
+            for _ in 0..random.between(1, 3) {
+                if !lent.is_empty() {
+                    let at = random.below(lent.len());
+                    lent[at] = random.below(1 + lent.len() / 3) as u8;
+                }
+            }
+        }
+        let cell = match random.below(8) {
+            0 => 0,
+            1 => answer.context as u64,
+            2 => answer.cells as u64,
+            3 => answer.cells as u64 + 1,
+            4 if random.chance(10) => random.bits() as u32 as u64,
+            _ => random.below(lent.len() / 4 + 2) as u64,
+        };
+        let mut scratch = vec![0; 2 * lent.len()];
+        let count = listing::list(self.reference, &lent, cell, &mut scratch).unwrap_or(3);
+        let room = sizes::room(random, 2 * count as usize);
+        let out = random.bytes(room);
+        self.check(&Call::List {
+            cells: lent,
+            cell,
+            out,
+        })?;
+        Ok(())
+    }
+}
+
+impl Examiner<'_> {
+    /// A chain of up to 65,536 labels in more cells than a number of two
+    /// bytes can name.
+    fn list_many(&mut self, random: &mut Random) -> Result<(), Difference> {
+        let count = random.between(65_536, 65_600);
+        let mut cells = random.bytes(4 * count);
+        for (number, cell) in cells.chunks_exact_mut(4).enumerate() {
+            cell[2..].copy_from_slice(&(number.min(65_535) as u16).to_le_bytes());
+        }
+        let cell = random.pick(&[65_535, 65_536, count, count + 1]) as u64;
+        let labels = (cell as usize).min(65_536);
+        let room = random.pick(&[2 * labels - 1, 2 * labels, 2 * labels + 5]);
+        let out = random.bytes(room);
+        self.check(&Call::List { cells, cell, out })?;
+        Ok(())
+    }
+}
+
+fn run_input(random: &mut Random, due: usize) -> RunInput {
+    let allowances = sizes::allowances(random);
+    let readings = sizes::readings(random, due);
+    let (cells, record) = (sizes::lent(random, allowances.cells), sizes::record(random));
+    RunInput {
+        readings,
+        allowances,
+        cells: random.bytes(cells),
+        record: random.bytes(record),
+    }
+}
+
+/// Allowances just short and just enough for an answer already known.
+fn edges(random: &mut Random, ample: Allowances, answer: &Answer) -> Vec<Allowances> {
+    let mut found = Vec::new();
+    let cells = answer.cells as u32;
+    let stopped = is_stop(answer.outcome);
+    if answer.steps > 0 {
+        let steps = if random.chance(50) {
+            answer.steps
+        } else {
+            answer.steps - 1
+        };
+        found.push(Allowances {
+            steps,
+            cells,
+            ..ample
+        });
+    }
+    if cells > 0 {
+        found.push(Allowances {
+            cells: cells - 1,
+            ..ample
+        });
+    }
+    if !stopped && random.chance(30) {
+        found.push(Allowances {
+            steps: u32::MAX,
+            ..ample
+        });
+    }
+    let deepest = if random.chance(70) { 20 } else { 200 };
+    let nesting = random.between(1, deepest) as u32;
+    found.push(Allowances {
+        nesting,
+        cells,
+        ..ample
+    });
+    found
+}

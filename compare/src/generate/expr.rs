@@ -1,0 +1,265 @@
+//! Random expressions over a plan.
+
+use super::plan::Plan;
+use super::random::Random;
+use crate::build_sheet::{build, call, case, cond, num, op, par, pat, Expr};
+use crate::build_sheet::{ADD, DIVIDE, LESS, SUBTRACT};
+
+/// Grows the expressions of one function.
+pub struct Grow<'a> {
+    pub random: &'a mut Random,
+    pub plan: &'a Plan,
+    pub function: usize,
+    /// Nodes still to be spent.
+    pub left: i32,
+    /// Constructor of the clause around, if any.
+    clause: Option<usize>,
+    calls: bool,
+    /// Only functions after the own one are called (so that calls end).
+    upwards: bool,
+}
+
+const DEPTH: u32 = 9;
+
+impl<'a> Grow<'a> {
+    pub fn new(random: &'a mut Random, plan: &'a Plan, function: usize, left: i32) -> Grow<'a> {
+        Grow {
+            random,
+            plan,
+            function,
+            left,
+            clause: None,
+            calls: true,
+            upwards: false,
+        }
+    }
+
+    /// The body of the function.
+    pub fn body(&mut self) -> Expr {
+        let result = self.plan.functions[self.function].result;
+        if self.plan.types > 0 && self.random.chance(45) {
+            let of = self.random.between(1, self.plan.types as usize) as u16;
+            return self.case(of, result, 85);
+        }
+        self.guarded(result)
+    }
+
+    /// A case over type `of`; each constructor of the type gets a clause in
+    /// `percent` of all cases.
+    pub fn case(&mut self, of: u16, result: u16, percent: usize) -> Expr {
+        // The scrutinee is visited before a guard: with fuel it calls no
+        // function that might call this one again, or none at all.
+        self.upwards = self.plan.fuel && self.random.chance(95);
+        self.calls = self.random.chance(85);
+        let share = self.left / 4;
+        let all = self.left - share;
+        self.left = share;
+        let scrutinee = if self.calls {
+            self.busy(of)
+        } else {
+            self.expr(of, DEPTH)
+        };
+        self.calls = true;
+        self.upwards = false;
+        let plan = self.plan;
+        let chosen: Vec<usize> = (0..plan.constructors.len())
+            .filter(|&number| {
+                let belongs = plan.constructors[number].own == of;
+                self.random.chance(if belongs { percent } else { 2 })
+            })
+            .take(64)
+            .collect();
+        let chosen = if chosen.is_empty() { vec![0] } else { chosen };
+        let mut clauses = Vec::new();
+        for &constructor in &chosen {
+            self.clause = Some(constructor);
+            self.left = all / chosen.len() as i32;
+            let node = self.guarded(result);
+            clauses.push((constructor as u16, node));
+        }
+        self.clause = None;
+        case(scrutinee, clauses)
+    }
+
+    /// With fuel: `if 0 < fuel then (with calls) else (without)`.
+    fn guarded(&mut self, result: u16) -> Expr {
+        let has_fuel = !self.plan.functions[self.function].parameters.is_empty();
+        if !self.plan.fuel || !has_fuel {
+            return if self.function == 0 {
+                self.busy(result)
+            } else {
+                self.expr(result, DEPTH)
+            };
+        }
+        self.left -= 4;
+        self.calls = false;
+        let all = self.left;
+        self.left = all / 3;
+        let stop = self.expr(result, 3);
+        self.calls = true;
+        self.left = all - all / 3;
+        let go = self.busy(result);
+        match self.random.below(3) {
+            0 => cond(op(LESS, par(0), num(1)), stop, go),
+            1 => cond(par(0), go, stop),
+            _ => cond(op(LESS, num(0), par(0)), go, stop),
+        }
+    }
+
+    /// An expression that does some work: mostly a call, or an operator on
+    /// two calls.
+    fn busy(&mut self, of: u16) -> Expr {
+        if self.left > 1 && self.random.chance(70) {
+            self.left -= 1;
+            if of == 0 && self.random.chance(40) {
+                if let (Some(one), Some(two)) = (self.callee(0), self.callee(0)) {
+                    let code = self.random.below(6) as u16;
+                    let left = self.call(one, DEPTH);
+                    let right = self.call(two, DEPTH);
+                    return op(code, left, right);
+                }
+            }
+            if let Some(function) = self.callee(of) {
+                return self.call(function, DEPTH);
+            }
+        }
+        self.expr(of, DEPTH)
+    }
+
+    /// An expression of a type, now and then of another one.
+    pub fn expr(&mut self, of: u16, depth: u32) -> Expr {
+        let of = if self.random.chance(2) {
+            self.random.between(0, self.plan.types as usize) as u16
+        } else {
+            of
+        };
+        self.left -= 1;
+        if self.left <= 0 || depth == 0 || self.random.chance(15) {
+            return self.leaf(of, depth);
+        }
+        match self.random.below(10) {
+            0 => self.condition(of, depth),
+            1..=4 if self.calls => match self.callee(of) {
+                Some(function) => self.call(function, depth),
+                None => self.make(of, depth),
+            },
+            _ => self.make(of, depth),
+        }
+    }
+
+    fn condition(&mut self, of: u16, depth: u32) -> Expr {
+        let condition = self.expr(0, depth - 1);
+        let yes = self.expr(of, depth - 1);
+        let no = self.expr(of, depth - 1);
+        cond(condition, yes, no)
+    }
+
+    /// An operator or a built constructor.
+    fn make(&mut self, of: u16, depth: u32) -> Expr {
+        if of == 0 {
+            if self.random.chance(3) {
+                return op(DIVIDE, num(i32::MIN), num(-1));
+            }
+            let code = self.random.below(6) as u16;
+            let left = self.expr(0, depth - 1);
+            let right = self.expr(0, depth - 1);
+            return op(code, left, right);
+        }
+        match self.constructor(of, usize::MAX) {
+            Some(constructor) => self.build(constructor, depth - 1),
+            None => self.leaf(of, depth),
+        }
+    }
+
+    fn build(&mut self, constructor: usize, depth: u32) -> Expr {
+        let plan = self.plan;
+        let fields = &plan.constructors[constructor].fields;
+        let arguments = fields
+            .iter()
+            .map(|&field| self.expr(field, depth))
+            .collect();
+        build(constructor as u16, arguments)
+    }
+
+    fn constructor(&mut self, of: u16, most: usize) -> Option<usize> {
+        let all: Vec<usize> = (0..self.plan.constructors.len())
+            .filter(|&number| {
+                let constructor = &self.plan.constructors[number];
+                constructor.own == of && constructor.fields.len() <= most
+            })
+            .collect();
+        (!all.is_empty()).then(|| self.random.pick(&all))
+    }
+
+    fn callee(&mut self, of: u16) -> Option<usize> {
+        let functions = &self.plan.functions;
+        let first = if self.upwards { self.function + 1 } else { 0 };
+        let all: Vec<usize> = (first..functions.len())
+            .filter(|&number| functions[number].result == of)
+            .collect();
+        let function = (!all.is_empty()).then(|| self.random.pick(&all))?;
+        // Calls of `result` never end with fuel; keep them few.
+        (function > 0 || self.random.chance(5)).then_some(function)
+    }
+
+    pub fn call(&mut self, function: usize, depth: u32) -> Expr {
+        let plan = self.plan;
+        let mut arguments = Vec::new();
+        for (position, &parameter) in plan.functions[function].parameters.iter().enumerate() {
+            if plan.fuel && position == 0 {
+                arguments.push(self.fuel());
+            } else {
+                arguments.push(self.expr(parameter, depth.saturating_sub(1)));
+            }
+        }
+        call(function as u16, arguments)
+    }
+
+    /// The fuel handed on: one less than the own, or a small number.
+    fn fuel(&mut self) -> Expr {
+        if self.plan.functions[self.function].parameters.is_empty() {
+            return num(self.random.below(8) as i32);
+        }
+        match self.random.below(12) {
+            0 => op(ADD, num(-1), par(0)),
+            1 => num(self.random.below(3) as i32),
+            _ => op(SUBTRACT, par(0), num(1)),
+        }
+    }
+
+    /// An expression with few nodes.
+    fn leaf(&mut self, of: u16, depth: u32) -> Expr {
+        let plan = self.plan;
+        let positions = |types: &[u16]| -> Vec<u16> {
+            (0..types.len() as u16)
+                .filter(|&at| types[at as usize] == of)
+                .collect()
+        };
+        if let Some(constructor) = self.clause {
+            let fields = positions(&plan.constructors[constructor].fields);
+            if !fields.is_empty() && self.random.chance(60) {
+                return pat(self.random.pick(&fields));
+            }
+        }
+        let parameters = positions(&plan.functions[self.function].parameters);
+        if !parameters.is_empty() && self.random.chance(75) {
+            return par(self.random.pick(&parameters));
+        }
+        if of == 0 {
+            if plan.readings > 0 && self.random.chance(30) {
+                return Expr::Reading(self.random.below(plan.readings as usize) as u16);
+            }
+            return num(self.random.number());
+        }
+        if let Some(constructor) = self.constructor(of, 0) {
+            return build(constructor as u16, vec![]);
+        }
+        match self.constructor(of, 3) {
+            // Leaves stay small: few levels, and none at all far over budget.
+            Some(constructor) if depth > 0 && self.left > -200 => {
+                self.build(constructor, depth.min(2) - 1)
+            }
+            _ => num(self.random.number()),
+        }
+    }
+}

@@ -1,0 +1,94 @@
+//! The plan of a random sheet: readings, constructors and functions, each
+//! with loose types (0 number, 1.. data) so that most sheets do some work
+//! before they fault. A few expressions break the types on purpose.
+
+use super::random::Random;
+
+pub struct Constructor {
+    pub own: u16,
+    pub fields: Vec<u16>,
+}
+
+pub struct Function {
+    pub result: u16,
+    pub parameters: Vec<u16>,
+}
+
+pub struct Plan {
+    pub readings: u16,
+    pub types: u16,
+    pub constructors: Vec<Constructor>,
+    pub functions: Vec<Function>,
+    /// With fuel, the first parameter of a function is a number that calls
+    /// count down, so that most recursion ends.
+    pub fuel: bool,
+}
+
+/// Ranges from which a plan's counts are taken.
+pub struct Limits {
+    pub readings: (usize, usize),
+    pub constructors: (usize, usize),
+    pub functions: (usize, usize),
+    pub parameters: (usize, usize),
+    pub arity: (usize, usize),
+}
+
+pub fn plan(random: &mut Random, limits: &Limits) -> Plan {
+    let between = |random: &mut Random, range: (usize, usize)| random.between(range.0, range.1);
+    let readings = between(random, limits.readings) as u16;
+    let count = between(random, limits.constructors);
+    let types = if count == 0 {
+        0
+    } else {
+        random.between(1, 3.min(count)) as u16
+    };
+    let some_type = |random: &mut Random| {
+        if types == 0 || random.chance(45) {
+            0
+        } else {
+            random.between(1, types as usize) as u16
+        }
+    };
+    let fuel = random.chance(75);
+
+    let mut constructors = Vec::new();
+    for number in 0..count {
+        // The first constructor of a type has no or few fields.
+        let own = number as u16 % types + 1;
+        let greatest = if number < types as usize {
+            2.min(limits.arity.1)
+        } else {
+            limits.arity.1
+        };
+        let arity = random.between(limits.arity.0.min(greatest), greatest);
+        let fields = (0..arity).map(|_| some_type(random)).collect();
+        constructors.push(Constructor { own, fields });
+    }
+
+    let mut functions = Vec::new();
+    for number in 0..between(random, limits.functions) {
+        let mut parameters = Vec::new();
+        if number > 0 {
+            let most = between(random, limits.parameters);
+            parameters = (0..most).map(|_| some_type(random)).collect();
+        }
+        if fuel && !parameters.is_empty() {
+            parameters[0] = 0;
+        }
+        functions.push(Function {
+            result: some_type(random),
+            parameters,
+        });
+    }
+    // Most sheets end with a number.
+    if random.chance(70) {
+        functions[0].result = 0;
+    }
+    Plan {
+        readings,
+        types,
+        constructors,
+        functions,
+        fuel,
+    }
+}

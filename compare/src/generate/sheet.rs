@@ -1,0 +1,69 @@
+//! Random well-formed sheets.
+
+use super::expr::Grow;
+use super::plan::{plan, Limits};
+use super::random::Random;
+use crate::build_sheet::{Expr, Program};
+
+/// A well-formed sheet of small or middle size.
+pub fn sheet(random: &mut Random) -> Vec<u8> {
+    loop {
+        let (limits, budget) = match random.below(10) {
+            0 => (small(3, 1), random.between(1, 8)),
+            1..=4 => (small(4, 3), random.between(4, 16)),
+            5..=7 => (small(7, 5), random.between(8, 24)),
+            8 => (small(12, 8), random.between(8, 40)),
+            _ => (small(30, 4), random.between(3, 14)),
+        };
+        let program = program(random, &limits, budget);
+        let total: usize = program
+            .functions
+            .iter()
+            .map(|function| function.1.size())
+            .sum();
+        if total <= 1024 {
+            return encode(random, &program);
+        }
+    }
+}
+
+fn small(functions: usize, parameters: usize) -> Limits {
+    let constructors = if functions < 4 { 0 } else { 2 };
+    Limits {
+        readings: (0, 4),
+        constructors: (constructors, 6),
+        functions: (1, functions),
+        parameters: (0, parameters),
+        arity: (0, 4),
+    }
+}
+
+/// Sheets in post-order or with the nodes in another allowed order.
+pub fn encode(random: &mut Random, program: &Program) -> Vec<u8> {
+    if random.chance(40) {
+        program.encode()
+    } else {
+        program.encode_shuffled(|bound| random.below(bound))
+    }
+}
+
+pub fn program(random: &mut Random, limits: &Limits, budget: usize) -> Program {
+    let plan = plan(random, limits);
+    let mut functions: Vec<(u16, Expr)> = Vec::new();
+    for number in 0..plan.functions.len() {
+        let left = random.between(1, 2 * budget) as i32;
+        let mut grow = Grow::new(random, &plan, number, left);
+        let body = grow.body();
+        functions.push((plan.functions[number].parameters.len() as u16, body));
+    }
+    let arities = plan
+        .constructors
+        .iter()
+        .map(|constructor| constructor.fields.len() as u16)
+        .collect();
+    Program {
+        readings: plan.readings,
+        arities,
+        functions,
+    }
+}

@@ -1,0 +1,86 @@
+//! Random allowances, readings and buffer sizes.
+
+use super::random::Random;
+use crate::interface::Allowances;
+
+/// Allowances: mostly in range, sometimes at a ceiling or one above.
+pub fn allowances(random: &mut Random) -> Allowances {
+    let steps = match random.below(20) {
+        0 => 0,
+        1..=5 => random.below(20),
+        6..=12 => random.below(300),
+        _ => random.below(2500),
+    };
+    let nesting = match random.below(40) {
+        0 => 0,
+        1 => 1025,
+        2 => random.bits() as u32 as usize,
+        3..=6 => 1024,
+        7 => 1023,
+        8..=15 => random.between(1, 8),
+        16..=24 => random.between(1, 40),
+        _ => random.between(40, 1024),
+    };
+    let cells = match random.below(60) {
+        0 => 8193,
+        1 => random.bits() as u32 as usize,
+        2 => 8192,
+        3 => 8191,
+        4..=8 => 0,
+        9..=20 => random.below(8),
+        21..=50 => random.below(100),
+        _ => random.below(1000),
+    };
+    Allowances {
+        steps: steps as u32,
+        nesting: nesting as u32,
+        cells: cells as u32,
+    }
+}
+
+/// Bytes lent for cells: mostly just enough or a little more.
+pub fn lent(random: &mut Random, cells: u32) -> usize {
+    let due = 4 * (cells as usize).min(8200);
+    match random.below(20) {
+        0 => due.saturating_sub(1),
+        1 => due.saturating_sub(4),
+        2 => random.below(due + 1),
+        3..=6 => due + random.between(1, 9),
+        _ => due,
+    }
+}
+
+/// Size of an output buffer for something of a length.
+pub fn room(random: &mut Random, length: usize) -> usize {
+    match random.below(16) {
+        0 => length.saturating_sub(1),
+        1 => length.saturating_sub(2),
+        2 => 0,
+        3 => random.below(length + 1),
+        4..=7 => length,
+        8 => length + 1,
+        _ => length + random.below(60),
+    }
+}
+
+/// Size of the buffer for an answer record.
+pub fn record(random: &mut Random) -> usize {
+    match random.below(24) {
+        0 => 19,
+        1 => random.below(20),
+        2..=4 => random.between(21, 40),
+        _ => 20,
+    }
+}
+
+/// Readings: mostly as many as due, sometimes one off.
+pub fn readings(random: &mut Random, due: usize) -> Vec<i32> {
+    let count = match random.below(30) {
+        0 => due + 1,
+        1 => due.saturating_sub(1),
+        2 => random.below(40),
+        3 if random.below(60) == 0 => due + 65_536,
+        _ => due,
+    };
+    (0..count).map(|_| random.number()).collect()
+}

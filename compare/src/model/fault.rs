@@ -1,0 +1,170 @@
+//! Deliberate faults of the model. The self-test switches on one at a time
+//! and demands that the comparison finds it.
+
+#[derive(Clone, Copy, Debug, PartialEq, Eq)]
+pub enum Fault {
+    LabelsRestart,
+    WholeContext,
+    SelectingContext,
+    FieldsBuilt,
+    StoppedCounted,
+    NestingFirst,
+    IndexNotRaised,
+    DivideDown,
+    LowestByMinusOne,
+    SaturatingAdd,
+    MisfitFirst,
+    PlaceOffByOne,
+    PastLength,
+    CellsCleared,
+    FirstClause,
+    LastClause,
+    CutBeforeKind,
+    LeftOverPlace,
+    SumPlace,
+    OwnFunctionCount,
+    ClauseOrderLoose,
+    ClauseOrderByPattern,
+    PatternArityLoose,
+    PatternInScrutinee,
+    RightBeforeCheck,
+    NoActualNoField,
+    CellLimit,
+    NestingLimit,
+    AllowanceFirst,
+    JoinedReadingsFirst,
+    RefusedStillWrites,
+    ListOldestFirst,
+    ListPlace,
+    ListPartCell,
+    SizeLimit,
+    UnsignedLess,
+}
+
+/// Faults that call by name alone has to find, with both sides wrong alike.
+pub const AGAINST_MEANING: &[Fault] = &[
+    Fault::LabelsRestart,
+    Fault::WholeContext,
+    Fault::SelectingContext,
+    Fault::FieldsBuilt,
+    Fault::IndexNotRaised,
+    Fault::DivideDown,
+    Fault::LowestByMinusOne,
+    Fault::SaturatingAdd,
+    Fault::FirstClause,
+    Fault::RightBeforeCheck,
+    Fault::UnsignedLess,
+];
+
+/// Each fault with its description and the number of sheets (and as many
+/// damaged files) within which it must be found.
+pub const ALL: &[(Fault, &str, u64)] = &[
+    (
+        Fault::LabelsRestart,
+        "labels restarted in each function",
+        500,
+    ),
+    (
+        Fault::WholeContext,
+        "an actual visited under the whole context",
+        500,
+    ),
+    (
+        Fault::SelectingContext,
+        "a field visited under the selecting context",
+        500,
+    ),
+    (Fault::FieldsBuilt, "fields visited when built", 500),
+    (Fault::StoppedCounted, "a stopped visit counted", 500),
+    (Fault::NestingFirst, "12 before 11", 5000),
+    (Fault::IndexNotRaised, "select's index not raised", 500),
+    (Fault::DivideDown, "division rounding down", 2000),
+    (
+        Fault::LowestByMinusOne,
+        "lowest number by -1 gives 0",
+        20000,
+    ),
+    (Fault::SaturatingAdd, "add kept inside the range", 2000),
+    (Fault::MisfitFirst, "7 before 5 at one record", 20000),
+    (Fault::PlaceOffByOne, "a node's place off by one", 500),
+    (
+        Fault::PastLength,
+        "bytes past the translation's length touched",
+        500,
+    ),
+    (
+        Fault::CellsCleared,
+        "bytes past the cells made touched",
+        500,
+    ),
+    (Fault::FirstClause, "first clause taken", 500),
+    (Fault::LastClause, "last clause with the tag taken", 5000),
+    (
+        Fault::CutBeforeKind,
+        "cut short reported before kind and length",
+        5000,
+    ),
+    (
+        Fault::LeftOverPlace,
+        "bytes left over placed at the last record",
+        500,
+    ),
+    (Fault::SumPlace, "a wrong sum placed at the head", 500),
+    (
+        Fault::OwnFunctionCount,
+        "references from other functions not counted",
+        5000,
+    ),
+    (
+        Fault::ClauseOrderLoose,
+        "equal clause constructors accepted",
+        10000,
+    ),
+    (
+        Fault::ClauseOrderByPattern,
+        "clause order checked after all child rules",
+        20000,
+    ),
+    (
+        Fault::PatternArityLoose,
+        "pattern position equal to the arity accepted",
+        2000,
+    ),
+    (
+        Fault::PatternInScrutinee,
+        "pattern variable in the scrutinee accepted",
+        10000,
+    ),
+    (
+        Fault::RightBeforeCheck,
+        "right operand visited before the left is checked",
+        2000,
+    ),
+    (Fault::NoActualNoField, "18 and 19 exchanged", 1000),
+    (Fault::CellLimit, "one cell too many allowed", 1000),
+    (Fault::NestingLimit, "one open visit too many allowed", 500),
+    (Fault::AllowanceFirst, "10 before 9", 2000),
+    (
+        Fault::JoinedReadingsFirst,
+        "9 before 8 in the joined call",
+        5000,
+    ),
+    (
+        Fault::RefusedStillWrites,
+        "a refused translation writes",
+        500,
+    ),
+    (Fault::ListOldestFirst, "labels listed oldest first", 500),
+    (
+        Fault::ListPlace,
+        "listing's place is the previous number",
+        500,
+    ),
+    (Fault::ListPartCell, "a part of a cell listed", 5000),
+    (
+        Fault::SizeLimit,
+        "a file of the greatest size refused",
+        10000,
+    ),
+    (Fault::UnsignedLess, "less compares without sign", 2000),
+];

@@ -1,0 +1,58 @@
+//! The model behind the same calls as the C interface.
+
+use super::answer::RECORD;
+use super::{joined, listing, run, Model, Refusal};
+use crate::interface::{Allowances, Interface};
+
+fn packed(refusal: Refusal) -> u64 {
+    (refusal.number as u64) << 32 | refusal.place as u64
+}
+
+impl Interface for Model {
+    fn translate(&self, sheet: &[u8], out: &mut [u8]) -> u64 {
+        match joined::translate_into(self, sheet, out) {
+            Ok(length) => length as u64,
+            Err(refusal) => packed(refusal),
+        }
+    }
+
+    fn run(
+        &self,
+        file: &[u8],
+        readings: &[i32],
+        allowances: Allowances,
+        cells: &mut [u8],
+        record: &mut [u8],
+    ) -> u64 {
+        if record.len() < RECORD {
+            return packed(Refusal::new(8, 0));
+        }
+        let answer = run::run(self, file, readings, allowances, cells);
+        record[..RECORD].copy_from_slice(&answer.record());
+        0
+    }
+
+    fn translate_and_run(
+        &self,
+        sheet: &[u8],
+        out: &mut [u8],
+        readings: &[i32],
+        allowances: Allowances,
+        cells: &mut [u8],
+        record: &mut [u8],
+    ) -> u64 {
+        if record.len() < RECORD {
+            return packed(Refusal::new(8, 0));
+        }
+        let answer = joined::translate_and_run(self, sheet, out, readings, allowances, cells);
+        record[..RECORD].copy_from_slice(&answer.record());
+        0
+    }
+
+    fn list_context(&self, cells: &[u8], cell: u64, out: &mut [u8]) -> u64 {
+        match listing::list(self, cells, cell, out) {
+            Ok(count) => count as u64,
+            Err(refusal) => packed(refusal),
+        }
+    }
+}
