@@ -155,8 +155,8 @@ unfolding reachedOf reach
 run-ends b index ends rs most n first steps before after end ready e g =
     let h = first-below b index ends first ready e in
     record {
-      inside = node-in b (endingOf (end .outcome)) (reached-good b index ends ready rs most n first 0 steps 0 before end after h g .inside);
-      used = reached-falls b index ends ready rs most n first 0 steps 0 before end after h g;
+      inside = node-in b (endingOf (end .outcome)) (reached-good b (ready .accepted) rs most n first 0 steps 0 before end after h g .inside);
+      used = reached-falls b (ready .accepted) rs most n first 0 steps 0 before end after h g;
     }
 
 -- the refusals, in their order

@@ -11,5 +11,6 @@ pub mod Steps
 pub mod NumberSteps
 pub mod ConstructorSteps
 pub mod Nodes
+pub mod Visiting
 pub mod Answering
 pub mod Entries

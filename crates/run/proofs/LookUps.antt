@@ -28,18 +28,12 @@ use Rattle.format.specs.Index.{Indexed, startIn}
 use Rattle.format.proofs.Indices.{indexed-record}
 use Rattle.run.specs.States.{Ready}
 
--- the record of node k and of formal p, as an index reaches them
+-- the record of node k, as an index reaches it
 pub node-reached : (b starts : List ℕ) (k x first : ℕ) (rec : List ℕ) → Indexed b starts (due b) → k < nodes b → x ≡ k → first ≡ firstNode b
     → rec ≡ recordAt b (startIn starts (first + x)) → rec ≡ nodeRecord b k
 node-reached b starts k x first rec i h g e f =
     let r : first + x ≡ firstNode b + k = rw (g, e) refl in
     indexed-record b starts (due b) (firstNode b + k) rec i (omega arith) (rw r at f)
-
-pub formal-reached : (b starts : List ℕ) (p x first : ℕ) (rec : List ℕ) → Indexed b starts (due b) → p < items b → x ≡ p → first ≡ 1 + functions b
-    → rec ≡ recordAt b (startIn starts (first + x)) → rec ≡ itemRecord Translation b p
-formal-reached b starts p x first rec i h g e f =
-    let r : first + x ≡ 1 + functions b + p = rw (g, e) refl in
-    indexed-record b starts (due b) (1 + functions b + p) rec i (omega arith) (rw r at f)
 
 -- the body of function f, by the table of ends
 pub function-limit : (b starts ends : List ℕ) (f x : ℕ) → Ready b starts ends → f < functions b → x ≡ f → x < 64
@@ -57,19 +51,6 @@ end-least b starts ends f x n r h g e = omega (arith, end-reached b starts ends 
 pub body-reached : (b starts ends : List ℕ) (f x n : ℕ) → Ready b starts ends → f < functions b → x ≡ f → n ≡ getD ends x 0
     → n - 1 ≡ bodyOf Translation b f
 body-reached b starts ends f x n r h g e = omega (arith, end-reached b starts ends f x n r h g e)
-
--- the node that a field names
-pub field-there : (rec : List ℕ) (j i x n m : ℕ) → x ≡ i → m ≡ fieldCount rec → j + x < m → n ≡ field rec (j + x) → some n ≡ getElem? (fieldsFrom rec j) i
-unfolding fieldsFrom
-field-there rec j i x n m e c h g =
-    let k : i < fieldCount rec - j = omega arith in
-    sym (listed-element (fieldCount rec - j) (λ i. field rec (j + i)) i k ∙ rw (g, e) refl)
-
-pub field-past : (rec : List ℕ) (j i x m : ℕ) → x ≡ i → m ≡ fieldCount rec → m ≤ j + x → none ≡ getElem? (fieldsFrom rec j) i
-unfolding fieldsFrom
-field-past rec j i x m e c h =
-    let l = listed-length (fieldCount rec - j) (λ i. field rec (j + i)) in
-    sym (element-past (listed (fieldCount rec - j) (λ i. field rec (j + i))) i (rw l (omega arith)))
 
 -- the node of a clause past the record's end
 pub clause-past : (rec : List ℕ) (j : ℕ) → length rec / 4 ≤ j → 0 ≡ field rec (2 + 2 * j)
@@ -161,10 +142,10 @@ branch-zero z n m e = rw e refl
 pub branch-other : (z : ℤ) (n m : ℕ) → isZero z ≡ false → n ≡ cond (isZero z) m n
 branch-other z n m e = rw e refl
 
--- the actual of a label
-pub actual-there : (b : List ℕ) (place count label x y n : ℕ) → x ≡ place → y ≡ label → label < count → n ≡ word b (x + 4 + 2 * y)
-    → some n ≡ cond (ltb label count) (some (word b (place + 4 + 2 * label))) none
-actual-there b place count label x y n ex ey h e = rw (lt-ltb label count h, e, ex, ey) refl
+-- the node that a field names
+pub listed-there : (b : List ℕ) (place count i x y n : ℕ) → x ≡ place → y ≡ i → i < count → n ≡ word b (x + 4 + 2 * y)
+    → some n ≡ cond (ltb i count) (some (word b (place + 4 + 2 * i))) none
+listed-there b place count i x y n ex ey h e = rw (lt-ltb i count h, e, ex, ey) refl
 
-pub actual-past : (b : List ℕ) (place count label : ℕ) → count ≤ label → none ≡ cond (ltb label count) (some (word b (place + 4 + 2 * label))) none
-actual-past b place count label h = rw (le-ltb label count h) refl
+pub listed-past : (b : List ℕ) (place count i : ℕ) → count ≤ i → none ≡ cond (ltb i count) (some (word b (place + 4 + 2 * i))) none
+listed-past b place count i h = rw (le-ltb i count h) refl

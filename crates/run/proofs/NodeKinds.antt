@@ -9,10 +9,13 @@ use Rattle.definitions.specs.Records.{kindOf, field}
 use Rattle.definitions.specs.NodeFields.{fieldsFrom, clauseList}
 use Rattle.definitions.specs.Layouts.{nodes, nodeRecord}
 use Rattle.definitions.specs.TranslationNodes.{number, reading, formal, select, operator, conditional, call, tuple, caseOf, translationNode, translationNodeOf}
+use Rattle.definitions.specs.Checks.{translationVerdict}
 use Rattle.definitions.specs.declared.Layout.the-variants.{Translation}
+use Rattle.definitions.specs.declared.Verdict.the-variants.{Accepted}
 use Rattle.accepted.proofs.Checks.{translation-shape}
 use Rattle.accepted.proofs.Sections.{node-kind}
-use Rattle.run.specs.States.{Ready, NodeIs}
+use Rattle.run.specs.States.{NodeIs}
+use Rattle.run.specs.Next.{Remains}
 
 -- the node of a kind
 module _ (b rec : List ℕ) (k : ℕ) where
@@ -64,9 +67,14 @@ last-of k l g n0 n1 n2 n3 n4 n5 n6 n7 =
     le-antisymm g (past k 55 (past k 54 (past k 53 (past k 52 (past k 51 (past k 50 (past k 49 (past k 48 l n0) n1) n2) n3) n4) n5) n6) n7)
 
 -- the last kind, where the record has none of the others
-pub node-last : (b rec index ends : List ℕ) (k kind : ℕ) → Ready b index ends → k < nodes b → rec ≡ nodeRecord b k → kind ≡ kindOf rec
+node-last : (b rec : List ℕ) (k kind : ℕ) → translationVerdict b ≡ Accepted → k < nodes b → rec ≡ nodeRecord b k → kind ≡ kindOf rec
     → (kind ≡ 48 → ⊥) → (kind ≡ 49 → ⊥) → (kind ≡ 50 → ⊥) → (kind ≡ 51 → ⊥) → (kind ≡ 52 → ⊥) → (kind ≡ 53 → ⊥) → (kind ≡ 54 → ⊥) → (kind ≡ 55 → ⊥)
     → NodeIs b rec k 56
-node-last b rec index ends k kind ready h e f n0 n1 n2 n3 n4 n5 n6 n7 =
-    let l = node-kind Translation b (translation-shape b (ready .accepted)) k h in
+node-last b rec k kind accepted h e f n0 n1 n2 n3 n4 n5 n6 n7 =
+    let l = node-kind Translation b (translation-shape b accepted) k h in
     node-is b rec k kind 56 h e f (last-of kind (rw (f, e) (l .least)) (rw (f, e) (l .greatest)) n0 n1 n2 n3 n4 n5 n6 n7)
+
+pub node-remaining : (b : List ℕ) (k kind : ℕ) → translationVerdict b ≡ Accepted → k < nodes b → kind ≡ kindOf (nodeRecord b k) → Remains b k
+    → (kind ≡ 48 → ⊥) → (kind ≡ 49 → ⊥) → (kind ≡ 51 → ⊥) → (kind ≡ 52 → ⊥) → (kind ≡ 53 → ⊥) → (kind ≡ 55 → ⊥) → NodeIs b (nodeRecord b k) k 56
+node-remaining b k kind accepted h f r n0 n1 n3 n4 n5 n7 =
+    node-last b (nodeRecord b k) k kind accepted h refl f n0 n1 (λ q. r .no-formal (sym f ∙ q)) n3 n4 n5 (λ q. r .no-call (sym f ∙ q)) n7

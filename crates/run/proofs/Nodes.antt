@@ -12,8 +12,10 @@ use Rattle.definitions.specs.Operators.{isZero}
 use Rattle.definitions.specs.NodeFields.{fieldsFrom, clauseList, chosen}
 use Rattle.definitions.specs.Layouts.{nodes, items, functions, bodyOf, nodeRecord, itemRecord}
 use Rattle.definitions.specs.TranslationNodes.{actual, tupleFields}
+use Rattle.definitions.specs.Checks.{translationVerdict}
 use Rattle.definitions.specs.Rule.{reach}
 use Rattle.definitions.specs.declared.Layout.the-variants.{Translation}
+use Rattle.definitions.specs.declared.Verdict.the-variants.{Accepted}
 use Rattle.accepted.specs.Mention as Mention
 use Rattle.accepted.proofs.Owners.{body-below}
 use Rattle.accepted.proofs.Checks.{translation-shape}
@@ -24,7 +26,7 @@ use Rattle.run.specs.declared.state.Outcome.the-variants as outcomes
 use Rattle.run.specs.declared.state.State.{State}
 use Rattle.run.specs.declared.look_up.Found.{Found}
 use Rattle.run.specs.declared.look_up.Found.the-variants.{Node}
-use Rattle.run.specs.States.{foundOf, endingOf, valueOf, stateOf, reachedOf, Ready, NodeIs, visits}
+use Rattle.run.specs.States.{foundOf, endingOf, valueOf, stateOf, reachedOf, NodeIs, visits}
 use Rattle.run.proofs.Endings.{found-some}
 use Rattle.run.proofs.Falls.{TupleAt, Good, visit-good, member-below, clause-below, branch-below}
 use Rattle.run.proofs.NodeKinds.{is-formal, is-select, is-operator, is-conditional, is-call, is-case}
@@ -42,53 +44,53 @@ falls-on l left t h e = omega arith
 pub falls-same : (left t : ℕ) → 3 * left + 1 ≡ t → 3 * left < t
 falls-same left t e = omega arith
 
-module _ (b index ends rec : List ℕ) (k : ℕ) (ready : Ready b index ends) where
+module _ (b rec : List ℕ) (k : ℕ) (accepted : translationVerdict b ≡ Accepted) where
   module _ (x : ℕ) where
     pub select-child : NodeIs b rec k 51 → x ≡ field rec 0 → x < nodes b
-    select-child h e = rw e (mention-below b (ready .accepted) k (h .below) (is-select b rec k h) Mention.selected)
+    select-child h e = rw e (mention-below b accepted k (h .below) (is-select b rec k h) Mention.selected)
 
     pub left-child : NodeIs b rec k 52 → x ≡ field rec 1 → x < nodes b
-    left-child h e = rw e (mention-below b (ready .accepted) k (h .below) (is-operator b rec k h) Mention.left)
+    left-child h e = rw e (mention-below b accepted k (h .below) (is-operator b rec k h) Mention.left)
 
     pub right-child : NodeIs b rec k 52 → x ≡ field rec 2 → x < nodes b
-    right-child h e = rw e (mention-below b (ready .accepted) k (h .below) (is-operator b rec k h) Mention.right)
+    right-child h e = rw e (mention-below b accepted k (h .below) (is-operator b rec k h) Mention.right)
 
     pub condition-child : NodeIs b rec k 53 → x ≡ field rec 0 → x < nodes b
-    condition-child h e = rw e (mention-below b (ready .accepted) k (h .below) (is-conditional b rec k h) Mention.condition)
+    condition-child h e = rw e (mention-below b accepted k (h .below) (is-conditional b rec k h) Mention.condition)
 
     pub branch-child : (z : ℤ) → NodeIs b rec k 53 → x ≡ cond (isZero z) (field rec 2) (field rec 1) → x < nodes b
-    branch-child z h e = rw e (branch-below b (ready .accepted) k (field rec 0) (field rec 1) (field rec 2) (isZero z) (h .below) (is-conditional b rec k h))
+    branch-child z h e = rw e (branch-below b accepted k (field rec 0) (field rec 1) (field rec 2) (isZero z) (h .below) (is-conditional b rec k h))
 
     pub scrutinee-child : NodeIs b rec k 56 → x ≡ field rec 0 → x < nodes b
-    scrutinee-child h e = rw e (mention-below b (ready .accepted) k (h .below) (is-case b rec k h) Mention.scrutinee)
+    scrutinee-child h e = rw e (mention-below b accepted k (h .below) (is-case b rec k h) Mention.scrutinee)
 
     pub formal-named : NodeIs b rec k 50 → x ≡ field rec 0 → x < items b
-    formal-named h e = rw e (formal-below b (ready .accepted) k (h .below) (is-formal b rec k h))
+    formal-named h e = rw e (formal-below b accepted k (h .below) (is-formal b rec k h))
 
     pub function-named : NodeIs b rec k 54 → x ≡ field rec 1 → x < functions b
-    function-named h e = rw e (translation-call-below b (ready .accepted) k (h .below) (is-call b rec k h))
+    function-named h e = rw e (translation-call-below b accepted k (h .below) (is-call b rec k h))
 
   pub body-child : (f x : ℕ) → NodeIs b rec k 54 → f ≡ field rec 1 → x ≡ bodyOf Translation b f → x < nodes b
-  body-child f x h e g = rw g (body-below Translation b (translation-shape b (ready .accepted)) f (function-named f h e))
+  body-child f x h e g = rw g (body-below Translation b (translation-shape b accepted) f (function-named f h e))
 
   pub actual-child : (p label x : ℕ) (list : List ℕ) (o : Found) → NodeIs b rec k 50 → p ≡ field rec 0 → list ≡ itemRecord Translation b p
       → foundOf o ≡ getElem? (fieldsFrom list 0) label → o ≡ Node x → x < nodes b
   unfolding actual
   actual-child p label x list o h e g eo ex =
       let f : actual b p label ≡ some x = rw (← g) (found-some o (getElem? (fieldsFrom list 0) label) x eo ex) in
-      actual-below b (ready .accepted) p label (formal-named p h e) f
+      actual-below b accepted p label (formal-named p h e) f
 
   pub clause-child : (tag x : ℕ) (o : Found) → NodeIs b rec k 56 → foundOf o ≡ chosen (clauseList rec) tag → o ≡ Node x → x < nodes b
   clause-child tag x o h eo ex =
-      clause-below b (ready .accepted) k (field rec 0) tag x (clauseList rec) (h .below) (is-case b rec k h) (found-some o _ x eo ex)
+      clause-below b accepted k (field rec 0) tag x (clauseList rec) (h .below) (is-case b rec k h) (found-some o _ x eo ex)
 
-module _ (b index ends : List ℕ) (ready : Ready b index ends) where
+module _ (b : List ℕ) (accepted : translationVerdict b ≡ Accepted) where
   -- after a visit
   module _ (rs : List ℤ) (most n x w left made : ℕ) (cells : List ℕ) (r : State) (during : List ℕ) (below : x < nodes b)
       (g : reachedOf r during ≡ visits b rs most n x w (stateOf left made cells)) where
     pub reached-good : Good b left (reachedOf r during)
     unfolding visits stateOf
-    reached-good = rw (← g) at (visit-good b (ready .accepted) rs most n x w (stateOf left made cells) below)
+    reached-good = rw (← g) at (visit-good b accepted rs most n x w (stateOf left made cells) below)
 
     pub reached-falls : r .left ≤ left
     unfolding reachedOf reach stateOf
@@ -103,4 +105,4 @@ module _ (b index ends : List ℕ) (ready : Ready b index ends) where
   unfolding tupleFields
   member-child m i x fields o t e eo ex =
       let f : getElem? (tupleFields b m) i ≡ some x = rw (← e) (found-some o (getElem? (fieldsFrom fields 1) i) x eo ex) in
-      member-below b (ready .accepted) m i x t f
+      member-below b accepted m i x t f

@@ -15,7 +15,7 @@ use Rattle.definitions.specs.Layouts.{bodyOf, itemRecord}
 use Rattle.definitions.specs.Listing.{labelAt, previousAt}
 use Rattle.definitions.specs.TranslationNodes.{TranslationNode, number, reading, formal, call, tuple, translationNodeOf, actual}
 use Rattle.definitions.specs.Rule as Rule
-use Rattle.definitions.specs.Rule.{ended, value, integer, constructor, withStep, nodeDue, evaluated, visited}
+use Rattle.definitions.specs.Rule.{reach, ended, value, integer, constructor, withStep, nodeDue, evaluated, visited}
 use Rattle.definitions.specs.declared.Layout.the-variants.{Translation}
 use Rattle.run.specs.declared.state.State.{State}
 use Rattle.run.specs.Lent.{Lent, underTail, formalByLent, withCell, whereCell, callByLent, byLent}
@@ -41,13 +41,12 @@ module _ (b : List ℕ) (rs : List ℤ) (most : ℕ) (k w made : ℕ) (cells : L
   visit-no-nesting n zero r h e l = absurd (h refl)
   visit-no-nesting n (suc left) r h e l = leaves-reached r (ended 12) (suc left) made cells l ∙ rw e refl
 
-  pub visit-on : (n left : ℕ) (r : State) (after : List ℕ) → (left ≡ 0 → ⊥) → (n ≡ 0 → ⊥)
-      → reachedOf r after ≡ evaluates b rs most (n - 1) k w (stateOf (left - 1) made cells)
-      → reachedOf r after ≡ visits b rs most n k w (stateOf left made cells)
+  pub visit-counted : (n left : ℕ) → (left ≡ 0 → ⊥) → (n ≡ 0 → ⊥)
+      → evaluates b rs most (n - 1) k w (stateOf (left - 1) made cells) ≡ visits b rs most n k w (stateOf left made cells)
   unfolding visits visited withStep stateOf evaluates
-  visit-on zero left r after h g e = absurd (g refl)
-  visit-on (suc n) zero r after h g e = absurd (h refl)
-  visit-on (suc n) (suc left) r after h g e = rw (sub-one (suc n), sub-one (suc left)) at e
+  visit-counted zero left h g = absurd (g refl)
+  visit-counted (suc n) zero h g = absurd (h refl)
+  visit-counted (suc n) (suc left) h g = rw (sub-one (suc n), sub-one (suc left)) refl
 
 -- the ways to work out a node, once its step is counted
 module _ (b : List ℕ) (rs : List ℤ) (most n k w left made : ℕ) (cells rec : List ℕ) where
@@ -63,10 +62,10 @@ module _ (b : List ℕ) (rs : List ℤ) (most n k w left made : ℕ) (cells rec 
   unfolding evaluated
   number-step y z r h g e l = leaves-reached r (value (integer y)) left made cells l ∙ rw (g, e) refl ∙ sym (worked-out (number (signed rec 4)) (is-number b rec k h))
 
-  pub reading-step : (i : ℕ) (y z : ℤ) (r : State) → NodeIs b rec k 49 → i ≡ field rec 0 → y ≡ z → z ≡ getD rs i (pos 0) → Leaves r (value (integer y)) left made
+  pub reading-step : (y z : ℤ) (r : State) → NodeIs b rec k 49 → y ≡ z → z ≡ getD rs (field rec 0) (pos 0) → Leaves r (value (integer y)) left made
       → reachedOf r cells ≡ evaluates b rs most n k w before
   unfolding evaluated
-  reading-step i y z r h f g e l = leaves-reached r (value (integer y)) left made cells l ∙ rw (g, e, f) refl ∙ sym (worked-out (reading (field rec 0)) (is-reading b rec k h))
+  reading-step y z r h g e l = leaves-reached r (value (integer y)) left made cells l ∙ rw (g, e) refl ∙ sym (worked-out (reading (field rec 0)) (is-reading b rec k h))
 
   pub tuple-step : (r : State) → NodeIs b rec k 55 → Leaves r (value (constructor k w)) left made → reachedOf r cells ≡ evaluates b rs most n k w before
   unfolding evaluated
@@ -79,29 +78,26 @@ module _ (b : List ℕ) (rs : List ℤ) (most n k w left made : ℕ) (cells rec 
     unfolding evaluated byLent formalByLent
     formal-as = worked-out (formal (field rec 0)) (is-formal b rec k h)
 
-    pub formal-empty : (r : State) → w ≡ 0 → Leaves r (ended 18) left made → reachedOf r cells ≡ evaluates b rs most n k w before
+    pub formal-empty : w ≡ 0 → evaluates b rs most n k w before ≡ reach (ended 18) before
     unfolding underTail
-    formal-empty r e l = leaves-reached r (ended 18) left made cells l ∙ sym (formal-as ∙ rw (eq-eqb w 0 e) refl)
+    formal-empty e = formal-as ∙ rw (eq-eqb w 0 e) refl
 
-    module _ (p x label : ℕ) (list : List ℕ) (o : Found) (e : w ≡ 0 → ⊥) (ep : p ≡ field rec 0) (ex : x ≡ w) (el : label ≡ labelAt cells x)
-        (ef : list ≡ itemRecord Translation b p) (eo : foundOf o ≡ getElem? (fieldsFrom list 0) label) where
+    module _ (x label : ℕ) (o : Found) (e : w ≡ 0 → ⊥) (ex : x ≡ w) (el : label ≡ labelAt cells x)
+        (eo : foundOf o ≡ getElem? (fieldsFrom (itemRecord Translation b (field rec 0)) 0) label) where
       actual-found : foundOf o ≡ actual b (field rec 0) (labelAt cells w)
       unfolding actual
-      actual-found = eo ∙ rw (ef, el, ex, ep) refl
+      actual-found = eo ∙ rw (el, ex) refl
 
       tail-as : evaluates b rs most n k w before
           ≡ nodeDue (actual b (field rec 0) (labelAt cells w)) 18 before (λ m. visits b rs most n m (previousAt cells w) before)
       unfolding underTail stateOf
       tail-as = formal-as ∙ rw (ne-eqb w 0 e) refl
 
-      pub formal-missing : (r : State) → o ≡ Nothing → Leaves r (ended 18) left made → reachedOf r cells ≡ evaluates b rs most n k w before
-      formal-missing r en l =
-          leaves-reached r (ended 18) left made cells l ∙ sym (tail-as ∙ node-missing o _ 18 before _ actual-found en)
+      pub formal-missing : o ≡ Nothing → evaluates b rs most n k w before ≡ reach (ended 18) before
+      formal-missing en = tail-as ∙ node-missing o _ 18 before _ actual-found en
 
-      pub formal-on : (m y tail : ℕ) (r : State) (after : List ℕ) → o ≡ Node m → y ≡ w → tail ≡ previousAt cells y
-          → reachedOf r after ≡ visits b rs most n m tail before → reachedOf r after ≡ evaluates b rs most n k w before
-      formal-on m y tail r after em ey et g =
-          g ∙ rw (et, ey) refl ∙ sym (tail-as ∙ node-there o _ 18 before _ m actual-found em)
+      pub formal-on : (m y tail : ℕ) → o ≡ Node m → y ≡ w → tail ≡ previousAt cells y → evaluates b rs most n k w before ≡ visits b rs most n m tail before
+      formal-on m y tail em ey et = tail-as ∙ node-there o _ 18 before _ m actual-found em ∙ rw (et, ey) refl
 
   -- a call
   module _ (h : NodeIs b rec k 54) where
@@ -110,17 +106,16 @@ module _ (b : List ℕ) (rs : List ℤ) (most n k w left made : ℕ) (cells rec 
     unfolding evaluated byLent callByLent stateOf
     call-as = worked-out (call (field rec 0) (field rec 1)) (is-call b rec k h)
 
-    pub call-full : (r : State) → most ≤ made → Leaves r (ended 13) left made → reachedOf r cells ≡ evaluates b rs most n k w before
+    pub call-full : most ≤ made → evaluates b rs most n k w before ≡ reach (ended 13) before
     unfolding whereCell
-    call-full r e l = leaves-reached r (ended 13) left made cells l ∙ sym (call-as ∙ rw (le-ltb made most e) refl)
+    call-full e = call-as ∙ rw (le-ltb made most e) refl
 
-    pub call-on : (x label f m : ℕ) (r : State) (during after : List ℕ) → made < most → x ≡ made → label ≡ field rec 0 → f ≡ field rec 1
-        → during ≡ cellAdded cells x label w → m ≡ bodyOf Translation b f
-        → reachedOf r after ≡ visits b rs most n m (made + 1) (stateOf left (made + 1) during)
-        → reachedOf r after ≡ evaluates b rs most n k w before
+    pub call-on : (x label m : ℕ) (during : List ℕ) → made < most → x ≡ made → label ≡ field rec 0
+        → during ≡ cellAdded cells x label w → m ≡ bodyOf Translation b (field rec 1)
+        → evaluates b rs most n k w before ≡ visits b rs most n m (made + 1) (stateOf left (made + 1) during)
     unfolding whereCell withCell stateOf
-    call-on x label f m r during after e ex el ef ed em g =
+    call-on x label m during e ex el ed em =
         let q : visits b rs most n m (made + 1) (stateOf left (made + 1) during)
         ≡ visits b rs most n (bodyOf Translation b (field rec 1)) (suc made) (withCell (field rec 0) w before) =
-        rw (em, ed, ex, el, ef, add-one) refl in
-        g ∙ q ∙ sym (call-as ∙ rw (lt-ltb made most e) refl)
+        rw (em, ed, ex, el, add-one) refl in
+        call-as ∙ rw (lt-ltb made most e) refl ∙ sym q

@@ -24,7 +24,7 @@ use Rattle.run.specs.declared.state.State.{State}
 use Rattle.run.specs.declared.look_up.Found.{Found}
 use Rattle.run.specs.declared.look_up.Found.the-variants.{Node, Nothing}
 use Rattle.run.specs.Lent.{Lent, byLent}
-use Rattle.run.specs.NodeTable.{NodeTable}
+use Rattle.run.specs.NodeTable.{NodeTable, ReadingsIn}
 
 -- the paper's value, and how a visit ended, of each case
 unfoldable pub valueOf : Value → Rule.Value ℕ
@@ -65,10 +65,12 @@ pub record Ready (b starts ends : List ℕ) : Type 0 where
   pub index : Indexed b starts (due b)
   pub runs : RunEnds Translation b ends
 
--- and with its table of nodes
-pub record Equipped (b starts ends tab : List ℕ) : Type 0 where
-  pub ready : Ready b starts ends
+-- an accepted translation with its table of nodes, which holds some readings
+pub record Equipped (b tab : List ℕ) : Type 0 where
+  pub accepted : translationVerdict b ≡ Accepted
   pub table : NodeTable b tab
+  pub readings : List ℤ
+  pub held : ReadingsIn b readings tab
 
 -- the record of node k, of a kind
 pub record NodeIs (b rec : List ℕ) (k kind : ℕ) : Type 0 where
@@ -83,3 +85,10 @@ visits b rs most nesting k w s = visited (byLent b most) b rs nesting k w s
 unfoldable pub evaluates : List ℕ → List ℤ → ℕ → ℕ → ℕ → ℕ → Rule.State Lent → Reached ℕ Lent
 evaluates b rs most nesting k w s =
     evaluated (byLent b most) b rs (visits b rs most nesting) (translationNodeOf b k) k w s
+
+-- what a visit of node k and working it out give, whatever readings the table of nodes holds
+pub record Visits (b tab : List ℕ) (most nest k w left made : ℕ) (cells : List ℕ) (r : State) (cells′ : List ℕ) : Type 0 where
+  pub same : (rs : List ℤ) → ReadingsIn b rs tab → reachedOf r cells′ ≡ visits b rs most nest k w (stateOf left made cells)
+
+pub record Evaluates (b tab : List ℕ) (most nest k w left made : ℕ) (cells : List ℕ) (r : State) (cells′ : List ℕ) : Type 0 where
+  pub same : (rs : List ℤ) → ReadingsIn b rs tab → reachedOf r cells′ ≡ evaluates b rs most nest k w (stateOf left made cells)

@@ -5,6 +5,7 @@ ghost use Rattle.run.specs.Promise.{Runs};
 pub mod allowances;
 mod answers;
 mod look_up;
+mod next;
 mod node_table;
 mod numbers;
 mod state;
@@ -77,20 +78,7 @@ fn run_accepted(
     let first = body(file, index, ends, 0);
     let nest = nesting as u16;
     let room = most as u16;
-    let tab = node_table(file, index);
-    let end = visit(
-        file,
-        index,
-        ends,
-        &tab,
-        readings,
-        room,
-        cells,
-        nest,
-        first,
-        0,
-        steps,
-        0,
-    );
+    let tab = node_table(file, index, ends, readings);
+    let end = visit(file, &tab, cells, room, nest, first, 0, steps, 0);
     answered(file, index, end, steps)
 }

@@ -1,5 +1,5 @@
-// What a visit looks up: a node's record, a reading, a field or an actual, a clause, a body. Each in constant time, but for
-// the clause.
+// What a visit or the table of nodes looks up: a node's record, a body, a reading, a field that names a node, a clause. Each
+// in constant time, but for the clause.
 ghost use mathlib.Core.Path.{_≡_};
 ghost use mathlib.Core.Bool.{cond};
 ghost use mathlib.Core.Option.{none, some};
@@ -9,16 +9,15 @@ ghost use Rattle.definitions.specs.Operators.{isZero};
 ghost use Prim.Native.Nat.{_+_, _*_, _<_};
 ghost use Rattle.definitions.specs.Records.{field};
 ghost use lib.IntN.{pos};
-ghost use lib.ListN.{getD, getElem?};
+ghost use lib.ListN.{getD};
 ghost use Rattle.definitions.specs.Layouts.{functions, nodes, due, bodyOf, nodeRecord};
-ghost use Rattle.definitions.specs.NodeFields.{fieldsFrom, clauseList, chosen};
+ghost use Rattle.definitions.specs.NodeFields.{clauseList, chosen};
 ghost use Rattle.definitions.specs.declared.Layout.the-variants.{Translation};
 ghost use Rattle.format.specs.Index.{Indexed};
 ghost use Rattle.run.specs.States.{foundOf, Ready};
 use format::bytes::word;
 use format::layout::first_node;
 use format::records::field;
-use format::records::field_count;
 use format::records::indexed;
 use format::records::wide;
 use format::references::clause_constructor;
@@ -55,25 +54,12 @@ pub(crate) fn reading(readings: &[i32], i: u16) -> i32
     if at < readings.len() { readings[at] } else { 0 }
 }
 
-// The node that field `i` after the first `j` fields of a record names, if there is one.
-pub(crate) fn field_after(rec: &[u8], j: usize, i: u16) -> Found
-    requires { ⌜ j < 2 ⌝ }
-    ensures { λ r. ⌜ foundOf r ≡ getElem? (fieldsFrom (now (rec .entry)) j) i ⌝ }
+// The node that field `i` of a record names, if there is one, by where the record starts and how many fields it has.
+pub(crate) fn listed(b: &[u8], place: u16, count: u16, i: u16) -> Found
+    ensures { λ r. ⌜ foundOf r ≡ cond (ltb i count) (some (word (now (b .entry)) (place + 4 + 2 * i))) none ⌝ }
 {
-    let at = j + wide(i);
-    if at < field_count(rec) {
-        Found::Node(field(rec, at))
-    } else {
-        Found::Nothing
-    }
-}
-
-// The actual that a label names in a formal's record, by where the record starts and how many actuals it lists.
-pub(crate) fn actual(b: &[u8], place: u16, count: u16, label: u16) -> Found
-    ensures { λ r. ⌜ foundOf r ≡ cond (ltb label count) (some (word (now (b .entry)) (place + 4 + 2 * label))) none ⌝ }
-{
-    if label < count {
-        Found::Node(word(b, wide(place) + 4 + 2 * wide(label)))
+    if i < count {
+        Found::Node(word(b, wide(place) + 4 + 2 * wide(i)))
     } else {
         Found::Nothing
     }

@@ -4,13 +4,17 @@ ghost use Prim.Native.Nat.{_/_, _%_, _<_};
 ghost use lib.ListN.{getD};
 ghost use mir.Syntax.{w32};
 ghost use mir.Val.{toZ};
-ghost use Rattle.definitions.specs.Layouts.{items, nodes, nodeRecord};
+ghost use Rattle.definitions.specs.Layouts.{nodes, due};
 ghost use Rattle.definitions.specs.declared.Layout.the-variants.{Translation};
 ghost use Rattle.format.specs.Index.{Opened};
-ghost use Rattle.run.specs.NodeTable.{Parts, FormalEntry, EntryOf, NodeTable, Accepts};
+ghost use Rattle.run.specs.NodeTable.{Parts, ListEntry, ReadingEntry, EntryOf, ReadingOf, NodeTable, ReadingsIn};
+ghost use Rattle.run.specs.States.{Ready};
+use crate::look_up::body;
 use crate::look_up::node_record;
+use crate::look_up::reading;
 use definitions::Layout;
 use format::layout::first_item;
+use format::layout::first_node;
 use format::layout::nodes;
 use format::records::field;
 use format::records::field_count;
@@ -19,6 +23,7 @@ use format::records::kind;
 use format::records::start_in;
 use format::records::wide;
 use format::translation_kinds;
+use operators::bits::bits_of;
 use operators::bits::number_of;
 
 // The entry with these parts.
@@ -30,40 +35,66 @@ fn entry_with(a: u16, b: u16, c: u16, d: u16) -> u64
     low + 0x1_0000_0000 * high
 }
 
-// The entry of a formal's node.
-fn formal_entry(b: &[u8], index: &[u16; 1601], p: u16) -> u64
-    requires { ⌜ Opened Translation (now b) (now index) × (p < items (now b)) ⌝ }
-    ensures { λ r. ⌜ FormalEntry (now (b .entry)) p r ⌝ }
+// The entry of a node whose list of nodes stands in record `r`.
+fn list_entry(b: &[u8], index: &[u16; 1601], kind: u16, first: u16, r: usize) -> u64
+    requires { ⌜ Opened Translation (now b) (now index) × (r < due (now b)) ⌝ }
+    ensures { λ x. ⌜ ListEntry (now (b .entry)) kind first r x ⌝ }
 {
-    let r = first_item(Layout::Translation, b) + wide(p);
     let start = (start_in(index, r) % 0x1_0000) as u16;
     let count = (field_count(indexed(b, index, r)) % 0x1_0000) as u16;
-    entry_with(translation_kinds::FORMAL, p, start, count)
+    entry_with(kind, first, start, count)
+}
+
+// The entry of a node that names reading `i`.
+fn reading_entry(readings: &[i32], i: u16) -> u64
+    ensures { λ x. ⌜ ReadingEntry (now (readings .entry)) i x ⌝ }
+{
+    let bits = bits_of(reading(readings, i));
+    let low = (bits % 0x1_0000) as u16;
+    let high = (bits / 0x1_0000) as u16;
+    entry_with(translation_kinds::READING, low, high, 0)
 }
 
 // The entry of node `k` of an accepted translation.
-fn entry_at(b: &[u8], index: &[u16; 1601], k: u16) -> u64
-    requires { ⌜ Accepts (now b) (now index) × (k < nodes (now b)) ⌝ }
-    ensures { λ r. ⌜ EntryOf (now (b .entry)) (nodeRecord (now (b .entry)) k) r ⌝ }
+fn entry_at(b: &[u8], index: &[u16; 1601], ends: &[u16; 64], readings: &[i32], k: u16) -> u64
+    requires { ⌜ Ready (now b) (now index) (now ends) × (k < nodes (now b)) ⌝ }
+    ensures { λ x. ⌜ EntryOf (now (b .entry)) k x × ReadingOf (now (b .entry)) (now (readings .entry)) k x ⌝ }
 {
     let rec = node_record(b, index, k);
     let kind = kind(rec);
-    if kind == translation_kinds::FORMAL {
-        return formal_entry(b, index, field(rec, 0));
+    let first = field(rec, 0);
+    if kind == translation_kinds::READING {
+        return reading_entry(readings, first);
     }
-    entry_with(kind, field(rec, 0), field(rec, 1), field(rec, 2))
+    if kind == translation_kinds::FORMAL {
+        let r = first_item(Layout::Translation, b) + wide(first);
+        return list_entry(b, index, kind, first, r);
+    }
+    if kind == translation_kinds::CALL {
+        return entry_with(kind, first, 0, body(b, index, ends, field(rec, 1)));
+    }
+    if translation_kinds::TUPLE <= kind {
+        let r = first_node(b) + wide(k);
+        return list_entry(b, index, kind, first, r);
+    }
+    entry_with(kind, first, field(rec, 1), field(rec, 2))
 }
 
 // The table of nodes of an accepted translation.
-pub(crate) fn node_table(b: &[u8], index: &[u16; 1601]) -> [u64; 1024]
-    requires { ⌜ Accepts (now b) (now index) ⌝ }
-    ensures { λ r. ⌜ NodeTable (now (b .entry)) r ⌝ }
+pub(crate) fn node_table(
+    b: &[u8],
+    index: &[u16; 1601],
+    ends: &[u16; 64],
+    readings: &[i32],
+) -> [u64; 1024]
+    requires { ⌜ Ready (now b) (now index) (now ends) ⌝ }
+    ensures { λ r. ⌜ NodeTable (now (b .entry)) r × ReadingsIn (now (b .entry)) (now (readings .entry)) r ⌝ }
 {
     let count = nodes(b);
     let mut tab = [0u64; 1024];
     let mut k: u16 = 0;
     while k < count {
-        tab[wide(k)] = entry_at(b, index, k);
+        tab[wide(k)] = entry_at(b, index, ends, readings, k);
         k += 1;
     }
     tab

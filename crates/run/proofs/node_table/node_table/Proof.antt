@@ -7,10 +7,10 @@ use Rattle.run.proofs.node_table.node_table.Statement.{statement}
 use Rattle.run.proofs.node_table.node_table.Tie as tie
 
 abbrev Inv-loop : tie.InvT-loop
-Inv-loop b index count tab₀ k₀ tab k = Filling b tab count k
+Inv-loop b index ends readings count tab₀ k₀ tab k = Filling b readings tab count k
 
 abbrev μ-loop : tie.MeasureT-loop
-μ-loop b index count tab₀ k₀ tab k = count - k
+μ-loop b index ends readings count tab₀ k₀ tab k = count - k
 
 -- src/node_table.rt:62:9
 nodes-requires : tie.Need-nodes-requires Inv-loop μ-loop
@@ -18,11 +18,11 @@ nodes-requires c κs = search needs
 
 -- src/node_table.rt:65:5
 loop-holds : tie.Need-loop-holds Inv-loop μ-loop
-loop-holds c = filling-begins _ _ _ _ (c .before .before .pre) (c .nodes .ensures) refl
+loop-holds c = filling-begins _ _ _ _ _ _ (c .before .before .pre) (c .nodes .ensures) refl
 
 -- src/node_table.rt:66:24
 entry-at-requires : tie.Need-entry-at-requires Inv-loop μ-loop
-entry-at-requires c κs = (c .before .before .before .before .pre, filling-below _ _ _ _ (c .before .loop .inv) (c .loop-test .taken))
+entry-at-requires c κs = (c .before .before .before .before .pre, filling-below _ _ _ _ _ (c .before .loop .inv) (c .loop-test .taken))
 
 -- src/node_table.rt:66:13
 wide-requires : tie.Need-wide-requires Inv-loop μ-loop
@@ -34,7 +34,7 @@ mul-tab c = search needs
 
 -- src/node_table.rt:66:9
 array-write-tab : tie.Need-array-write-tab Inv-loop μ-loop
-array-write-tab c = filling-room _ _ _ _ _ (c .before .before .before .loop .inv) (c .before .before .loop-test .taken) (c .wide .ensures .0)
+array-write-tab c = filling-room _ _ _ _ _ (c .before .before .before .loop .inv) _ (c .before .before .loop-test .taken) (c .wide .ensures .0)
 
 -- src/node_table.rt:67:9
 add-k : tie.Need-add-k Inv-loop μ-loop
@@ -46,11 +46,11 @@ loop-less c = search needs
 
 -- src/node_table.rt:65:5
 loop-again : tie.Need-loop-again Inv-loop μ-loop
-loop-again c = filling-goes-on _ _ _ _ _ _ (c .before .before .before .loop .inv) (c .before .before .loop-test .taken) (c .wide .ensures .0) (c .before .entry-at .ensures)
+loop-again c = filling-goes-on _ _ _ _ _ (c .before .before .before .loop .inv) _ _ (c .before .before .loop-test .taken) (c .wide .ensures .0) (c .before .entry-at .ensures)
 
 -- src/node_table.rt:58:1
 returns : tie.Need-returns Inv-loop μ-loop
-returns c = filled _ _ _ _ (c .before .loop .inv) (c .loop-test .left)
+returns c = filled _ _ _ _ _ (c .before .loop .inv) (c .loop-test .left)
 
 pub node-table-spec : {M : Type 1} → statement M
 node-table-spec =

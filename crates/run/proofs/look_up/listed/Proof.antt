@@ -1,9 +1,9 @@
--- `run::look_up::actual` meets its contract.
-use Rattle.run.proofs.LookUps.{actual-there, actual-past}
+-- `run::look_up::listed` meets its contract.
+use Rattle.run.proofs.LookUps.{listed-there, listed-past}
 use Rattle.run.specs.States.{foundOf}
 use borrow.Author.Needs.{needs}
-use Rattle.run.proofs.look_up.actual.Statement.{statement}
-use Rattle.run.proofs.look_up.actual.Tie as tie
+use Rattle.run.proofs.look_up.listed.Statement.{statement}
+use Rattle.run.proofs.look_up.listed.Tie as tie
 
 -- src/look_up.rt:76:29
 wide-requires : tie.Need-wide-requires
@@ -32,15 +32,15 @@ word-requires c κs = search needs
 -- src/look_up.rt:72:1
 returns : tie.Need-returns
 unfolding foundOf
-returns c = actual-there _ _ _ _ _ _ _ (c .before .before .wide .ensures .0) (c .before .wide2 .ensures .0) (c .before .before .before .if1 .taken) (c .word .ensures)
+returns c = listed-there _ _ _ _ _ _ _ (c .before .before .wide .ensures .0) (c .before .wide2 .ensures .0) (c .before .before .before .if1 .taken) (c .word .ensures)
 
 -- src/look_up.rt:72:1
 returns-2 : tie.Need-returns-2
 unfolding foundOf
-returns-2 c = actual-past _ _ _ _ (c .if1 .left)
+returns-2 c = listed-past _ _ _ _ (c .if1 .left)
 
-pub actual-spec : {M : Type 1} → statement M
-actual-spec =
+pub listed-spec : {M : Type 1} → statement M
+listed-spec =
     tie.close
     (tie.spec
     wide-requires
