@@ -1,10 +1,12 @@
 // Cells of 4 bytes: label, number of the previous cell. Cells count from 1.
 ghost use mathlib.Core.Path.{_≡_};
-ghost use Prim.Native.Nat.{_-_};
+ghost use Prim.Native.Nat.{_+_, _-_, _*_, _/_, _%_};
 ghost use Rattle.definitions.specs.Listing.{labelAt, previousAt};
 ghost use Rattle.cells.specs.Added.{cellAdded};
 use crate::bytes::put_word;
+use format::bytes::field_of;
 use format::bytes::word;
+use format::records::wide;
 
 // The place of cell `c` among the cells, counted from 0; 0 for the empty context.
 fn index(c: usize) -> usize
@@ -14,7 +16,7 @@ fn index(c: usize) -> usize
 }
 
 // The label of cell `c`; 0 where it is not there.
-pub fn label_at(cells: &[u8], c: usize) -> u16
+pub(crate) fn label_at(cells: &[u8], c: usize) -> u16
     ensures { λ r. ⌜ r ≡ labelAt (now (cells .entry)) c ⌝ }
 {
     let i = index(c);
@@ -26,7 +28,7 @@ pub fn label_at(cells: &[u8], c: usize) -> u16
 }
 
 // The number of the cell before cell `c`; 0 where cell `c` is not there.
-pub fn previous_at(cells: &[u8], c: usize) -> u16
+pub(crate) fn previous_at(cells: &[u8], c: usize) -> u16
     ensures { λ r. ⌜ r ≡ previousAt (now (cells .entry)) c ⌝ }
 {
     let i = index(c);
@@ -37,6 +39,30 @@ pub fn previous_at(cells: &[u8], c: usize) -> u16
         }
     }
     0
+}
+
+// Two fields in one number, the first below.
+fn pair_of(first: u16, second: u16) -> u32
+    ensures { λ r. ⌜ (r % 65536 ≡ first) × (r / 65536 ≡ second) ⌝ }
+{
+    first as u32 + 0x1_0000 * second as u32
+}
+
+// The label of cell `c` in the lower 16 bits, and the number of the cell before it above them. Where cell `c` is there, its
+// bytes are read with one test.
+pub fn cell_at(cells: &[u8], c: u16) -> u32
+    ensures { λ r. ⌜ (r % 65536 ≡ labelAt (now (cells .entry)) c) × (r / 65536 ≡ previousAt (now (cells .entry)) c) ⌝ }
+{
+    let end = 4 * wide(c);
+    if 0 < c {
+        if end <= cells.len() {
+            let at = end - 4;
+            let label = field_of(cells[at], cells[at + 1]);
+            let previous = field_of(cells[at + 2], cells[at + 3]);
+            return pair_of(label, previous);
+        }
+    }
+    pair_of(label_at(cells, wide(c)), previous_at(cells, wide(c)))
 }
 
 // Adds a cell after those made, where it fits.

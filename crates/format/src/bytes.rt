@@ -1,6 +1,6 @@
 // Little-endian fields. A read is total: a byte past the end is 0.
 ghost use mathlib.Core.Path.{_≡_};
-ghost use Prim.Native.Nat.{_<_};
+ghost use Prim.Native.Nat.{_+_, _*_, _<_};
 ghost use lib.ListN.{getD};
 ghost use Rattle.definitions.specs.Bytes.{word, word32, signed};
 
@@ -9,6 +9,13 @@ fn byte(b: &[u8], at: usize) -> u16
     ensures { λ r. ⌜ (r ≡ getD (now (b .entry)) at 0) × (r < 256) ⌝ }
 {
     if at < b.len() { b[at] as u16 } else { 0 }
+}
+
+// The field that two bytes are.
+pub fn field_of(low: u8, high: u8) -> u16
+    ensures { λ r. ⌜ r ≡ low + 256 * high ⌝ }
+{
+    low as u16 + 256 * high as u16
 }
 
 // The field of two bytes at a place.

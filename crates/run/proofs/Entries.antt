@@ -285,6 +285,17 @@ body-read b tab k e x t h f g = g ∙ rw f (t .entry k (h .below) .body (h .of))
 
 -- the node that field i of a record names, counted from field j
 module _ (b : List ℕ) (accepted : translationVerdict b ≡ Accepted) (r place count : ℕ) (h : r < due b) (l : ListAt b r place count) where
+  pub list-room : place + 4 + 2 * count ≤ length b
+  list-room =
+      let shaped = translation-shape b accepted in
+      let whole = record-whole Translation b shaped r h in
+      let i = whole-is b (startOf b r) whole .inside in
+      let n = recorded b r whole in
+      let f = record-fields Translation b shaped r h in
+      let c = l .fields in
+      let s = l .start in
+      omega arith
+
   list-by : (i j m : ℕ) (u : Bool) → i ≡ j + m → ltb i count ≡ u
       → cond u (some (word b (place + 4 + 2 * i))) none ≡ getElem? (fieldsFrom (recordOf b r) j) m
   unfolding fieldsFrom
@@ -310,24 +321,38 @@ module _ (b : List ℕ) (accepted : translationVerdict b ≡ Accepted) (r place 
       → foundOf o ≡ getElem? (fieldsFrom (recordOf b r) j) m
   list-read i j m o g e = e ∙ list-by i j m (ltb i count) g refl
 
-module _ (b tab : List ℕ) (accepted : translationVerdict b ≡ Accepted) (k e s c i : ℕ) (o : Found) (t : NodeTable b tab) (f : e ≡ getD tab k 0)
-    (es : s ≡ e / 4294967296 % 65536) (ec : c ≡ e / 281474976710656 % 65536)
-    (g : foundOf o ≡ cond (ltb i c) (some (word b (s + 4 + 2 * i))) none) where
-  -- the actual that a label names
-  pub actual-read : NodeIs b (nodeRecord b k) k 50 → foundOf o ≡ getElem? (fieldsFrom (itemRecord Translation b (field (nodeRecord b k) 0)) 0) i
-  actual-read h =
-      let p = field (nodeRecord b k) 0 in
-      let l : ListAt b (firstItem Translation b + p) s c = rw (es, ec, f) (t .entry k (h .below) .actuals (h .of)) in
-      let q : p < items b = formal-below b accepted k (h .below) (is-formal b (nodeRecord b k) k h) in
-      list-read b accepted (firstItem Translation b + p) s c (omega arith) l i 0 i o (omega arith) g
+module _ (b tab : List ℕ) (accepted : translationVerdict b ≡ Accepted) (k e s c : ℕ) (t : NodeTable b tab) (f : e ≡ getD tab k 0)
+    (es : s ≡ e / 4294967296 % 65536) (ec : c ≡ e / 281474976710656 % 65536) where
+  -- a formal's list, with the actual that a label names
+  module _ (h : NodeIs b (nodeRecord b k) k 50) where
+    formal-list : ListAt b (firstItem Translation b + field (nodeRecord b k) 0) s c
+    formal-list = rw (es, ec, f) (t .entry k (h .below) .actuals (h .of))
 
-  -- a tuple's field
-  pub member-read : TupleAt b k → (i ≡ 0 → ⊥) → foundOf o ≡ getElem? (fieldsFrom (nodeRecord b k) 1) (i - 1)
-  member-read h d =
-      let u = h .kind in
-      let q = h .below in
-      let l : ListAt b (firstNode b + k) s c = rw (es, ec, f) (t .entry k (h .below) .list (omega arith)) in
-      list-read b accepted (firstNode b + k) s c (omega arith) l i 1 (i - 1) o (omega arith) g
+    formal-there : firstItem Translation b + field (nodeRecord b k) 0 < due b
+    formal-there = let q = formal-below b accepted k (h .below) (is-formal b (nodeRecord b k) k h) in omega arith
+
+    pub actual-room : s + 4 + 2 * c ≤ length b
+    actual-room = list-room b accepted (firstItem Translation b + field (nodeRecord b k) 0) s c formal-there formal-list
+
+    pub actual-read : (i : ℕ) (o : Found) → foundOf o ≡ cond (ltb i c) (some (word b (s + 4 + 2 * i))) none
+        → foundOf o ≡ getElem? (fieldsFrom (itemRecord Translation b (field (nodeRecord b k) 0)) 0) i
+    actual-read i o g =
+        list-read b accepted (firstItem Translation b + field (nodeRecord b k) 0) s c formal-there formal-list i 0 i o (omega arith) g
+
+  -- a tuple's fields
+  module _ (h : TupleAt b k) where
+    member-list : ListAt b (firstNode b + k) s c
+    member-list = let u = h .kind in rw (es, ec, f) (t .entry k (h .below) .list (omega arith))
+
+    member-there : firstNode b + k < due b
+    member-there = let q = h .below in omega arith
+
+    pub member-room : s + 4 + 2 * c ≤ length b
+    member-room = list-room b accepted (firstNode b + k) s c member-there member-list
+
+    pub member-read : (i : ℕ) (o : Found) → (i ≡ 0 → ⊥) → foundOf o ≡ cond (ltb i c) (some (word b (s + 4 + 2 * i))) none
+        → foundOf o ≡ getElem? (fieldsFrom (nodeRecord b k) 1) (i - 1)
+    member-read i o d g = list-read b accepted (firstNode b + k) s c member-there member-list i 1 (i - 1) o (omega arith) g
 
 -- the record of a case
 pub case-read : (b tab : List ℕ) (k e s x : ℕ) (rec : List ℕ) → NodeTable b tab → NodeIs b (nodeRecord b k) k 56 → e ≡ getD tab k 0 → s ≡ e / 4294967296 % 65536 → x ≡ s

@@ -143,8 +143,9 @@ pub branch-other : (z : ℤ) (n m : ℕ) → isZero z ≡ false → n ≡ cond (
 branch-other z n m e = rw e refl
 
 -- the node that a field names
-pub listed-there : (b : List ℕ) (place count i x y n : ℕ) → x ≡ place → y ≡ i → i < count → n ≡ word b (x + 4 + 2 * y)
+pub listed-there : (b : List ℕ) (place count i x y n : ℕ) → x ≡ place → y ≡ i → i < count → n ≡ getD b (x + 4 + 2 * y) 0 + 256 * getD b (x + 4 + 2 * y + 1) 0
     → some n ≡ cond (ltb i count) (some (word b (place + 4 + 2 * i))) none
+unfolding word
 listed-there b place count i x y n ex ey h e = rw (lt-ltb i count h, e, ex, ey) refl
 
 pub listed-past : (b : List ℕ) (place count i : ℕ) → count ≤ i → none ≡ cond (ltb i count) (some (word b (place + 4 + 2 * i))) none

@@ -30,16 +30,16 @@ module _ (b : List ℕ) (accepted : translationVerdict b ≡ Accepted) (most k w
   pub next-empty : w ≡ 0 → EndsWith b most k w made cells 18 cells
   next-empty e = record { same = λ rs n left. formal-empty b rs most n k w left made cells (nodeRecord b k) h e }
 
-  module _ (x label : ℕ) (o : Found) (e : w ≡ 0 → ⊥) (ex : x ≡ w) (el : label ≡ labelAt cells x)
+  module _ (label : ℕ) (o : Found) (e : w ≡ 0 → ⊥) (el : label ≡ labelAt cells w)
       (eo : foundOf o ≡ getElem? (fieldsFrom (itemRecord Translation b (field (nodeRecord b k) 0)) 0) label) where
     pub next-missing : o ≡ Nothing → EndsWith b most k w made cells 18 cells
-    next-missing en = record { same = λ rs n left. formal-missing b rs most n k w left made cells (nodeRecord b k) h x label o e ex el eo en }
+    next-missing en = record { same = λ rs n left. formal-missing b rs most n k w left made cells (nodeRecord b k) h label o e el eo en }
 
-    pub next-actual : (m y tail : ℕ) → o ≡ Node m → y ≡ w → tail ≡ previousAt cells y → GoesOn b most k w made cells m tail made cells
-    next-actual m y tail em ey et =
+    pub next-actual : (m tail : ℕ) → o ≡ Node m → tail ≡ previousAt cells w → GoesOn b most k w made cells m tail made cells
+    next-actual m tail em et =
         record {
           below = actual-child b (nodeRecord b k) k accepted (field (nodeRecord b k) 0) label m (itemRecord Translation b (field (nodeRecord b k) 0)) o h refl refl eo em;
-          same = λ rs n left. formal-on b rs most n k w left made cells (nodeRecord b k) h x label o e ex el eo m y tail em ey et;
+          same = λ rs n left. formal-on b rs most n k w left made cells (nodeRecord b k) h label o e el eo m tail em et;
         }
 
 -- of a call

@@ -6,16 +6,16 @@ ghost use mathlib.Core.Option.{none, some};
 ghost use lib.Dec.{ltb};
 ghost use Rattle.definitions.specs.Bytes.{word};
 ghost use Rattle.definitions.specs.Operators.{isZero};
-ghost use Prim.Native.Nat.{_+_, _*_, _<_};
+ghost use Prim.Native.Nat.{_+_, _*_, _≤_, _<_};
 ghost use Rattle.definitions.specs.Records.{field};
 ghost use lib.IntN.{pos};
-ghost use lib.ListN.{getD};
+ghost use lib.ListN.{length, getD};
 ghost use Rattle.definitions.specs.Layouts.{functions, nodes, due, bodyOf, nodeRecord};
 ghost use Rattle.definitions.specs.NodeFields.{clauseList, chosen};
 ghost use Rattle.definitions.specs.declared.Layout.the-variants.{Translation};
 ghost use Rattle.format.specs.Index.{Indexed};
 ghost use Rattle.run.specs.States.{foundOf, Ready};
-use format::bytes::word;
+use format::bytes::field_of;
 use format::layout::first_node;
 use format::records::field;
 use format::records::indexed;
@@ -54,12 +54,15 @@ pub(crate) fn reading(readings: &[i32], i: u16) -> i32
     if at < readings.len() { readings[at] } else { 0 }
 }
 
-// The node that field `i` of a record names, if there is one, by where the record starts and how many fields it has.
+// The node that field `i` of a record names, if there is one, by where the record starts and how many fields it has. No test
+// of the file's end is needed.
 pub(crate) fn listed(b: &[u8], place: u16, count: u16, i: u16) -> Found
+    requires { ⌜ place + 4 + 2 * count ≤ length (now b) ⌝ }
     ensures { λ r. ⌜ foundOf r ≡ cond (ltb i count) (some (word (now (b .entry)) (place + 4 + 2 * i))) none ⌝ }
 {
     if i < count {
-        Found::Node(word(b, wide(place) + 4 + 2 * wide(i)))
+        let at = wide(place) + 4 + 2 * wide(i);
+        Found::Node(field_of(b[at], b[at + 1]))
     } else {
         Found::Nothing
     }

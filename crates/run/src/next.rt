@@ -12,8 +12,7 @@ use crate::node_table::second_in;
 use crate::node_table::third_in;
 use crate::numbers;
 use cells::cell::add_cell;
-use cells::cell::label_at;
-use cells::cell::previous_at;
+use cells::cell::cell_at;
 use format::records::wide;
 use format::translation_kinds;
 
@@ -45,12 +44,13 @@ pub(crate) fn follow(
         if w == 0 {
             return Next::Ended(numbers::NO_ACTUAL);
         }
-        let label = label_at(cells, wide(w));
+        let cell = cell_at(cells, w);
+        let label = (cell % 0x1_0000) as u16;
         let found = listed(b, second_in(node), third_in(node), label);
         let Found::Node(n) = found else {
             return Next::Ended(numbers::NO_ACTUAL);
         };
-        let tail = previous_at(cells, wide(w));
+        let tail = (cell / 0x1_0000) as u16;
         return Next::Visit {
             node: n,
             context: tail,
