@@ -14,3 +14,4 @@ pub mod Nodes
 pub mod Visiting
 pub mod Answering
 pub mod Entries
+pub mod EntryReads

@@ -7,20 +7,19 @@ use mathlib.Core.Bool.{Bool, true, false, cond}
 use native.Mathlib.Omega.{arith}
 use lib.IntN.{ℤ, pos}
 use native.Mathlib.Numerals.{add-one}
-use lib.ListN.{length, getD, getElem?, List·getD-eq-default}
+use lib.ListN.{length, getD, List·getD-eq-default}
 use lib.Dec.{ltb, eqb}
 use Rattle.definitions.specs.Bytes.{word}
 use borrow.Author.Tests.{eq-eqb, ne-eqb, lt-ltb, le-ltb}
-use Rattle.definitions.specs.Records.{recordAt, field, fieldCount}
+use Rattle.definitions.specs.Records.{recordAt, field}
 use Rattle.definitions.specs.Lists.{listed}
 use Rattle.definitions.specs.Operators.{isZero}
-use Rattle.definitions.specs.Layouts.{items, functions, nodes, firstNode, due, nodeRecord, itemRecord, bodyOf}
+use Rattle.definitions.specs.Layouts.{functions, nodes, firstNode, due, nodeRecord, bodyOf}
 use Rattle.definitions.specs.References.{clauses, clauseConstructor}
-use Rattle.definitions.specs.NodeFields.{Clause, fieldsFrom, clauseList, chosen}
+use Rattle.definitions.specs.NodeFields.{Clause, clauseList, chosen}
 use Rattle.definitions.specs.declared.Layout.the-variants.{Translation}
 use Rattle.laws.proofs.Records as Records
-use Rattle.laws.proofs.Lists.{listed-length, below-suc}
-use Rattle.accepted.proofs.Elements.{listed-element, element-past}
+use Rattle.laws.proofs.Lists.{below-suc}
 use Rattle.accepted.proofs.Head.{functions-limit}
 use Rattle.accepted.proofs.Owners.{body-before-end}
 use Rattle.accepted.proofs.Checks.{translation-shape}

@@ -2,7 +2,7 @@
 use native.Mathlib.Omega.{arith}
 use Rattle.run.proofs.Visiting.{next-empty, next-missing, next-actual, next-full, next-body, next-other}
 use Rattle.run.proofs.NodeKinds.{node-is}
-use Rattle.run.proofs.Entries.{entry-room, kind-read, first-read, body-read, actual-room, actual-read}
+use Rattle.run.proofs.EntryReads.{entry-room, kind-read, first-read, body-read, actual-room, actual-read}
 use Rattle.run.specs.Next.{Leads}
 use mathlib.Core.Path.{refl}
 use borrow.Author.Needs.{needs}

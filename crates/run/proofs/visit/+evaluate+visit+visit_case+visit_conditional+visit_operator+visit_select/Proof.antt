@@ -5,7 +5,7 @@ use Rattle.run.proofs.ConstructorSteps.{select-ended, select-number, se
 use Rattle.run.proofs.NumberSteps.{conditional-ended, conditional-constructor, conditional-on, left-ended, left-constructor, right-ended, right-constructor, operator-on}
 use Rattle.run.proofs.Steps.{number-step, reading-step, tuple-step}
 use Rattle.run.proofs.Visiting.{Visiting, visiting-begins, visiting-no-step, visiting-no-nesting, visiting-falls, visiting-goes-on, visiting-ended, visiting-remains, visiting-other}
-use Rattle.run.proofs.Entries.{plain-select, plain-operator, plain-conditional, kind-read, first-read, second-read, third-read, tag-read, number-read, reading-read, member-room, member-read, case-read, entry-room, clause-read, branch-read}
+use Rattle.run.proofs.EntryReads.{plain-between, kind-read, first-read, second-read, third-read, tag-read, number-read, reading-read, member-room, member-read, case-read, entry-room, clause-read, branch-read}
 use Rattle.run.proofs.NodeKinds.{node-is, node-remaining}
 use mir.ValLaws.{toZ-ofZ}
 use mir.Syntax.{w32}
@@ -286,34 +286,34 @@ visit-conditional-entry-requires-2 : (t : ℕ) → visit-conditional-lts.Need-en
 visit-conditional-entry-requires-2 t c κs = entry-room _ _ (c .before .before .before .before .before .before .before .before .before .before .before .before .before .before .pre .1 .0 .accepted) (c .before .before .before .before .before .before .before .before .before .before .before .before .before .before .pre .1 .1 .below)
 
 visit-conditional-visit-requires-2 : (t : ℕ) → visit-conditional-lts.Need-visit-requires-2 (visit-conditional-claims t) (visit-conditional-at t) visit-conditional.Post
-visit-conditional-visit-requires-2 t c κs = (falls-on _ _ _ (reached-falls _ (c .before .before .before .before .before .before .before .before .before .before .before .before .before .before .before .before .before .before .before .pre .1 .0 .accepted) _ _ _ _ _ _ _ _ _ _ (condition-child _ _ _ (c .before .before .before .before .before .before .before .before .before .before .before .before .before .before .before .before .before .before .before .pre .1 .0 .accepted) _ (c .before .before .before .before .before .before .before .before .before .before .before .before .before .before .before .before .before .before .before .pre .1 .1) (first-read _ _ _ _ _ (c .before .before .before .before .before .before .before .before .before .before .before .before .before .before .before .before .before .before .before .pre .1 .0 .table) (c .before .before .before .before .before .before .before .before .before .before .before .before .before .before .before .before .before .before .before .pre .1 .1) (c .before .before .before .before .before .before .before .before .before .before .before .before .before .before .before .before .entry .ensures) (λ q. omega (arith, q)) _ (c .before .before .before .before .before .before .before .before .before .before .before .before .before .before .before .first-in .ensures))) ((c .before .before .before .before .before .before .before .before .before .before .before .before .before .visit .ensures .same) (c .before .before .before .before .before .before .before .before .before .before .before .before .before .before .before .before .before .before .before .pre .1 .0 .readings) (c .before .before .before .before .before .before .before .before .before .before .before .before .before .before .before .before .before .before .before .pre .1 .0 .held))) (c .before .before .before .before .before .before .before .before .before .before .before .before .before .before .before .before .before .before .before .pre .0), ((c .before .before .before .before .before .before .before .before .before .before .before .before .before .before .before .before .before .before .before .pre .1 .0), branch-child _ _ _ (c .before .before .before .before .before .before .before .before .before .before .before .before .before .before .before .before .before .before .before .pre .1 .0 .accepted) _ _ (c .before .before .before .before .before .before .before .before .before .before .before .before .before .before .before .before .before .before .before .pre .1 .1) (branch-read _ _ _ _ _ (c .before .branch .ensures) (second-read _ _ _ _ _ (c .before .before .before .before .before .before .before .before .before .before .before .before .before .before .before .before .before .before .before .pre .1 .0 .table) (c .before .before .before .before .before .before .before .before .before .before .before .before .before .before .before .before .before .before .before .pre .1 .1) (c .before .before .before .before .entry2 .ensures) plain-conditional _ (c .before .before .before .second-in .ensures)) (third-read _ _ _ _ _ (c .before .before .before .before .before .before .before .before .before .before .before .before .before .before .before .before .before .before .before .pre .1 .0 .table) (c .before .before .before .before .before .before .before .before .before .before .before .before .before .before .before .before .before .before .before .pre .1 .1) (c .before .before .before .before .entry2 .ensures) plain-conditional _ (c .before .before .third-in .ensures)))))
+visit-conditional-visit-requires-2 t c κs = (falls-on _ _ _ (reached-falls _ (c .before .before .before .before .before .before .before .before .before .before .before .before .before .before .before .before .before .before .before .pre .1 .0 .accepted) _ _ _ _ _ _ _ _ _ _ (condition-child _ _ _ (c .before .before .before .before .before .before .before .before .before .before .before .before .before .before .before .before .before .before .before .pre .1 .0 .accepted) _ (c .before .before .before .before .before .before .before .before .before .before .before .before .before .before .before .before .before .before .before .pre .1 .1) (first-read _ _ _ _ _ (c .before .before .before .before .before .before .before .before .before .before .before .before .before .before .before .before .before .before .before .pre .1 .0 .table) (c .before .before .before .before .before .before .before .before .before .before .before .before .before .before .before .before .before .before .before .pre .1 .1) (c .before .before .before .before .before .before .before .before .before .before .before .before .before .before .before .before .entry .ensures) (λ q. omega (arith, q)) _ (c .before .before .before .before .before .before .before .before .before .before .before .before .before .before .before .first-in .ensures))) ((c .before .before .before .before .before .before .before .before .before .before .before .before .before .visit .ensures .same) (c .before .before .before .before .before .before .before .before .before .before .before .before .before .before .before .before .before .before .before .pre .1 .0 .readings) (c .before .before .before .before .before .before .before .before .before .before .before .before .before .before .before .before .before .before .before .pre .1 .0 .held))) (c .before .before .before .before .before .before .before .before .before .before .before .before .before .before .before .before .before .before .before .pre .0), ((c .before .before .before .before .before .before .before .before .before .before .before .before .before .before .before .before .before .before .before .pre .1 .0), branch-child _ _ _ (c .before .before .before .before .before .before .before .before .before .before .before .before .before .before .before .before .before .before .before .pre .1 .0 .accepted) _ _ (c .before .before .before .before .before .before .before .before .before .before .before .before .before .before .before .before .before .before .before .pre .1 .1) (branch-read _ _ _ _ _ (c .before .branch .ensures) (second-read _ _ _ _ _ (c .before .before .before .before .before .before .before .before .before .before .before .before .before .before .before .before .before .before .before .pre .1 .0 .table) (c .before .before .before .before .before .before .before .before .before .before .before .before .before .before .before .before .before .before .before .pre .1 .1) (c .before .before .before .before .entry2 .ensures) (plain-between 53 (omega arith) (omega arith)) _ (c .before .before .before .second-in .ensures)) (third-read _ _ _ _ _ (c .before .before .before .before .before .before .before .before .before .before .before .before .before .before .before .before .before .before .before .pre .1 .0 .table) (c .before .before .before .before .before .before .before .before .before .before .before .before .before .before .before .before .before .before .before .pre .1 .1) (c .before .before .before .before .entry2 .ensures) (plain-between 53 (omega arith) (omega arith)) _ (c .before .before .third-in .ensures)))))
 
 visit-conditional-returns-3 : (t : ℕ) → visit-conditional-lts.Need-returns-3 (visit-conditional-claims t) (visit-conditional-at t) visit-conditional.Post
-visit-conditional-returns-3 t c = record { same = λ rs h. conditional-on _ _ _ _ _ _ _ _ _ _ _ _ _ ((c .before .before .before .before .before .before .before .before .before .before .before .before .before .before .before .before .visit .ensures .same) rs h) (c .before .before .before .before .before .before .before .before .before .before .before .before .before .before .before .before .before .before .before .before .before .before .pre .1 .1) (first-read _ _ _ _ _ (c .before .before .before .before .before .before .before .before .before .before .before .before .before .before .before .before .before .before .before .before .before .before .pre .1 .0 .table) (c .before .before .before .before .before .before .before .before .before .before .before .before .before .before .before .before .before .before .before .before .before .before .pre .1 .1) (c .before .before .before .before .before .before .before .before .before .before .before .before .before .before .before .before .before .before .before .entry .ensures) (λ q. omega (arith, q)) _ (c .before .before .before .before .before .before .before .before .before .before .before .before .before .before .before .before .before .before .first-in .ensures)) _ _ _ _ _ _ (c .before .before .before .before .before .before .before .before .before .before .before .before .outcome .given .1) (c .before .before .before .before .before .before .before .before .before .value .given .1) (toZ-ofZ w32 _ (record { sfits = search needs })) (branch-read _ _ _ _ _ (c .before .before .before .before .branch .ensures) (second-read _ _ _ _ _ (c .before .before .before .before .before .before .before .before .before .before .before .before .before .before .before .before .before .before .before .before .before .before .pre .1 .0 .table) (c .before .before .before .before .before .before .before .before .before .before .before .before .before .before .before .before .before .before .before .before .before .before .pre .1 .1) (c .before .before .before .before .before .before .before .entry2 .ensures) plain-conditional _ (c .before .before .before .before .before .before .second-in .ensures)) (third-read _ _ _ _ _ (c .before .before .before .before .before .before .before .before .before .before .before .before .before .before .before .before .before .before .before .before .before .before .pre .1 .0 .table) (c .before .before .before .before .before .before .before .before .before .before .before .before .before .before .before .before .before .before .before .before .before .before .pre .1 .1) (c .before .before .before .before .before .before .before .entry2 .ensures) plain-conditional _ (c .before .before .before .before .before .third-in .ensures))) ((c .before .before .visit2 .ensures .same) rs h) }
+visit-conditional-returns-3 t c = record { same = λ rs h. conditional-on _ _ _ _ _ _ _ _ _ _ _ _ _ ((c .before .before .before .before .before .before .before .before .before .before .before .before .before .before .before .before .visit .ensures .same) rs h) (c .before .before .before .before .before .before .before .before .before .before .before .before .before .before .before .before .before .before .before .before .before .before .pre .1 .1) (first-read _ _ _ _ _ (c .before .before .before .before .before .before .before .before .before .before .before .before .before .before .before .before .before .before .before .before .before .before .pre .1 .0 .table) (c .before .before .before .before .before .before .before .before .before .before .before .before .before .before .before .before .before .before .before .before .before .before .pre .1 .1) (c .before .before .before .before .before .before .before .before .before .before .before .before .before .before .before .before .before .before .before .entry .ensures) (λ q. omega (arith, q)) _ (c .before .before .before .before .before .before .before .before .before .before .before .before .before .before .before .before .before .before .first-in .ensures)) _ _ _ _ _ _ (c .before .before .before .before .before .before .before .before .before .before .before .before .outcome .given .1) (c .before .before .before .before .before .before .before .before .before .value .given .1) (toZ-ofZ w32 _ (record { sfits = search needs })) (branch-read _ _ _ _ _ (c .before .before .before .before .branch .ensures) (second-read _ _ _ _ _ (c .before .before .before .before .before .before .before .before .before .before .before .before .before .before .before .before .before .before .before .before .before .before .pre .1 .0 .table) (c .before .before .before .before .before .before .before .before .before .before .before .before .before .before .before .before .before .before .before .before .before .before .pre .1 .1) (c .before .before .before .before .before .before .before .entry2 .ensures) (plain-between 53 (omega arith) (omega arith)) _ (c .before .before .before .before .before .before .second-in .ensures)) (third-read _ _ _ _ _ (c .before .before .before .before .before .before .before .before .before .before .before .before .before .before .before .before .before .before .before .before .before .before .pre .1 .0 .table) (c .before .before .before .before .before .before .before .before .before .before .before .before .before .before .before .before .before .before .before .before .before .before .pre .1 .1) (c .before .before .before .before .before .before .before .entry2 .ensures) (plain-between 53 (omega arith) (omega arith)) _ (c .before .before .before .before .before .third-in .ensures))) ((c .before .before .visit2 .ensures .same) rs h) }
 
 visit-operator-entry-requires : (t : ℕ) → visit-operator-lts.Need-entry-requires (visit-operator-claims t) (visit-operator-at t) visit-operator.Post
 visit-operator-entry-requires t c κs = entry-room _ _ (c .before .before .pre .1 .0 .accepted) (c .before .before .pre .1 .1 .below)
 
 visit-operator-visit-requires : (t : ℕ) → visit-operator-lts.Need-visit-requires (visit-operator-claims t) (visit-operator-at t) visit-operator.Post
-visit-operator-visit-requires t c κs = (falls-same _ _ (c .before .before .before .before .before .pre .0), ((c .before .before .before .before .before .pre .1 .0), (left-child _ _ _ (c .before .before .before .before .before .pre .1 .0 .accepted) _ (c .before .before .before .before .before .pre .1 .1) (second-read _ _ _ _ _ (c .before .before .before .before .before .pre .1 .0 .table) (c .before .before .before .before .before .pre .1 .1) (c .before .before .entry .ensures) plain-operator _ (c .before .second-in .ensures)))))
+visit-operator-visit-requires t c κs = (falls-same _ _ (c .before .before .before .before .before .pre .0), ((c .before .before .before .before .before .pre .1 .0), (left-child _ _ _ (c .before .before .before .before .before .pre .1 .0 .accepted) _ (c .before .before .before .before .before .pre .1 .1) (second-read _ _ _ _ _ (c .before .before .before .before .before .pre .1 .0 .table) (c .before .before .before .before .before .pre .1 .1) (c .before .before .entry .ensures) (plain-between 52 (omega arith) (omega arith)) _ (c .before .second-in .ensures)))))
 
 visit-operator-returns : (t : ℕ) → visit-operator-lts.Need-returns (visit-operator-claims t) (visit-operator-at t) visit-operator.Post
-visit-operator-returns t c = record { same = λ rs h. left-ended _ _ _ _ _ _ _ _ _ _ _ _ _ ((c .before .before .before .before .visit .ensures .same) rs h) (c .before .before .before .before .before .before .before .before .before .before .pre .1 .1) (second-read _ _ _ _ _ (c .before .before .before .before .before .before .before .before .before .before .pre .1 .0 .table) (c .before .before .before .before .before .before .before .before .before .before .pre .1 .1) (c .before .before .before .before .before .before .before .entry .ensures) plain-operator _ (c .before .before .before .before .before .before .second-in .ensures)) _ (c .enum-told .given .1) }
+visit-operator-returns t c = record { same = λ rs h. left-ended _ _ _ _ _ _ _ _ _ _ _ _ _ ((c .before .before .before .before .visit .ensures .same) rs h) (c .before .before .before .before .before .before .before .before .before .before .pre .1 .1) (second-read _ _ _ _ _ (c .before .before .before .before .before .before .before .before .before .before .pre .1 .0 .table) (c .before .before .before .before .before .before .before .before .before .before .pre .1 .1) (c .before .before .before .before .before .before .before .entry .ensures) (plain-between 52 (omega arith) (omega arith)) _ (c .before .before .before .before .before .before .second-in .ensures)) _ (c .enum-told .given .1) }
 
 visit-operator-returns-2 : (t : ℕ) → visit-operator-lts.Need-returns-2 (visit-operator-claims t) (visit-operator-at t) visit-operator.Post
-visit-operator-returns-2 t c = record { same = λ rs h. left-constructor _ _ _ _ _ _ _ _ _ _ _ _ _ ((c .before .before .before .before .before .before .before .before .visit .ensures .same) rs h) (c .before .before .before .before .before .before .before .before .before .before .before .before .before .before .pre .1 .1) (second-read _ _ _ _ _ (c .before .before .before .before .before .before .before .before .before .before .before .before .before .before .pre .1 .0 .table) (c .before .before .before .before .before .before .before .before .before .before .before .before .before .before .pre .1 .1) (c .before .before .before .before .before .before .before .before .before .before .before .entry .ensures) plain-operator _ (c .before .before .before .before .before .before .before .before .before .before .second-in .ensures)) _ _ _ _ (c .before .before .before .before .outcome .given .1) (c .before .enum-told2 .given .1) (c .ended .ensures) }
+visit-operator-returns-2 t c = record { same = λ rs h. left-constructor _ _ _ _ _ _ _ _ _ _ _ _ _ ((c .before .before .before .before .before .before .before .before .visit .ensures .same) rs h) (c .before .before .before .before .before .before .before .before .before .before .before .before .before .before .pre .1 .1) (second-read _ _ _ _ _ (c .before .before .before .before .before .before .before .before .before .before .before .before .before .before .pre .1 .0 .table) (c .before .before .before .before .before .before .before .before .before .before .before .before .before .before .pre .1 .1) (c .before .before .before .before .before .before .before .before .before .before .before .entry .ensures) (plain-between 52 (omega arith) (omega arith)) _ (c .before .before .before .before .before .before .before .before .before .before .second-in .ensures)) _ _ _ _ (c .before .before .before .before .outcome .given .1) (c .before .enum-told2 .given .1) (c .ended .ensures) }
 
 visit-operator-entry-requires-2 : (t : ℕ) → visit-operator-lts.Need-entry-requires-2 (visit-operator-claims t) (visit-operator-at t) visit-operator.Post
 visit-operator-entry-requires-2 t c κs = entry-room _ _ (c .before .before .before .before .before .before .before .before .before .before .before .before .before .before .pre .1 .0 .accepted) (c .before .before .before .before .before .before .before .before .before .before .before .before .before .before .pre .1 .1 .below)
 
 visit-operator-visit-requires-2 : (t : ℕ) → visit-operator-lts.Need-visit-requires-2 (visit-operator-claims t) (visit-operator-at t) visit-operator.Post
-visit-operator-visit-requires-2 t c κs = (falls-on _ _ _ (reached-falls _ (c .before .before .before .before .before .before .before .before .before .before .before .before .before .before .before .before .before .pre .1 .0 .accepted) _ _ _ _ _ _ _ _ _ _ (left-child _ _ _ (c .before .before .before .before .before .before .before .before .before .before .before .before .before .before .before .before .before .pre .1 .0 .accepted) _ (c .before .before .before .before .before .before .before .before .before .before .before .before .before .before .before .before .before .pre .1 .1) (second-read _ _ _ _ _ (c .before .before .before .before .before .before .before .before .before .before .before .before .before .before .before .before .before .pre .1 .0 .table) (c .before .before .before .before .before .before .before .before .before .before .before .before .before .before .before .before .before .pre .1 .1) (c .before .before .before .before .before .before .before .before .before .before .before .before .before .before .entry .ensures) plain-operator _ (c .before .before .before .before .before .before .before .before .before .before .before .before .before .second-in .ensures))) ((c .before .before .before .before .before .before .before .before .before .before .before .visit .ensures .same) (c .before .before .before .before .before .before .before .before .before .before .before .before .before .before .before .before .before .pre .1 .0 .readings) (c .before .before .before .before .before .before .before .before .before .before .before .before .before .before .before .before .before .pre .1 .0 .held))) (c .before .before .before .before .before .before .before .before .before .before .before .before .before .before .before .before .before .pre .0), ((c .before .before .before .before .before .before .before .before .before .before .before .before .before .before .before .before .before .pre .1 .0), right-child _ _ _ (c .before .before .before .before .before .before .before .before .before .before .before .before .before .before .before .before .before .pre .1 .0 .accepted) _ (c .before .before .before .before .before .before .before .before .before .before .before .before .before .before .before .before .before .pre .1 .1) (third-read _ _ _ _ _ (c .before .before .before .before .before .before .before .before .before .before .before .before .before .before .before .before .before .pre .1 .0 .table) (c .before .before .before .before .before .before .before .before .before .before .before .before .before .before .before .before .before .pre .1 .1) (c .before .before .entry2 .ensures) plain-operator _ (c .before .third-in .ensures))))
+visit-operator-visit-requires-2 t c κs = (falls-on _ _ _ (reached-falls _ (c .before .before .before .before .before .before .before .before .before .before .before .before .before .before .before .before .before .pre .1 .0 .accepted) _ _ _ _ _ _ _ _ _ _ (left-child _ _ _ (c .before .before .before .before .before .before .before .before .before .before .before .before .before .before .before .before .before .pre .1 .0 .accepted) _ (c .before .before .before .before .before .before .before .before .before .before .before .before .before .before .before .before .before .pre .1 .1) (second-read _ _ _ _ _ (c .before .before .before .before .before .before .before .before .before .before .before .before .before .before .before .before .before .pre .1 .0 .table) (c .before .before .before .before .before .before .before .before .before .before .before .before .before .before .before .before .before .pre .1 .1) (c .before .before .before .before .before .before .before .before .before .before .before .before .before .before .entry .ensures) (plain-between 52 (omega arith) (omega arith)) _ (c .before .before .before .before .before .before .before .before .before .before .before .before .before .second-in .ensures))) ((c .before .before .before .before .before .before .before .before .before .before .before .visit .ensures .same) (c .before .before .before .before .before .before .before .before .before .before .before .before .before .before .before .before .before .pre .1 .0 .readings) (c .before .before .before .before .before .before .before .before .before .before .before .before .before .before .before .before .before .pre .1 .0 .held))) (c .before .before .before .before .before .before .before .before .before .before .before .before .before .before .before .before .before .pre .0), ((c .before .before .before .before .before .before .before .before .before .before .before .before .before .before .before .before .before .pre .1 .0), right-child _ _ _ (c .before .before .before .before .before .before .before .before .before .before .before .before .before .before .before .before .before .pre .1 .0 .accepted) _ (c .before .before .before .before .before .before .before .before .before .before .before .before .before .before .before .before .before .pre .1 .1) (third-read _ _ _ _ _ (c .before .before .before .before .before .before .before .before .before .before .before .before .before .before .before .before .before .pre .1 .0 .table) (c .before .before .before .before .before .before .before .before .before .before .before .before .before .before .before .before .before .pre .1 .1) (c .before .before .entry2 .ensures) (plain-between 52 (omega arith) (omega arith)) _ (c .before .third-in .ensures))))
 
 visit-operator-returns-3 : (t : ℕ) → visit-operator-lts.Need-returns-3 (visit-operator-claims t) (visit-operator-at t) visit-operator.Post
-visit-operator-returns-3 t c = record { same = λ rs h. right-ended _ _ _ _ _ _ _ _ _ _ _ _ _ ((c .before .before .before .before .before .before .before .before .before .before .before .before .before .before .before .before .visit .ensures .same) rs h) (c .before .before .before .before .before .before .before .before .before .before .before .before .before .before .before .before .before .before .before .before .before .before .pre .1 .1) (second-read _ _ _ _ _ (c .before .before .before .before .before .before .before .before .before .before .before .before .before .before .before .before .before .before .before .before .before .before .pre .1 .0 .table) (c .before .before .before .before .before .before .before .before .before .before .before .before .before .before .before .before .before .before .before .before .before .before .pre .1 .1) (c .before .before .before .before .before .before .before .before .before .before .before .before .before .before .before .before .before .before .before .entry .ensures) plain-operator _ (c .before .before .before .before .before .before .before .before .before .before .before .before .before .before .before .before .before .before .second-in .ensures)) _ _ (c .before .before .before .before .before .before .before .before .before .before .before .before .outcome .given .1) (c .before .before .before .before .before .before .before .before .before .value .given .1) _ (third-read _ _ _ _ _ (c .before .before .before .before .before .before .before .before .before .before .before .before .before .before .before .before .before .before .before .before .before .before .pre .1 .0 .table) (c .before .before .before .before .before .before .before .before .before .before .before .before .before .before .before .before .before .before .before .before .before .before .pre .1 .1) (c .before .before .before .before .before .before .before .entry2 .ensures) plain-operator _ (c .before .before .before .before .before .before .third-in .ensures)) _ _ ((c .before .before .before .before .visit2 .ensures .same) rs h) _ (c .enum-told3 .given .1) }
+visit-operator-returns-3 t c = record { same = λ rs h. right-ended _ _ _ _ _ _ _ _ _ _ _ _ _ ((c .before .before .before .before .before .before .before .before .before .before .before .before .before .before .before .before .visit .ensures .same) rs h) (c .before .before .before .before .before .before .before .before .before .before .before .before .before .before .before .before .before .before .before .before .before .before .pre .1 .1) (second-read _ _ _ _ _ (c .before .before .before .before .before .before .before .before .before .before .before .before .before .before .before .before .before .before .before .before .before .before .pre .1 .0 .table) (c .before .before .before .before .before .before .before .before .before .before .before .before .before .before .before .before .before .before .before .before .before .before .pre .1 .1) (c .before .before .before .before .before .before .before .before .before .before .before .before .before .before .before .before .before .before .before .entry .ensures) (plain-between 52 (omega arith) (omega arith)) _ (c .before .before .before .before .before .before .before .before .before .before .before .before .before .before .before .before .before .before .second-in .ensures)) _ _ (c .before .before .before .before .before .before .before .before .before .before .before .before .outcome .given .1) (c .before .before .before .before .before .before .before .before .before .value .given .1) _ (third-read _ _ _ _ _ (c .before .before .before .before .before .before .before .before .before .before .before .before .before .before .before .before .before .before .before .before .before .before .pre .1 .0 .table) (c .before .before .before .before .before .before .before .before .before .before .before .before .before .before .before .before .before .before .before .before .before .before .pre .1 .1) (c .before .before .before .before .before .before .before .entry2 .ensures) (plain-between 52 (omega arith) (omega arith)) _ (c .before .before .before .before .before .before .third-in .ensures)) _ _ ((c .before .before .before .before .visit2 .ensures .same) rs h) _ (c .enum-told3 .given .1) }
 
 visit-operator-returns-4 : (t : ℕ) → visit-operator-lts.Need-returns-4 (visit-operator-claims t) (visit-operator-at t) visit-operator.Post
-visit-operator-returns-4 t c = record { same = λ rs h. right-constructor _ _ _ _ _ _ _ _ _ _ _ _ _ ((c .before .before .before .before .before .before .before .before .before .before .before .before .before .before .before .before .before .before .before .before .visit .ensures .same) rs h) (c .before .before .before .before .before .before .before .before .before .before .before .before .before .before .before .before .before .before .before .before .before .before .before .before .before .before .pre .1 .1) (second-read _ _ _ _ _ (c .before .before .before .before .before .before .before .before .before .before .before .before .before .before .before .before .before .before .before .before .before .before .before .before .before .before .pre .1 .0 .table) (c .before .before .before .before .before .before .before .before .before .before .before .before .before .before .before .before .before .before .before .before .before .before .before .before .before .before .pre .1 .1) (c .before .before .before .before .before .before .before .before .before .before .before .before .before .before .before .before .before .before .before .before .before .before .before .entry .ensures) plain-operator _ (c .before .before .before .before .before .before .before .before .before .before .before .before .before .before .before .before .before .before .before .before .before .before .second-in .ensures)) _ _ (c .before .before .before .before .before .before .before .before .before .before .before .before .before .before .before .before .outcome .given .1) (c .before .before .before .before .before .before .before .before .before .before .before .before .before .value .given .1) _ (third-read _ _ _ _ _ (c .before .before .before .before .before .before .before .before .before .before .before .before .before .before .before .before .before .before .before .before .before .before .before .before .before .before .pre .1 .0 .table) (c .before .before .before .before .before .before .before .before .before .before .before .before .before .before .before .before .before .before .before .before .before .before .before .before .before .before .pre .1 .1) (c .before .before .before .before .before .before .before .before .before .before .before .entry2 .ensures) plain-operator _ (c .before .before .before .before .before .before .before .before .before .before .third-in .ensures)) _ _ ((c .before .before .before .before .before .before .before .before .visit2 .ensures .same) rs h) _ _ _ _ (c .before .before .before .before .outcome2 .given .1) (c .before .enum-told4 .given .1) (c .ended2 .ensures) }
+visit-operator-returns-4 t c = record { same = λ rs h. right-constructor _ _ _ _ _ _ _ _ _ _ _ _ _ ((c .before .before .before .before .before .before .before .before .before .before .before .before .before .before .before .before .before .before .before .before .visit .ensures .same) rs h) (c .before .before .before .before .before .before .before .before .before .before .before .before .before .before .before .before .before .before .before .before .before .before .before .before .before .before .pre .1 .1) (second-read _ _ _ _ _ (c .before .before .before .before .before .before .before .before .before .before .before .before .before .before .before .before .before .before .before .before .before .before .before .before .before .before .pre .1 .0 .table) (c .before .before .before .before .before .before .before .before .before .before .before .before .before .before .before .before .before .before .before .before .before .before .before .before .before .before .pre .1 .1) (c .before .before .before .before .before .before .before .before .before .before .before .before .before .before .before .before .before .before .before .before .before .before .before .entry .ensures) (plain-between 52 (omega arith) (omega arith)) _ (c .before .before .before .before .before .before .before .before .before .before .before .before .before .before .before .before .before .before .before .before .before .before .second-in .ensures)) _ _ (c .before .before .before .before .before .before .before .before .before .before .before .before .before .before .before .before .outcome .given .1) (c .before .before .before .before .before .before .before .before .before .before .before .before .before .value .given .1) _ (third-read _ _ _ _ _ (c .before .before .before .before .before .before .before .before .before .before .before .before .before .before .before .before .before .before .before .before .before .before .before .before .before .before .pre .1 .0 .table) (c .before .before .before .before .before .before .before .before .before .before .before .before .before .before .before .before .before .before .before .before .before .before .before .before .before .before .pre .1 .1) (c .before .before .before .before .before .before .before .before .before .before .before .entry2 .ensures) (plain-between 52 (omega arith) (omega arith)) _ (c .before .before .before .before .before .before .before .before .before .before .third-in .ensures)) _ _ ((c .before .before .before .before .before .before .before .before .visit2 .ensures .same) rs h) _ _ _ _ (c .before .before .before .before .outcome2 .given .1) (c .before .enum-told4 .given .1) (c .ended2 .ensures) }
 
 visit-operator-entry-requires-3 : (t : ℕ) → visit-operator-lts.Need-entry-requires-3 (visit-operator-claims t) (visit-operator-at t) visit-operator.Post
 visit-operator-entry-requires-3 t c κs = entry-room _ _ (c .before .before .before .before .before .before .before .before .before .before .before .before .before .before .before .before .before .before .before .before .before .before .before .before .before .before .pre .1 .0 .accepted) (c .before .before .before .before .before .before .before .before .before .before .before .before .before .before .before .before .before .before .before .before .before .before .before .before .before .before .pre .1 .1 .below)
@@ -322,7 +322,7 @@ visit-operator-same-length-5 : (t : ℕ) → visit-operator-lts.Need-same-length
 visit-operator-same-length-5 t c = (c .before .before .before .before .before .before .before .before .before .before .before .cells2 .given) ∙ (c .before .before .before .before .before .before .before .before .before .before .before .before .before .before .before .before .before .before .before .before .before .before .before .cells .given)
 
 visit-operator-returns-5 : (t : ℕ) → visit-operator-lts.Need-returns-5 (visit-operator-claims t) (visit-operator-at t) visit-operator.Post
-visit-operator-returns-5 t c = record { same = λ rs h. operator-on _ _ _ _ _ _ _ _ _ _ _ _ _ ((c .before .before .before .before .before .before .before .before .before .before .before .before .before .before .before .before .before .before .before .before .before .before .before .before .visit .ensures .same) rs h) (c .before .before .before .before .before .before .before .before .before .before .before .before .before .before .before .before .before .before .before .before .before .before .before .before .before .before .before .before .before .before .pre .1 .1) (second-read _ _ _ _ _ (c .before .before .before .before .before .before .before .before .before .before .before .before .before .before .before .before .before .before .before .before .before .before .before .before .before .before .before .before .before .before .pre .1 .0 .table) (c .before .before .before .before .before .before .before .before .before .before .before .before .before .before .before .before .before .before .before .before .before .before .before .before .before .before .before .before .before .before .pre .1 .1) (c .before .before .before .before .before .before .before .before .before .before .before .before .before .before .before .before .before .before .before .before .before .before .before .before .before .before .before .entry .ensures) plain-operator _ (c .before .before .before .before .before .before .before .before .before .before .before .before .before .before .before .before .before .before .before .before .before .before .before .before .before .before .second-in .ensures)) _ _ (c .before .before .before .before .before .before .before .before .before .before .before .before .before .before .before .before .before .before .before .before .outcome .given .1) (c .before .before .before .before .before .before .before .before .before .before .before .before .before .before .before .before .before .value .given .1) _ (third-read _ _ _ _ _ (c .before .before .before .before .before .before .before .before .before .before .before .before .before .before .before .before .before .before .before .before .before .before .before .before .before .before .before .before .before .before .pre .1 .0 .table) (c .before .before .before .before .before .before .before .before .before .before .before .before .before .before .before .before .before .before .before .before .before .before .before .before .before .before .before .before .before .before .pre .1 .1) (c .before .before .before .before .before .before .before .before .before .before .before .before .before .before .before .entry2 .ensures) plain-operator _ (c .before .before .before .before .before .before .before .before .before .before .before .before .before .before .third-in .ensures)) _ _ ((c .before .before .before .before .before .before .before .before .before .before .before .before .visit2 .ensures .same) rs h) _ _ _ _ _ _ _ (c .before .before .before .before .before .before .before .before .outcome2 .given .1) (c .before .before .before .before .before .value2 .given .1) (toZ-ofZ w32 _ (record { sfits = search needs })) (toZ-ofZ w32 _ (record { sfits = search needs })) (first-read _ _ _ _ _ (c .before .before .before .before .before .before .before .before .before .before .before .before .before .before .before .before .before .before .before .before .before .before .before .before .before .before .before .before .before .before .pre .1 .0 .table) (c .before .before .before .before .before .before .before .before .before .before .before .before .before .before .before .before .before .before .before .before .before .before .before .before .before .before .before .before .before .before .pre .1 .1) (c .before .before .before .entry3 .ensures) (λ q. omega (arith, q)) _ (c .before .before .first-in .ensures)) (c .before .compute .ensures) (c .given .ensures) }
+visit-operator-returns-5 t c = record { same = λ rs h. operator-on _ _ _ _ _ _ _ _ _ _ _ _ _ ((c .before .before .before .before .before .before .before .before .before .before .before .before .before .before .before .before .before .before .before .before .before .before .before .before .visit .ensures .same) rs h) (c .before .before .before .before .before .before .before .before .before .before .before .before .before .before .before .before .before .before .before .before .before .before .before .before .before .before .before .before .before .before .pre .1 .1) (second-read _ _ _ _ _ (c .before .before .before .before .before .before .before .before .before .before .before .before .before .before .before .before .before .before .before .before .before .before .before .before .before .before .before .before .before .before .pre .1 .0 .table) (c .before .before .before .before .before .before .before .before .before .before .before .before .before .before .before .before .before .before .before .before .before .before .before .before .before .before .before .before .before .before .pre .1 .1) (c .before .before .before .before .before .before .before .before .before .before .before .before .before .before .before .before .before .before .before .before .before .before .before .before .before .before .before .entry .ensures) (plain-between 52 (omega arith) (omega arith)) _ (c .before .before .before .before .before .before .before .before .before .before .before .before .before .before .before .before .before .before .before .before .before .before .before .before .before .before .second-in .ensures)) _ _ (c .before .before .before .before .before .before .before .before .before .before .before .before .before .before .before .before .before .before .before .before .outcome .given .1) (c .before .before .before .before .before .before .before .before .before .before .before .before .before .before .before .before .before .value .given .1) _ (third-read _ _ _ _ _ (c .before .before .before .before .before .before .before .before .before .before .before .before .before .before .before .before .before .before .before .before .before .before .before .before .before .before .before .before .before .before .pre .1 .0 .table) (c .before .before .before .before .before .before .before .before .before .before .before .before .before .before .before .before .before .before .before .before .before .before .before .before .before .before .before .before .before .before .pre .1 .1) (c .before .before .before .before .before .before .before .before .before .before .before .before .before .before .before .entry2 .ensures) (plain-between 52 (omega arith) (omega arith)) _ (c .before .before .before .before .before .before .before .before .before .before .before .before .before .before .third-in .ensures)) _ _ ((c .before .before .before .before .before .before .before .before .before .before .before .before .visit2 .ensures .same) rs h) _ _ _ _ _ _ _ (c .before .before .before .before .before .before .before .before .outcome2 .given .1) (c .before .before .before .before .before .value2 .given .1) (toZ-ofZ w32 _ (record { sfits = search needs })) (toZ-ofZ w32 _ (record { sfits = search needs })) (first-read _ _ _ _ _ (c .before .before .before .before .before .before .before .before .before .before .before .before .before .before .before .before .before .before .before .before .before .before .before .before .before .before .before .before .before .before .pre .1 .0 .table) (c .before .before .before .before .before .before .before .before .before .before .before .before .before .before .before .before .before .before .before .before .before .before .before .before .before .before .before .before .before .before .pre .1 .1) (c .before .before .before .entry3 .ensures) (λ q. omega (arith, q)) _ (c .before .before .first-in .ensures)) (c .before .compute .ensures) (c .given .ensures) }
 
 visit-select-entry-requires : (t : ℕ) → visit-select-lts.Need-entry-requires (visit-select-claims t) (visit-select-at t) visit-select.Post
 visit-select-entry-requires t c κs = entry-room _ _ (c .before .before .pre .1 .0 .accepted) (c .before .before .pre .1 .1 .below)
@@ -343,19 +343,19 @@ visit-select-entry-requires-3 : (t : ℕ) → visit-select-lts.Need-entry-requir
 visit-select-entry-requires-3 t c κs = entry-room _ _ (c .before .before .before .before .before .before .before .before .before .before .before .before .before .before .before .before .pre .1 .0 .accepted) ((reached-tuple _ (c .before .before .before .before .before .before .before .before .before .before .before .before .before .before .before .before .pre .1 .0 .accepted) _ _ _ _ _ _ _ _ _ _ (select-child _ _ _ (c .before .before .before .before .before .before .before .before .before .before .before .before .before .before .before .before .pre .1 .0 .accepted) _ (c .before .before .before .before .before .before .before .before .before .before .before .before .before .before .before .before .pre .1 .1) (first-read _ _ _ _ _ (c .before .before .before .before .before .before .before .before .before .before .before .before .before .before .before .before .pre .1 .0 .table) (c .before .before .before .before .before .before .before .before .before .before .before .before .before .before .before .before .pre .1 .1) (c .before .before .before .before .before .before .before .before .before .before .before .before .before .entry .ensures) (λ q. omega (arith, q)) _ (c .before .before .before .before .before .before .before .before .before .before .before .before .first-in .ensures))) ((c .before .before .before .before .before .before .before .before .before .before .visit .ensures .same) (c .before .before .before .before .before .before .before .before .before .before .before .before .before .before .before .before .pre .1 .0 .readings) (c .before .before .before .before .before .before .before .before .before .before .before .before .before .before .before .before .pre .1 .0 .held)) _ _ _ (c .before .before .before .before .before .before .outcome .given .1) (c .before .before .before .value .given .1)) .below)
 
 visit-select-returns-3 : (t : ℕ) → visit-select-lts.Need-returns-3 (visit-select-claims t) (visit-select-at t) visit-select.Post
-visit-select-returns-3 t c = record { same = λ rs h. select-tag _ _ _ _ _ _ _ _ _ _ _ _ _ ((c .before .before .before .before .before .before .before .before .before .before .before .before .before .before .visit .ensures .same) rs h) (c .before .before .before .before .before .before .before .before .before .before .before .before .before .before .before .before .before .before .before .before .pre .1 .1) (first-read _ _ _ _ _ (c .before .before .before .before .before .before .before .before .before .before .before .before .before .before .before .before .before .before .before .before .pre .1 .0 .table) (c .before .before .before .before .before .before .before .before .before .before .before .before .before .before .before .before .before .before .before .before .pre .1 .1) (c .before .before .before .before .before .before .before .before .before .before .before .before .before .before .before .before .before .entry .ensures) (λ q. omega (arith, q)) _ (c .before .before .before .before .before .before .before .before .before .before .before .before .before .before .before .before .first-in .ensures)) _ _ _ (c .before .before .before .before .before .before .before .before .before .before .outcome .given .1) (c .before .before .before .before .before .before .before .value .given .1) _ (second-read _ _ _ _ _ (c .before .before .before .before .before .before .before .before .before .before .before .before .before .before .before .before .before .before .before .before .pre .1 .0 .table) (c .before .before .before .before .before .before .before .before .before .before .before .before .before .before .before .before .before .before .before .before .pre .1 .1) (c .before .before .before .before .before .entry2 .ensures) plain-select _ (c .before .before .before .before .second-in .ensures)) _ refl _ _ (c .before .before .if1 .taken) (tag-read _ _ _ _ _ (c .before .before .before .before .before .before .before .before .before .before .before .before .before .before .before .before .before .before .before .before .pre .1 .0 .table) (reached-tuple _ (c .before .before .before .before .before .before .before .before .before .before .before .before .before .before .before .before .before .before .before .before .pre .1 .0 .accepted) _ _ _ _ _ _ _ _ _ _ (select-child _ _ _ (c .before .before .before .before .before .before .before .before .before .before .before .before .before .before .before .before .before .before .before .before .pre .1 .0 .accepted) _ (c .before .before .before .before .before .before .before .before .before .before .before .before .before .before .before .before .before .before .before .before .pre .1 .1) (first-read _ _ _ _ _ (c .before .before .before .before .before .before .before .before .before .before .before .before .before .before .before .before .before .before .before .before .pre .1 .0 .table) (c .before .before .before .before .before .before .before .before .before .before .before .before .before .before .before .before .before .before .before .before .pre .1 .1) (c .before .before .before .before .before .before .before .before .before .before .before .before .before .before .before .before .before .entry .ensures) (λ q. omega (arith, q)) _ (c .before .before .before .before .before .before .before .before .before .before .before .before .before .before .before .before .first-in .ensures))) ((c .before .before .before .before .before .before .before .before .before .before .before .before .before .before .visit .ensures .same) rs h) _ _ _ (c .before .before .before .before .before .before .before .before .before .before .outcome .given .1) (c .before .before .before .before .before .before .before .value .given .1)) (c .before .before .before .entry3 .ensures) (c .before .first-in2 .ensures)) (c .tag .ensures) }
+visit-select-returns-3 t c = record { same = λ rs h. select-tag _ _ _ _ _ _ _ _ _ _ _ _ _ ((c .before .before .before .before .before .before .before .before .before .before .before .before .before .before .visit .ensures .same) rs h) (c .before .before .before .before .before .before .before .before .before .before .before .before .before .before .before .before .before .before .before .before .pre .1 .1) (first-read _ _ _ _ _ (c .before .before .before .before .before .before .before .before .before .before .before .before .before .before .before .before .before .before .before .before .pre .1 .0 .table) (c .before .before .before .before .before .before .before .before .before .before .before .before .before .before .before .before .before .before .before .before .pre .1 .1) (c .before .before .before .before .before .before .before .before .before .before .before .before .before .before .before .before .before .entry .ensures) (λ q. omega (arith, q)) _ (c .before .before .before .before .before .before .before .before .before .before .before .before .before .before .before .before .first-in .ensures)) _ _ _ (c .before .before .before .before .before .before .before .before .before .before .outcome .given .1) (c .before .before .before .before .before .before .before .value .given .1) _ (second-read _ _ _ _ _ (c .before .before .before .before .before .before .before .before .before .before .before .before .before .before .before .before .before .before .before .before .pre .1 .0 .table) (c .before .before .before .before .before .before .before .before .before .before .before .before .before .before .before .before .before .before .before .before .pre .1 .1) (c .before .before .before .before .before .entry2 .ensures) (plain-between 51 (omega arith) (omega arith)) _ (c .before .before .before .before .second-in .ensures)) _ refl _ _ (c .before .before .if1 .taken) (tag-read _ _ _ _ _ (c .before .before .before .before .before .before .before .before .before .before .before .before .before .before .before .before .before .before .before .before .pre .1 .0 .table) (reached-tuple _ (c .before .before .before .before .before .before .before .before .before .before .before .before .before .before .before .before .before .before .before .before .pre .1 .0 .accepted) _ _ _ _ _ _ _ _ _ _ (select-child _ _ _ (c .before .before .before .before .before .before .before .before .before .before .before .before .before .before .before .before .before .before .before .before .pre .1 .0 .accepted) _ (c .before .before .before .before .before .before .before .before .before .before .before .before .before .before .before .before .before .before .before .before .pre .1 .1) (first-read _ _ _ _ _ (c .before .before .before .before .before .before .before .before .before .before .before .before .before .before .before .before .before .before .before .before .pre .1 .0 .table) (c .before .before .before .before .before .before .before .before .before .before .before .before .before .before .before .before .before .before .before .before .pre .1 .1) (c .before .before .before .before .before .before .before .before .before .before .before .before .before .before .before .before .before .entry .ensures) (λ q. omega (arith, q)) _ (c .before .before .before .before .before .before .before .before .before .before .before .before .before .before .before .before .first-in .ensures))) ((c .before .before .before .before .before .before .before .before .before .before .before .before .before .before .visit .ensures .same) rs h) _ _ _ (c .before .before .before .before .before .before .before .before .before .before .outcome .given .1) (c .before .before .before .before .before .before .before .value .given .1)) (c .before .before .before .entry3 .ensures) (c .before .first-in2 .ensures)) (c .tag .ensures) }
 
 visit-select-listed-requires : (t : ℕ) → visit-select-lts.Need-listed-requires (visit-select-claims t) (visit-select-at t) visit-select.Post
 visit-select-listed-requires t c κs = member-room _ _ (c .before .before .before .before .before .before .before .before .before .before .before .before .before .before .before .before .before .before .before .before .pre .1 .0 .accepted) _ _ _ _ (c .before .before .before .before .before .before .before .before .before .before .before .before .before .before .before .before .before .before .before .before .pre .1 .0 .table) (c .before .before .before .entry3 .ensures) (c .before .second-in2 .ensures) (c .third-in .ensures) (reached-tuple _ (c .before .before .before .before .before .before .before .before .before .before .before .before .before .before .before .before .before .before .before .before .pre .1 .0 .accepted) _ _ _ _ _ _ _ _ _ _ (select-child _ _ _ (c .before .before .before .before .before .before .before .before .before .before .before .before .before .before .before .before .before .before .before .before .pre .1 .0 .accepted) _ (c .before .before .before .before .before .before .before .before .before .before .before .before .before .before .before .before .before .before .before .before .pre .1 .1) (first-read _ _ _ _ _ (c .before .before .before .before .before .before .before .before .before .before .before .before .before .before .before .before .before .before .before .before .pre .1 .0 .table) (c .before .before .before .before .before .before .before .before .before .before .before .before .before .before .before .before .before .before .before .before .pre .1 .1) (c .before .before .before .before .before .before .before .before .before .before .before .before .before .before .before .before .before .entry .ensures) (λ q. omega (arith, q)) _ (c .before .before .before .before .before .before .before .before .before .before .before .before .before .before .before .before .first-in .ensures))) ((c .before .before .before .before .before .before .before .before .before .before .before .before .before .before .visit .ensures .same) (c .before .before .before .before .before .before .before .before .before .before .before .before .before .before .before .before .before .before .before .before .pre .1 .0 .readings) (c .before .before .before .before .before .before .before .before .before .before .before .before .before .before .before .before .before .before .before .before .pre .1 .0 .held)) _ _ _ (c .before .before .before .before .before .before .before .before .before .before .outcome .given .1) (c .before .before .before .before .before .before .before .value .given .1))
 
 visit-select-returns-4 : (t : ℕ) → visit-select-lts.Need-returns-4 (visit-select-claims t) (visit-select-at t) visit-select.Post
-visit-select-returns-4 t c = record { same = λ rs h. select-missing _ _ _ _ _ _ _ _ _ _ _ _ _ ((c .before .before .before .before .before .before .before .before .before .before .before .before .before .before .before .before .before .before .visit .ensures .same) rs h) (c .before .before .before .before .before .before .before .before .before .before .before .before .before .before .before .before .before .before .before .before .before .before .before .before .pre .1 .1) (first-read _ _ _ _ _ (c .before .before .before .before .before .before .before .before .before .before .before .before .before .before .before .before .before .before .before .before .before .before .before .before .pre .1 .0 .table) (c .before .before .before .before .before .before .before .before .before .before .before .before .before .before .before .before .before .before .before .before .before .before .before .before .pre .1 .1) (c .before .before .before .before .before .before .before .before .before .before .before .before .before .before .before .before .before .before .before .before .before .entry .ensures) (λ q. omega (arith, q)) _ (c .before .before .before .before .before .before .before .before .before .before .before .before .before .before .before .before .before .before .before .before .first-in .ensures)) _ _ _ (c .before .before .before .before .before .before .before .before .before .before .before .before .before .before .outcome .given .1) (c .before .before .before .before .before .before .before .before .before .before .before .value .given .1) _ (second-read _ _ _ _ _ (c .before .before .before .before .before .before .before .before .before .before .before .before .before .before .before .before .before .before .before .before .before .before .before .before .pre .1 .0 .table) (c .before .before .before .before .before .before .before .before .before .before .before .before .before .before .before .before .before .before .before .before .before .before .before .before .pre .1 .1) (c .before .before .before .before .before .before .before .before .before .entry2 .ensures) plain-select _ (c .before .before .before .before .before .before .before .before .second-in .ensures)) _ refl _ (c .before .before .before .before .before .before .if1 .left) (member-read _ _ (c .before .before .before .before .before .before .before .before .before .before .before .before .before .before .before .before .before .before .before .before .before .before .before .before .pre .1 .0 .accepted) _ _ _ _ (c .before .before .before .before .before .before .before .before .before .before .before .before .before .before .before .before .before .before .before .before .before .before .before .before .pre .1 .0 .table) (c .before .before .before .before .before .before .before .entry3 .ensures) (c .before .before .before .before .before .second-in2 .ensures) (c .before .before .before .before .third-in .ensures) (reached-tuple _ (c .before .before .before .before .before .before .before .before .before .before .before .before .before .before .before .before .before .before .before .before .before .before .before .before .pre .1 .0 .accepted) _ _ _ _ _ _ _ _ _ _ (select-child _ _ _ (c .before .before .before .before .before .before .before .before .before .before .before .before .before .before .before .before .before .before .before .before .before .before .before .before .pre .1 .0 .accepted) _ (c .before .before .before .before .before .before .before .before .before .before .before .before .before .before .before .before .before .before .before .before .before .before .before .before .pre .1 .1) (first-read _ _ _ _ _ (c .before .before .before .before .before .before .before .before .before .before .before .before .before .before .before .before .before .before .before .before .before .before .before .before .pre .1 .0 .table) (c .before .before .before .before .before .before .before .before .before .before .before .before .before .before .before .before .before .before .before .before .before .before .before .before .pre .1 .1) (c .before .before .before .before .before .before .before .before .before .before .before .before .before .before .before .before .before .before .before .before .before .entry .ensures) (λ q. omega (arith, q)) _ (c .before .before .before .before .before .before .before .before .before .before .before .before .before .before .before .before .before .before .before .before .first-in .ensures))) ((c .before .before .before .before .before .before .before .before .before .before .before .before .before .before .before .before .before .before .visit .ensures .same) rs h) _ _ _ (c .before .before .before .before .before .before .before .before .before .before .before .before .before .before .outcome .given .1) (c .before .before .before .before .before .before .before .before .before .before .before .value .given .1)) _ _ (c .before .before .before .before .before .before .if1 .left) (c .before .before .before .listed .ensures)) _ (c .before .enum-told3 .given .1) (c .ended2 .ensures) }
+visit-select-returns-4 t c = record { same = λ rs h. select-missing _ _ _ _ _ _ _ _ _ _ _ _ _ ((c .before .before .before .before .before .before .before .before .before .before .before .before .before .before .before .before .before .before .visit .ensures .same) rs h) (c .before .before .before .before .before .before .before .before .before .before .before .before .before .before .before .before .before .before .before .before .before .before .before .before .pre .1 .1) (first-read _ _ _ _ _ (c .before .before .before .before .before .before .before .before .before .before .before .before .before .before .before .before .before .before .before .before .before .before .before .before .pre .1 .0 .table) (c .before .before .before .before .before .before .before .before .before .before .before .before .before .before .before .before .before .before .before .before .before .before .before .before .pre .1 .1) (c .before .before .before .before .before .before .before .before .before .before .before .before .before .before .before .before .before .before .before .before .before .entry .ensures) (λ q. omega (arith, q)) _ (c .before .before .before .before .before .before .before .before .before .before .before .before .before .before .before .before .before .before .before .before .first-in .ensures)) _ _ _ (c .before .before .before .before .before .before .before .before .before .before .before .before .before .before .outcome .given .1) (c .before .before .before .before .before .before .before .before .before .before .before .value .given .1) _ (second-read _ _ _ _ _ (c .before .before .before .before .before .before .before .before .before .before .before .before .before .before .before .before .before .before .before .before .before .before .before .before .pre .1 .0 .table) (c .before .before .before .before .before .before .before .before .before .before .before .before .before .before .before .before .before .before .before .before .before .before .before .before .pre .1 .1) (c .before .before .before .before .before .before .before .before .before .entry2 .ensures) (plain-between 51 (omega arith) (omega arith)) _ (c .before .before .before .before .before .before .before .before .second-in .ensures)) _ refl _ (c .before .before .before .before .before .before .if1 .left) (member-read _ _ (c .before .before .before .before .before .before .before .before .before .before .before .before .before .before .before .before .before .before .before .before .before .before .before .before .pre .1 .0 .accepted) _ _ _ _ (c .before .before .before .before .before .before .before .before .before .before .before .before .before .before .before .before .before .before .before .before .before .before .before .before .pre .1 .0 .table) (c .before .before .before .before .before .before .before .entry3 .ensures) (c .before .before .before .before .before .second-in2 .ensures) (c .before .before .before .before .third-in .ensures) (reached-tuple _ (c .before .before .before .before .before .before .before .before .before .before .before .before .before .before .before .before .before .before .before .before .before .before .before .before .pre .1 .0 .accepted) _ _ _ _ _ _ _ _ _ _ (select-child _ _ _ (c .before .before .before .before .before .before .before .before .before .before .before .before .before .before .before .before .before .before .before .before .before .before .before .before .pre .1 .0 .accepted) _ (c .before .before .before .before .before .before .before .before .before .before .before .before .before .before .before .before .before .before .before .before .before .before .before .before .pre .1 .1) (first-read _ _ _ _ _ (c .before .before .before .before .before .before .before .before .before .before .before .before .before .before .before .before .before .before .before .before .before .before .before .before .pre .1 .0 .table) (c .before .before .before .before .before .before .before .before .before .before .before .before .before .before .before .before .before .before .before .before .before .before .before .before .pre .1 .1) (c .before .before .before .before .before .before .before .before .before .before .before .before .before .before .before .before .before .before .before .before .before .entry .ensures) (λ q. omega (arith, q)) _ (c .before .before .before .before .before .before .before .before .before .before .before .before .before .before .before .before .before .before .before .before .first-in .ensures))) ((c .before .before .before .before .before .before .before .before .before .before .before .before .before .before .before .before .before .before .visit .ensures .same) rs h) _ _ _ (c .before .before .before .before .before .before .before .before .before .before .before .before .before .before .outcome .given .1) (c .before .before .before .before .before .before .before .before .before .before .before .value .given .1)) _ _ (c .before .before .before .before .before .before .if1 .left) (c .before .before .before .listed .ensures)) _ (c .before .enum-told3 .given .1) (c .ended2 .ensures) }
 
 visit-select-visit-requires-2 : (t : ℕ) → visit-select-lts.Need-visit-requires-2 (visit-select-claims t) (visit-select-at t) visit-select.Post
 visit-select-visit-requires-2 t c κs = (falls-on _ _ _ (reached-falls _ (c .before .before .before .before .before .before .before .before .before .before .before .before .before .before .before .before .before .before .before .before .before .before .before .before .before .pre .1 .0 .accepted) _ _ _ _ _ _ _ _ _ _ (select-child _ _ _ (c .before .before .before .before .before .before .before .before .before .before .before .before .before .before .before .before .before .before .before .before .before .before .before .before .before .pre .1 .0 .accepted) _ (c .before .before .before .before .before .before .before .before .before .before .before .before .before .before .before .before .before .before .before .before .before .before .before .before .before .pre .1 .1) (first-read _ _ _ _ _ (c .before .before .before .before .before .before .before .before .before .before .before .before .before .before .before .before .before .before .before .before .before .before .before .before .before .pre .1 .0 .table) (c .before .before .before .before .before .before .before .before .before .before .before .before .before .before .before .before .before .before .before .before .before .before .before .before .before .pre .1 .1) (c .before .before .before .before .before .before .before .before .before .before .before .before .before .before .before .before .before .before .before .before .before .before .entry .ensures) (λ q. omega (arith, q)) _ (c .before .before .before .before .before .before .before .before .before .before .before .before .before .before .before .before .before .before .before .before .before .first-in .ensures))) ((c .before .before .before .before .before .before .before .before .before .before .before .before .before .before .before .before .before .before .before .visit .ensures .same) (c .before .before .before .before .before .before .before .before .before .before .before .before .before .before .before .before .before .before .before .before .before .before .before .before .before .pre .1 .0 .readings) (c .before .before .before .before .before .before .before .before .before .before .before .before .before .before .before .before .before .before .before .before .before .before .before .before .before .pre .1 .0 .held))) (c .before .before .before .before .before .before .before .before .before .before .before .before .before .before .before .before .before .before .before .before .before .before .before .before .before .pre .0), ((c .before .before .before .before .before .before .before .before .before .before .before .before .before .before .before .before .before .before .before .before .before .before .before .before .before .pre .1 .0), member-child _ (c .before .before .before .before .before .before .before .before .before .before .before .before .before .before .before .before .before .before .before .before .before .before .before .before .before .pre .1 .0 .accepted) _ _ _ _ _ (reached-tuple _ (c .before .before .before .before .before .before .before .before .before .before .before .before .before .before .before .before .before .before .before .before .before .before .before .before .before .pre .1 .0 .accepted) _ _ _ _ _ _ _ _ _ _ (select-child _ _ _ (c .before .before .before .before .before .before .before .before .before .before .before .before .before .before .before .before .before .before .before .before .before .before .before .before .before .pre .1 .0 .accepted) _ (c .before .before .before .before .before .before .before .before .before .before .before .before .before .before .before .before .before .before .before .before .before .before .before .before .before .pre .1 .1) (first-read _ _ _ _ _ (c .before .before .before .before .before .before .before .before .before .before .before .before .before .before .before .before .before .before .before .before .before .before .before .before .before .pre .1 .0 .table) (c .before .before .before .before .before .before .before .before .before .before .before .before .before .before .before .before .before .before .before .before .before .before .before .before .before .pre .1 .1) (c .before .before .before .before .before .before .before .before .before .before .before .before .before .before .before .before .before .before .before .before .before .before .entry .ensures) (λ q. omega (arith, q)) _ (c .before .before .before .before .before .before .before .before .before .before .before .before .before .before .before .before .before .before .before .before .before .first-in .ensures))) ((c .before .before .before .before .before .before .before .before .before .before .before .before .before .before .before .before .before .before .before .visit .ensures .same) (c .before .before .before .before .before .before .before .before .before .before .before .before .before .before .before .before .before .before .before .before .before .before .before .before .before .pre .1 .0 .readings) (c .before .before .before .before .before .before .before .before .before .before .before .before .before .before .before .before .before .before .before .before .before .before .before .before .before .pre .1 .0 .held)) _ _ _ (c .before .before .before .before .before .before .before .before .before .before .before .before .before .before .before .outcome .given .1) (c .before .before .before .before .before .before .before .before .before .before .before .before .value .given .1)) refl (member-read _ _ (c .before .before .before .before .before .before .before .before .before .before .before .before .before .before .before .before .before .before .before .before .before .before .before .before .before .pre .1 .0 .accepted) _ _ _ _ (c .before .before .before .before .before .before .before .before .before .before .before .before .before .before .before .before .before .before .before .before .before .before .before .before .before .pre .1 .0 .table) (c .before .before .before .before .before .before .before .before .entry3 .ensures) (c .before .before .before .before .before .before .second-in2 .ensures) (c .before .before .before .before .before .third-in .ensures) (reached-tuple _ (c .before .before .before .before .before .before .before .before .before .before .before .before .before .before .before .before .before .before .before .before .before .before .before .before .before .pre .1 .0 .accepted) _ _ _ _ _ _ _ _ _ _ (select-child _ _ _ (c .before .before .before .before .before .before .before .before .before .before .before .before .before .before .before .before .before .before .before .before .before .before .before .before .before .pre .1 .0 .accepted) _ (c .before .before .before .before .before .before .before .before .before .before .before .before .before .before .before .before .before .before .before .before .before .before .before .before .before .pre .1 .1) (first-read _ _ _ _ _ (c .before .before .before .before .before .before .before .before .before .before .before .before .before .before .before .before .before .before .before .before .before .before .before .before .before .pre .1 .0 .table) (c .before .before .before .before .before .before .before .before .before .before .before .before .before .before .before .before .before .before .before .before .before .before .before .before .before .pre .1 .1) (c .before .before .before .before .before .before .before .before .before .before .before .before .before .before .before .before .before .before .before .before .before .before .entry .ensures) (λ q. omega (arith, q)) _ (c .before .before .before .before .before .before .before .before .before .before .before .before .before .before .before .before .before .before .before .before .before .first-in .ensures))) ((c .before .before .before .before .before .before .before .before .before .before .before .before .before .before .before .before .before .before .before .visit .ensures .same) (c .before .before .before .before .before .before .before .before .before .before .before .before .before .before .before .before .before .before .before .before .before .before .before .before .before .pre .1 .0 .readings) (c .before .before .before .before .before .before .before .before .before .before .before .before .before .before .before .before .before .before .before .before .before .before .before .before .before .pre .1 .0 .held)) _ _ _ (c .before .before .before .before .before .before .before .before .before .before .before .before .before .before .before .outcome .given .1) (c .before .before .before .before .before .before .before .before .before .before .before .before .value .given .1)) _ _ (c .before .before .before .before .before .before .before .if1 .left) (c .before .before .before .before .listed .ensures)) (c .before .before .found .given .1)))
 
 visit-select-returns-5 : (t : ℕ) → visit-select-lts.Need-returns-5 (visit-select-claims t) (visit-select-at t) visit-select.Post
-visit-select-returns-5 t c = record { same = λ rs h. select-on _ _ _ _ _ _ _ _ _ _ _ _ _ ((c .before .before .before .before .before .before .before .before .before .before .before .before .before .before .before .before .before .before .before .before .before .before .visit .ensures .same) rs h) (c .before .before .before .before .before .before .before .before .before .before .before .before .before .before .before .before .before .before .before .before .before .before .before .before .before .before .before .before .pre .1 .1) (first-read _ _ _ _ _ (c .before .before .before .before .before .before .before .before .before .before .before .before .before .before .before .before .before .before .before .before .before .before .before .before .before .before .before .before .pre .1 .0 .table) (c .before .before .before .before .before .before .before .before .before .before .before .before .before .before .before .before .before .before .before .before .before .before .before .before .before .before .before .before .pre .1 .1) (c .before .before .before .before .before .before .before .before .before .before .before .before .before .before .before .before .before .before .before .before .before .before .before .before .before .entry .ensures) (λ q. omega (arith, q)) _ (c .before .before .before .before .before .before .before .before .before .before .before .before .before .before .before .before .before .before .before .before .before .before .before .before .first-in .ensures)) _ _ _ (c .before .before .before .before .before .before .before .before .before .before .before .before .before .before .before .before .before .before .outcome .given .1) (c .before .before .before .before .before .before .before .before .before .before .before .before .before .before .before .value .given .1) _ (second-read _ _ _ _ _ (c .before .before .before .before .before .before .before .before .before .before .before .before .before .before .before .before .before .before .before .before .before .before .before .before .before .before .before .before .pre .1 .0 .table) (c .before .before .before .before .before .before .before .before .before .before .before .before .before .before .before .before .before .before .before .before .before .before .before .before .before .before .before .before .pre .1 .1) (c .before .before .before .before .before .before .before .before .before .before .before .before .before .entry2 .ensures) plain-select _ (c .before .before .before .before .before .before .before .before .before .before .before .before .second-in .ensures)) _ refl _ (c .before .before .before .before .before .before .before .before .before .before .if1 .left) (member-read _ _ (c .before .before .before .before .before .before .before .before .before .before .before .before .before .before .before .before .before .before .before .before .before .before .before .before .before .before .before .before .pre .1 .0 .accepted) _ _ _ _ (c .before .before .before .before .before .before .before .before .before .before .before .before .before .before .before .before .before .before .before .before .before .before .before .before .before .before .before .before .pre .1 .0 .table) (c .before .before .before .before .before .before .before .before .before .before .before .entry3 .ensures) (c .before .before .before .before .before .before .before .before .before .second-in2 .ensures) (c .before .before .before .before .before .before .before .before .third-in .ensures) (reached-tuple _ (c .before .before .before .before .before .before .before .before .before .before .before .before .before .before .before .before .before .before .before .before .before .before .before .before .before .before .before .before .pre .1 .0 .accepted) _ _ _ _ _ _ _ _ _ _ (select-child _ _ _ (c .before .before .before .before .before .before .before .before .before .before .before .before .before .before .before .before .before .before .before .before .before .before .before .before .before .before .before .before .pre .1 .0 .accepted) _ (c .before .before .before .before .before .before .before .before .before .before .before .before .before .before .before .before .before .before .before .before .before .before .before .before .before .before .before .before .pre .1 .1) (first-read _ _ _ _ _ (c .before .before .before .before .before .before .before .before .before .before .before .before .before .before .before .before .before .before .before .before .before .before .before .before .before .before .before .before .pre .1 .0 .table) (c .before .before .before .before .before .before .before .before .before .before .before .before .before .before .before .before .before .before .before .before .before .before .before .before .before .before .before .before .pre .1 .1) (c .before .before .before .before .before .before .before .before .before .before .before .before .before .before .before .before .before .before .before .before .before .before .before .before .before .entry .ensures) (λ q. omega (arith, q)) _ (c .before .before .before .before .before .before .before .before .before .before .before .before .before .before .before .before .before .before .before .before .before .before .before .before .first-in .ensures))) ((c .before .before .before .before .before .before .before .before .before .before .before .before .before .before .before .before .before .before .before .before .before .before .visit .ensures .same) rs h) _ _ _ (c .before .before .before .before .before .before .before .before .before .before .before .before .before .before .before .before .before .before .outcome .given .1) (c .before .before .before .before .before .before .before .before .before .before .before .before .before .before .before .value .given .1)) _ _ (c .before .before .before .before .before .before .before .before .before .before .if1 .left) (c .before .before .before .before .before .before .before .listed .ensures)) _ _ _ (c .before .before .before .before .before .found .given .1) ((c .before .before .visit2 .ensures .same) rs h) }
+visit-select-returns-5 t c = record { same = λ rs h. select-on _ _ _ _ _ _ _ _ _ _ _ _ _ ((c .before .before .before .before .before .before .before .before .before .before .before .before .before .before .before .before .before .before .before .before .before .before .visit .ensures .same) rs h) (c .before .before .before .before .before .before .before .before .before .before .before .before .before .before .before .before .before .before .before .before .before .before .before .before .before .before .before .before .pre .1 .1) (first-read _ _ _ _ _ (c .before .before .before .before .before .before .before .before .before .before .before .before .before .before .before .before .before .before .before .before .before .before .before .before .before .before .before .before .pre .1 .0 .table) (c .before .before .before .before .before .before .before .before .before .before .before .before .before .before .before .before .before .before .before .before .before .before .before .before .before .before .before .before .pre .1 .1) (c .before .before .before .before .before .before .before .before .before .before .before .before .before .before .before .before .before .before .before .before .before .before .before .before .before .entry .ensures) (λ q. omega (arith, q)) _ (c .before .before .before .before .before .before .before .before .before .before .before .before .before .before .before .before .before .before .before .before .before .before .before .before .first-in .ensures)) _ _ _ (c .before .before .before .before .before .before .before .before .before .before .before .before .before .before .before .before .before .before .outcome .given .1) (c .before .before .before .before .before .before .before .before .before .before .before .before .before .before .before .value .given .1) _ (second-read _ _ _ _ _ (c .before .before .before .before .before .before .before .before .before .before .before .before .before .before .before .before .before .before .before .before .before .before .before .before .before .before .before .before .pre .1 .0 .table) (c .before .before .before .before .before .before .before .before .before .before .before .before .before .before .before .before .before .before .before .before .before .before .before .before .before .before .before .before .pre .1 .1) (c .before .before .before .before .before .before .before .before .before .before .before .before .before .entry2 .ensures) (plain-between 51 (omega arith) (omega arith)) _ (c .before .before .before .before .before .before .before .before .before .before .before .before .second-in .ensures)) _ refl _ (c .before .before .before .before .before .before .before .before .before .before .if1 .left) (member-read _ _ (c .before .before .before .before .before .before .before .before .before .before .before .before .before .before .before .before .before .before .before .before .before .before .before .before .before .before .before .before .pre .1 .0 .accepted) _ _ _ _ (c .before .before .before .before .before .before .before .before .before .before .before .before .before .before .before .before .before .before .before .before .before .before .before .before .before .before .before .before .pre .1 .0 .table) (c .before .before .before .before .before .before .before .before .before .before .before .entry3 .ensures) (c .before .before .before .before .before .before .before .before .before .second-in2 .ensures) (c .before .before .before .before .before .before .before .before .third-in .ensures) (reached-tuple _ (c .before .before .before .before .before .before .before .before .before .before .before .before .before .before .before .before .before .before .before .before .before .before .before .before .before .before .before .before .pre .1 .0 .accepted) _ _ _ _ _ _ _ _ _ _ (select-child _ _ _ (c .before .before .before .before .before .before .before .before .before .before .before .before .before .before .before .before .before .before .before .before .before .before .before .before .before .before .before .before .pre .1 .0 .accepted) _ (c .before .before .before .before .before .before .before .before .before .before .before .before .before .before .before .before .before .before .before .before .before .before .before .before .before .before .before .before .pre .1 .1) (first-read _ _ _ _ _ (c .before .before .before .before .before .before .before .before .before .before .before .before .before .before .before .before .before .before .before .before .before .before .before .before .before .before .before .before .pre .1 .0 .table) (c .before .before .before .before .before .before .before .before .before .before .before .before .before .before .before .before .before .before .before .before .before .before .before .before .before .before .before .before .pre .1 .1) (c .before .before .before .before .before .before .before .before .before .before .before .before .before .before .before .before .before .before .before .before .before .before .before .before .before .entry .ensures) (λ q. omega (arith, q)) _ (c .before .before .before .before .before .before .before .before .before .before .before .before .before .before .before .before .before .before .before .before .before .before .before .before .first-in .ensures))) ((c .before .before .before .before .before .before .before .before .before .before .before .before .before .before .before .before .before .before .before .before .before .before .visit .ensures .same) rs h) _ _ _ (c .before .before .before .before .before .before .before .before .before .before .before .before .before .before .before .before .before .before .outcome .given .1) (c .before .before .before .before .before .before .before .before .before .before .before .before .before .before .before .value .given .1)) _ _ (c .before .before .before .before .before .before .before .before .before .before .if1 .left) (c .before .before .before .before .before .before .before .listed .ensures)) _ _ _ (c .before .before .before .before .before .found .given .1) ((c .before .before .visit2 .ensures .same) rs h) }
 
 pub +evaluate+visit+visit-case+visit-conditional+visit-operator+visit-select-spec :
     {M : Type 1} → statement M
