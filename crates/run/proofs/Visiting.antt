@@ -80,7 +80,7 @@ module _ (b : List ℕ) (most nest₀ k₀ w₀ left₀ made₀ : ℕ) (cells₀
         → reachedOf r cells ≡ visits b rs most nest₀ k₀ w₀ (stateOf left₀ made₀ cells₀)
     visiting-no-nesting rs r e l = visit-no-nesting b rs most k w made cells nest left r h e l ∙ sym (v .same rs)
 
-    pub visiting-falls : (t : ℕ) → 3 * left₀ ≡ t → 3 * (left - 1) + 2 < t
+    pub visiting-falls : (t : ℕ) → 4 * left₀ ≡ t → 4 * (left - 1) + 3 < t
     visiting-falls t e = let f = v .fewer in omega arith
 
     module _ (g : nest ≡ 0 → ⊥) (o : Next) (during : List ℕ) (d : Leads b most k w made cells o during) where

@@ -91,10 +91,7 @@ fn evaluate(
 {
     let node = entry(tab, k);
     let kind = kind_in(node);
-    if kind == translation_kinds::NUMBER {
-        return number(number_in(node), left, made);
-    }
-    if kind == translation_kinds::READING {
+    if kind <= translation_kinds::READING {
         return number(number_in(node), left, made);
     }
     if kind == translation_kinds::TUPLE {
@@ -150,6 +147,32 @@ fn visit_select(
     visit(b, tab, cells, most, nest, m, v, left, made)
 }
 
+// Visits an operand. A number or a reading is taken from the table at once.
+fn visit_operand(
+    b: &[u8],
+    tab: &[u64; 1024],
+    cells: &mut [u8],
+    most: u16,
+    nest: u16,
+    k: u16,
+    w: u16,
+    left: u32,
+    made: u16,
+) -> State
+    requires { ⌜ Equipped (now b) (now tab) × (k < nodes (now b)) ⌝ }
+    ensures { λ r. ⌜ Visits (now (b .entry)) (now (tab .entry)) most nest k w left made (now (cells .entry)) r (now (cells .exit)) ⌝ }
+{
+    let node = entry(tab, k);
+    if kind_in(node) <= translation_kinds::READING {
+        if left != 0 {
+            if nest != 0 {
+                return number(number_in(node), left - 1, made);
+            }
+        }
+    }
+    visit(b, tab, cells, most, nest, k, w, left, made)
+}
+
 // An operator: the left operand has to be a number before the right is visited.
 fn visit_operator(
     b: &[u8],
@@ -166,7 +189,7 @@ fn visit_operator(
     ensures { λ r. ⌜ Evaluates (now (b .entry)) (now (tab .entry)) most nest k w left made (now (cells .entry)) r (now (cells .exit)) ⌝ }
 {
     let n = second_in(entry(tab, k));
-    let first = visit(b, tab, cells, most, nest, n, w, left, made);
+    let first = visit_operand(b, tab, cells, most, nest, n, w, left, made);
     let outcome = first.outcome;
     let Outcome::Value(value) = outcome else {
         return first;
@@ -177,7 +200,7 @@ fn visit_operator(
         return ended(numbers::NUMBER_WANTED, left, made);
     };
     let m = third_in(entry(tab, k));
-    let second = visit(b, tab, cells, most, nest, m, w, left, made);
+    let second = visit_operand(b, tab, cells, most, nest, m, w, left, made);
     let outcome = second.outcome;
     let Outcome::Value(value) = outcome else {
         return second;

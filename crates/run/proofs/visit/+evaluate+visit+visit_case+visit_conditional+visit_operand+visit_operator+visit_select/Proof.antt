@@ -1,11 +1,12 @@
--- The cycle of visits meets its contracts. The measure is three for each step left; one more where the kind is told, two more before.
+-- The cycle of visits meets its contracts. The measure is four for each step left; one more for an operand, two
+-- where the kind is told, three before.
 use borrow.Author.Needs.{needs}
-use Rattle.run.proofs.Nodes.{falls-told, falls-on, falls-same, select-child, left-child, right-child, condition-child, branch-child, scrutinee-child, clause-child, reached-falls, reached-tuple, member-child}
+use Rattle.run.proofs.Nodes.{falls-told, falls-on, falls-same, falls-to-operand, falls-from-operand, select-child, left-child, right-child, condition-child, branch-child, scrutinee-child, clause-child, reached-falls, reached-tuple, member-child}
 use Rattle.run.proofs.ConstructorSteps.{select-ended, select-number, select-tag, select-missing, select-on, case-ended, case-number, case-missing, case-on}
 use Rattle.run.proofs.NumberSteps.{conditional-ended, conditional-constructor, conditional-on, left-ended, left-constructor, right-ended, right-constructor, operator-on}
-use Rattle.run.proofs.Steps.{number-step, reading-step, tuple-step}
+use Rattle.run.proofs.Steps.{visit-counted, tuple-step}
 use Rattle.run.proofs.Visiting.{Visiting, visiting-begins, visiting-no-step, visiting-no-nesting, visiting-falls, visiting-goes-on, visiting-ended, visiting-remains, visiting-other}
-use Rattle.run.proofs.EntryReads.{plain-between, kind-read, first-read, second-read, third-read, tag-read, number-read, reading-read, member-room, member-read, case-read, entry-room, clause-read, branch-read}
+use Rattle.run.proofs.EntryReads.{plain-between, kind-read, first-read, second-read, third-read, tag-read, value-step, member-room, member-read, case-read, entry-room, clause-read, branch-read}
 use Rattle.run.proofs.NodeKinds.{node-is, node-remaining}
 use mir.ValLaws.{toZ-ofZ}
 use mir.Syntax.{w32}
@@ -16,22 +17,25 @@ use borrow.Fn.Kinds.{In}
 use borrow.Fn.PlainCycle.{Measures, is, falls, and}
 use Rattle.run.proofs.visit.evaluate.Reads as evaluate
 use Rattle.run.proofs.visit.evaluate.Kinds as evaluate-kinds
-use Rattle.run.proofs.visit.+evaluate+visit+visit_case+visit_conditional+visit_operator+visit_select.Lts-evaluate as evaluate-lts
+use Rattle.run.proofs.visit.+evaluate+visit+visit_case+visit_conditional+visit_operand+visit_operator+visit_select.Lts-evaluate as evaluate-lts
 use Rattle.run.proofs.visit.visit.Reads as visit
 use Rattle.run.proofs.visit.visit.Kinds as visit-kinds
-use Rattle.run.proofs.visit.+evaluate+visit+visit_case+visit_conditional+visit_operator+visit_select.Lts-visit as visit-lts
+use Rattle.run.proofs.visit.+evaluate+visit+visit_case+visit_conditional+visit_operand+visit_operator+visit_select.Lts-visit as visit-lts
 use Rattle.run.proofs.visit.visit_case.Reads as visit-case
 use Rattle.run.proofs.visit.visit_case.Kinds as visit-case-kinds
-use Rattle.run.proofs.visit.+evaluate+visit+visit_case+visit_conditional+visit_operator+visit_select.Lts-visit_case as visit-case-lts
+use Rattle.run.proofs.visit.+evaluate+visit+visit_case+visit_conditional+visit_operand+visit_operator+visit_select.Lts-visit_case as visit-case-lts
 use Rattle.run.proofs.visit.visit_conditional.Reads as visit-conditional
 use Rattle.run.proofs.visit.visit_conditional.Kinds as visit-conditional-kinds
-use Rattle.run.proofs.visit.+evaluate+visit+visit_case+visit_conditional+visit_operator+visit_select.Lts-visit_conditional as visit-conditional-lts
+use Rattle.run.proofs.visit.+evaluate+visit+visit_case+visit_conditional+visit_operand+visit_operator+visit_select.Lts-visit_conditional as visit-conditional-lts
+use Rattle.run.proofs.visit.visit_operand.Reads as visit-operand
+use Rattle.run.proofs.visit.visit_operand.Kinds as visit-operand-kinds
+use Rattle.run.proofs.visit.+evaluate+visit+visit_case+visit_conditional+visit_operand+visit_operator+visit_select.Lts-visit_operand as visit-operand-lts
 use Rattle.run.proofs.visit.visit_operator.Reads as visit-operator
 use Rattle.run.proofs.visit.visit_operator.Kinds as visit-operator-kinds
-use Rattle.run.proofs.visit.+evaluate+visit+visit_case+visit_conditional+visit_operator+visit_select.Lts-visit_operator as visit-operator-lts
+use Rattle.run.proofs.visit.+evaluate+visit+visit_case+visit_conditional+visit_operand+visit_operator+visit_select.Lts-visit_operator as visit-operator-lts
 use Rattle.run.proofs.visit.visit_select.Reads as visit-select
 use Rattle.run.proofs.visit.visit_select.Kinds as visit-select-kinds
-use Rattle.run.proofs.visit.+evaluate+visit+visit_case+visit_conditional+visit_operator+visit_select.Lts-visit_select as visit-select-lts
+use Rattle.run.proofs.visit.+evaluate+visit+visit_case+visit_conditional+visit_operand+visit_operator+visit_select.Lts-visit_select as visit-select-lts
 use Rattle.format.proofs.records.record_at.Reads as record-at-reads
 use Rattle.format.proofs.records.wide.Reads as wide-reads
 use Rattle.operators.proofs.compute.Reads as compute-reads
@@ -50,30 +54,33 @@ use Rattle.run.proofs.state.ended.Reads as ended-reads
 use Rattle.run.proofs.state.given.Reads as given-reads
 use Rattle.run.proofs.state.number.Reads as number-reads
 use Rattle.run.proofs.state.tag.Reads as tag-reads
-use Rattle.run.proofs.visit.+evaluate+visit+visit_case+visit_conditional+visit_operator+visit_select.{
+use Rattle.run.proofs.visit.+evaluate+visit+visit_case+visit_conditional+visit_operand+visit_operator+visit_select.{
   statement,
 }
-use Rattle.run.proofs.visit.+evaluate+visit+visit_case+visit_conditional+visit_operator+visit_select.Tie.{
+use Rattle.run.proofs.visit.+evaluate+visit+visit_case+visit_conditional+visit_operand+visit_operator+visit_select.Tie.{
   close,
 }
 
 abbrev μ-evaluate : Measures 3 evaluate-kinds.ps ℕ
-μ-evaluate κs a = 3 * a .1 .1 .1 .1 .1 .1 .1 .0 + 2
+μ-evaluate κs a = 4 * a .1 .1 .1 .1 .1 .1 .1 .0 + 3
 
 abbrev μ-visit : Measures 3 visit-kinds.ps ℕ
-μ-visit κs a = 3 * a .1 .1 .1 .1 .1 .1 .1 .0
+μ-visit κs a = 4 * a .1 .1 .1 .1 .1 .1 .1 .0
 
 abbrev μ-visit-case : Measures 3 visit-case-kinds.ps ℕ
-μ-visit-case κs a = 3 * a .1 .1 .1 .1 .1 .1 .1 .0 + 1
+μ-visit-case κs a = 4 * a .1 .1 .1 .1 .1 .1 .1 .0 + 2
 
 abbrev μ-visit-conditional : Measures 3 visit-conditional-kinds.ps ℕ
-μ-visit-conditional κs a = 3 * a .1 .1 .1 .1 .1 .1 .1 .0 + 1
+μ-visit-conditional κs a = 4 * a .1 .1 .1 .1 .1 .1 .1 .0 + 2
+
+abbrev μ-visit-operand : Measures 3 visit-operand-kinds.ps ℕ
+μ-visit-operand κs a = 4 * a .1 .1 .1 .1 .1 .1 .1 .0 + 1
 
 abbrev μ-visit-operator : Measures 3 visit-operator-kinds.ps ℕ
-μ-visit-operator κs a = 3 * a .1 .1 .1 .1 .1 .1 .1 .0 + 1
+μ-visit-operator κs a = 4 * a .1 .1 .1 .1 .1 .1 .1 .0 + 2
 
 abbrev μ-visit-select : Measures 3 visit-select-kinds.ps ℕ
-μ-visit-select κs a = 3 * a .1 .1 .1 .1 .1 .1 .1 .0 + 1
+μ-visit-select κs a = 4 * a .1 .1 .1 .1 .1 .1 .1 .0 + 2
 
 abbrev evaluate-at : ℕ → In 3 evaluate-kinds.ps
 evaluate-at t = and 3 evaluate-kinds.ps (is 3 evaluate-kinds.ps μ-evaluate t) evaluate.Pre
@@ -111,6 +118,18 @@ visit-conditional-below t =
     visit-conditional-kinds.ps
     (falls 3 visit-conditional-kinds.ps _<_ μ-visit-conditional t)
     visit-conditional.Pre
+
+abbrev visit-operand-at : ℕ → In 3 visit-operand-kinds.ps
+visit-operand-at t =
+    and 3 visit-operand-kinds.ps (is 3 visit-operand-kinds.ps μ-visit-operand t) visit-operand.Pre
+
+abbrev visit-operand-below : ℕ → In 3 visit-operand-kinds.ps
+visit-operand-below t =
+    and
+    3
+    visit-operand-kinds.ps
+    (falls 3 visit-operand-kinds.ps _<_ μ-visit-operand t)
+    visit-operand.Pre
 
 abbrev visit-operator-at : ℕ → In 3 visit-operator-kinds.ps
 visit-operator-at t =
@@ -156,9 +175,13 @@ abbrev visit-conditional-claims : ℕ → visit-conditional-lts.Claims
 visit-conditional-claims t =
     (entry-reads.Asked, entry-reads.Learnt, first-in-reads.Asked, first-in-reads.Learnt, visit-below t, visit.Post, ended-reads.Asked, ended-reads.Learnt, second-in-reads.Asked, second-in-reads.Learnt, third-in-reads.Asked, third-in-reads.Learnt, branch-reads.Asked, branch-reads.Learnt)
 
+abbrev visit-operand-claims : ℕ → visit-operand-lts.Claims
+visit-operand-claims t =
+    (entry-reads.Asked, entry-reads.Learnt, kind-in-reads.Asked, kind-in-reads.Learnt, number-in-reads.Asked, number-in-reads.Learnt, number-reads.Asked, number-reads.Learnt, visit-below t, visit.Post)
+
 abbrev visit-operator-claims : ℕ → visit-operator-lts.Claims
 visit-operator-claims t =
-    (entry-reads.Asked, entry-reads.Learnt, second-in-reads.Asked, second-in-reads.Learnt, visit-below t, visit.Post, ended-reads.Asked, ended-reads.Learnt, third-in-reads.Asked, third-in-reads.Learnt, first-in-reads.Asked, first-in-reads.Learnt, compute-reads.Asked, compute-reads.Learnt, given-reads.Asked, given-reads.Learnt)
+    (entry-reads.Asked, entry-reads.Learnt, second-in-reads.Asked, second-in-reads.Learnt, visit-operand-below t, visit-operand.Post, ended-reads.Asked, ended-reads.Learnt, third-in-reads.Asked, third-in-reads.Learnt, first-in-reads.Asked, first-in-reads.Learnt, compute-reads.Asked, compute-reads.Learnt, given-reads.Asked, given-reads.Learnt)
 
 abbrev visit-select-claims : ℕ → visit-select-lts.Claims
 visit-select-claims t =
@@ -175,37 +198,34 @@ evaluate-entry-requires : (t : ℕ) → evaluate-lts.Need-entry-requires (evalua
 evaluate-entry-requires t c κs = entry-room _ _ (c .before .before .pre .1 .0 .accepted) (c .before .before .pre .1 .1)
 
 evaluate-returns : (t : ℕ) → evaluate-lts.Need-returns (evaluate-claims t) (evaluate-at t) evaluate.Post
-evaluate-returns t c = record { same = λ rs h. number-step _ _ _ _ _ _ _ _ _ _ _ _ _ (node-is _ _ _ _ _ (c .before .before .before .before .before .before .before .pre .1 .1) refl (kind-read _ _ _ _ _ (c .before .before .before .before .before .before .before .pre .1 .0 .table) (c .before .before .before .before .before .before .before .pre .1 .1) (c .before .before .before .before .entry .ensures) (c .before .before .before .kind-in .ensures)) (c .before .before .if1 .taken)) (toZ-ofZ w32 _ (record { sfits = search needs })) (number-read _ _ _ _ _ (c .before .before .before .before .before .before .before .pre .1 .0 .table) (node-is _ _ _ _ _ (c .before .before .before .before .before .before .before .pre .1 .1) refl (kind-read _ _ _ _ _ (c .before .before .before .before .before .before .before .pre .1 .0 .table) (c .before .before .before .before .before .before .before .pre .1 .1) (c .before .before .before .before .entry .ensures) (c .before .before .before .kind-in .ensures)) (c .before .before .if1 .taken)) (c .before .before .before .before .entry .ensures) (c .before .number-in .ensures)) (c .number .ensures) }
+evaluate-returns t c = record { same = λ rs h. value-step _ _ _ _ _ _ _ _ _ _ (c .before .before .before .before .before .before .before .pre .1 .0 .accepted) (c .before .before .before .before .before .before .before .pre .1 .0 .table) h _ _ (c .before .before .before .before .before .before .before .pre .1 .1) (c .before .before .before .before .entry .ensures) (kind-read _ _ _ _ _ (c .before .before .before .before .before .before .before .pre .1 .0 .table) (c .before .before .before .before .before .before .before .pre .1 .1) (c .before .before .before .before .entry .ensures) (c .before .before .before .kind-in .ensures)) (c .before .before .if1 .taken) _ _ _ (toZ-ofZ w32 _ (record { sfits = search needs })) (c .before .number-in .ensures) (c .number .ensures) }
 
 evaluate-returns-2 : (t : ℕ) → evaluate-lts.Need-returns-2 (evaluate-claims t) (evaluate-at t) evaluate.Post
-evaluate-returns-2 t c = record { same = λ rs h. reading-step _ _ _ _ _ _ _ _ _ _ _ _ _ (node-is _ _ _ _ _ (c .before .before .before .before .before .before .before .before .pre .1 .1) refl (kind-read _ _ _ _ _ (c .before .before .before .before .before .before .before .before .pre .1 .0 .table) (c .before .before .before .before .before .before .before .before .pre .1 .1) (c .before .before .before .before .before .entry .ensures) (c .before .before .before .before .kind-in .ensures)) (c .before .before .if2 .taken)) (toZ-ofZ w32 _ (record { sfits = search needs })) (reading-read _ _ _ _ _ _ h (node-is _ _ _ _ _ (c .before .before .before .before .before .before .before .before .pre .1 .1) refl (kind-read _ _ _ _ _ (c .before .before .before .before .before .before .before .before .pre .1 .0 .table) (c .before .before .before .before .before .before .before .before .pre .1 .1) (c .before .before .before .before .before .entry .ensures) (c .before .before .before .before .kind-in .ensures)) (c .before .before .if2 .taken)) (c .before .before .before .before .before .entry .ensures) (c .before .number-in2 .ensures)) (c .number2 .ensures) }
-
-evaluate-returns-3 : (t : ℕ) → evaluate-lts.Need-returns-3 (evaluate-claims t) (evaluate-at t) evaluate.Post
-evaluate-returns-3 t c = record { same = λ rs h. tuple-step _ _ _ _ _ _ _ _ _ _ _ (node-is _ _ _ _ _ (c .before .before .before .before .before .before .before .before .pre .1 .1) refl (kind-read _ _ _ _ _ (c .before .before .before .before .before .before .before .before .pre .1 .0 .table) (c .before .before .before .before .before .before .before .before .pre .1 .1) (c .before .before .before .before .before .entry .ensures) (c .before .before .before .before .kind-in .ensures)) (c .before .if3 .taken)) (c .constructor .ensures) }
+evaluate-returns-2 t c = record { same = λ rs h. tuple-step _ _ _ _ _ _ _ _ _ _ _ (node-is _ _ _ _ _ (c .before .before .before .before .before .before .before .pre .1 .1) refl (kind-read _ _ _ _ _ (c .before .before .before .before .before .before .before .pre .1 .0 .table) (c .before .before .before .before .before .before .before .pre .1 .1) (c .before .before .before .before .entry .ensures) (c .before .before .before .kind-in .ensures)) (c .before .if2 .taken)) (c .constructor .ensures) }
 
 evaluate-visit-select-requires : (t : ℕ) → evaluate-lts.Need-visit-select-requires (evaluate-claims t) (evaluate-at t) evaluate.Post
-evaluate-visit-select-requires t c κs = (falls-told _ _ (c .before .before .before .before .before .before .before .before .before .pre .0), ((c .before .before .before .before .before .before .before .before .before .pre .1 .0), (node-is _ _ _ _ _ (c .before .before .before .before .before .before .before .before .before .pre .1 .1) refl (kind-read _ _ _ _ _ (c .before .before .before .before .before .before .before .before .before .pre .1 .0 .table) (c .before .before .before .before .before .before .before .before .before .pre .1 .1) (c .before .before .before .before .before .before .entry .ensures) (c .before .before .before .before .before .kind-in .ensures)) (c .before .if4 .taken))))
+evaluate-visit-select-requires t c κs = (falls-told _ _ (c .before .before .before .before .before .before .before .before .pre .0), ((c .before .before .before .before .before .before .before .before .pre .1 .0), (node-is _ _ _ _ _ (c .before .before .before .before .before .before .before .before .pre .1 .1) refl (kind-read _ _ _ _ _ (c .before .before .before .before .before .before .before .before .pre .1 .0 .table) (c .before .before .before .before .before .before .before .before .pre .1 .1) (c .before .before .before .before .before .entry .ensures) (c .before .before .before .before .kind-in .ensures)) (c .before .if3 .taken))))
 
-evaluate-returns-4 : (t : ℕ) → evaluate-lts.Need-returns-4 (evaluate-claims t) (evaluate-at t) evaluate.Post
-evaluate-returns-4 t c = (c .before .before .visit-select .ensures)
+evaluate-returns-3 : (t : ℕ) → evaluate-lts.Need-returns-3 (evaluate-claims t) (evaluate-at t) evaluate.Post
+evaluate-returns-3 t c = (c .before .before .visit-select .ensures)
 
 evaluate-visit-operator-requires : (t : ℕ) → evaluate-lts.Need-visit-operator-requires (evaluate-claims t) (evaluate-at t) evaluate.Post
-evaluate-visit-operator-requires t c κs = (falls-told _ _ (c .before .before .before .before .before .before .before .before .before .before .pre .0), ((c .before .before .before .before .before .before .before .before .before .before .pre .1 .0), (node-is _ _ _ _ _ (c .before .before .before .before .before .before .before .before .before .before .pre .1 .1) refl (kind-read _ _ _ _ _ (c .before .before .before .before .before .before .before .before .before .before .pre .1 .0 .table) (c .before .before .before .before .before .before .before .before .before .before .pre .1 .1) (c .before .before .before .before .before .before .before .entry .ensures) (c .before .before .before .before .before .before .kind-in .ensures)) (c .before .if5 .taken))))
+evaluate-visit-operator-requires t c κs = (falls-told _ _ (c .before .before .before .before .before .before .before .before .before .pre .0), ((c .before .before .before .before .before .before .before .before .before .pre .1 .0), (node-is _ _ _ _ _ (c .before .before .before .before .before .before .before .before .before .pre .1 .1) refl (kind-read _ _ _ _ _ (c .before .before .before .before .before .before .before .before .before .pre .1 .0 .table) (c .before .before .before .before .before .before .before .before .before .pre .1 .1) (c .before .before .before .before .before .before .entry .ensures) (c .before .before .before .before .before .kind-in .ensures)) (c .before .if4 .taken))))
 
-evaluate-returns-5 : (t : ℕ) → evaluate-lts.Need-returns-5 (evaluate-claims t) (evaluate-at t) evaluate.Post
-evaluate-returns-5 t c = (c .before .before .visit-operator .ensures)
+evaluate-returns-4 : (t : ℕ) → evaluate-lts.Need-returns-4 (evaluate-claims t) (evaluate-at t) evaluate.Post
+evaluate-returns-4 t c = (c .before .before .visit-operator .ensures)
 
 evaluate-visit-conditional-requires : (t : ℕ) → evaluate-lts.Need-visit-conditional-requires (evaluate-claims t) (evaluate-at t) evaluate.Post
-evaluate-visit-conditional-requires t c κs = (falls-told _ _ (c .before .before .before .before .before .before .before .before .before .before .before .pre .0), ((c .before .before .before .before .before .before .before .before .before .before .before .pre .1 .0), (node-is _ _ _ _ _ (c .before .before .before .before .before .before .before .before .before .before .before .pre .1 .1) refl (kind-read _ _ _ _ _ (c .before .before .before .before .before .before .before .before .before .before .before .pre .1 .0 .table) (c .before .before .before .before .before .before .before .before .before .before .before .pre .1 .1) (c .before .before .before .before .before .before .before .before .entry .ensures) (c .before .before .before .before .before .before .before .kind-in .ensures)) (c .before .if6 .taken))))
+evaluate-visit-conditional-requires t c κs = (falls-told _ _ (c .before .before .before .before .before .before .before .before .before .before .pre .0), ((c .before .before .before .before .before .before .before .before .before .before .pre .1 .0), (node-is _ _ _ _ _ (c .before .before .before .before .before .before .before .before .before .before .pre .1 .1) refl (kind-read _ _ _ _ _ (c .before .before .before .before .before .before .before .before .before .before .pre .1 .0 .table) (c .before .before .before .before .before .before .before .before .before .before .pre .1 .1) (c .before .before .before .before .before .before .before .entry .ensures) (c .before .before .before .before .before .before .kind-in .ensures)) (c .before .if5 .taken))))
 
-evaluate-returns-6 : (t : ℕ) → evaluate-lts.Need-returns-6 (evaluate-claims t) (evaluate-at t) evaluate.Post
-evaluate-returns-6 t c = (c .before .before .visit-conditional .ensures)
+evaluate-returns-5 : (t : ℕ) → evaluate-lts.Need-returns-5 (evaluate-claims t) (evaluate-at t) evaluate.Post
+evaluate-returns-5 t c = (c .before .before .visit-conditional .ensures)
 
 evaluate-visit-case-requires : (t : ℕ) → evaluate-lts.Need-visit-case-requires (evaluate-claims t) (evaluate-at t) evaluate.Post
-evaluate-visit-case-requires t c κs = (falls-told _ _ (c .before .before .before .before .before .before .before .before .before .before .before .pre .0), ((c .before .before .before .before .before .before .before .before .before .before .before .pre .1 .0), node-remaining _ _ _ (c .before .before .before .before .before .before .before .before .before .before .before .pre .1 .0 .accepted) (c .before .before .before .before .before .before .before .before .before .before .before .pre .1 .1) (kind-read _ _ _ _ _ (c .before .before .before .before .before .before .before .before .before .before .before .pre .1 .0 .table) (c .before .before .before .before .before .before .before .before .before .before .before .pre .1 .1) (c .before .before .before .before .before .before .before .before .entry .ensures) (c .before .before .before .before .before .before .before .kind-in .ensures)) (c .before .before .before .before .before .before .before .before .before .before .before .pre .1 .2) (c .before .before .before .before .before .before .if1 .left) (c .before .before .before .before .before .if2 .left) (c .before .before .before .if4 .left) (c .before .before .if5 .left) (c .before .if6 .left) (c .before .before .before .before .if3 .left)))
+evaluate-visit-case-requires t c κs = (falls-told _ _ (c .before .before .before .before .before .before .before .before .before .before .pre .0), ((c .before .before .before .before .before .before .before .before .before .before .pre .1 .0), node-remaining _ _ _ (c .before .before .before .before .before .before .before .before .before .before .pre .1 .0 .accepted) (c .before .before .before .before .before .before .before .before .before .before .pre .1 .1) (kind-read _ _ _ _ _ (c .before .before .before .before .before .before .before .before .before .before .pre .1 .0 .table) (c .before .before .before .before .before .before .before .before .before .before .pre .1 .1) (c .before .before .before .before .before .before .before .entry .ensures) (c .before .before .before .before .before .before .kind-in .ensures)) (c .before .before .before .before .before .before .before .before .before .before .pre .1 .2) (λ q. omega (arith, q, (c .before .before .before .before .before .if1 .left))) (λ q. omega (arith, q, (c .before .before .before .before .before .if1 .left))) (c .before .before .before .if3 .left) (c .before .before .if4 .left) (c .before .if5 .left) (c .before .before .before .before .if2 .left)))
 
-evaluate-returns-7 : (t : ℕ) → evaluate-lts.Need-returns-7 (evaluate-claims t) (evaluate-at t) evaluate.Post
-evaluate-returns-7 t c = (c .before .before .visit-case .ensures)
+evaluate-returns-6 : (t : ℕ) → evaluate-lts.Need-returns-6 (evaluate-claims t) (evaluate-at t) evaluate.Post
+evaluate-returns-6 t c = (c .before .before .visit-case .ensures)
 
 visit-loop-holds : (t : ℕ) → visit-lts.Need-loop-holds (visit-claims t) (visit-at t) visit.Post visit-Inv-loop visit-μ-loop
 visit-loop-holds t c = visiting-begins _ _ _ _ _ _ _ _ (c .before .before .pre .1 .1)
@@ -291,29 +311,41 @@ visit-conditional-visit-requires-2 t c κs = (falls-on _ _ _ (reached-falls _ (c
 visit-conditional-returns-3 : (t : ℕ) → visit-conditional-lts.Need-returns-3 (visit-conditional-claims t) (visit-conditional-at t) visit-conditional.Post
 visit-conditional-returns-3 t c = record { same = λ rs h. conditional-on _ _ _ _ _ _ _ _ _ _ _ _ _ ((c .before .before .before .before .before .before .before .before .before .before .before .before .before .before .before .before .visit .ensures .same) rs h) (c .before .before .before .before .before .before .before .before .before .before .before .before .before .before .before .before .before .before .before .before .before .before .pre .1 .1) (first-read _ _ _ _ _ (c .before .before .before .before .before .before .before .before .before .before .before .before .before .before .before .before .before .before .before .before .before .before .pre .1 .0 .table) (c .before .before .before .before .before .before .before .before .before .before .before .before .before .before .before .before .before .before .before .before .before .before .pre .1 .1) (c .before .before .before .before .before .before .before .before .before .before .before .before .before .before .before .before .before .before .before .entry .ensures) (λ q. omega (arith, q)) _ (c .before .before .before .before .before .before .before .before .before .before .before .before .before .before .before .before .before .before .first-in .ensures)) _ _ _ _ _ _ (c .before .before .before .before .before .before .before .before .before .before .before .before .outcome .given .1) (c .before .before .before .before .before .before .before .before .before .value .given .1) (toZ-ofZ w32 _ (record { sfits = search needs })) (branch-read _ _ _ _ _ (c .before .before .before .before .branch .ensures) (second-read _ _ _ _ _ (c .before .before .before .before .before .before .before .before .before .before .before .before .before .before .before .before .before .before .before .before .before .before .pre .1 .0 .table) (c .before .before .before .before .before .before .before .before .before .before .before .before .before .before .before .before .before .before .before .before .before .before .pre .1 .1) (c .before .before .before .before .before .before .before .entry2 .ensures) (plain-between 53 (omega arith) (omega arith)) _ (c .before .before .before .before .before .before .second-in .ensures)) (third-read _ _ _ _ _ (c .before .before .before .before .before .before .before .before .before .before .before .before .before .before .before .before .before .before .before .before .before .before .pre .1 .0 .table) (c .before .before .before .before .before .before .before .before .before .before .before .before .before .before .before .before .before .before .before .before .before .before .pre .1 .1) (c .before .before .before .before .before .before .before .entry2 .ensures) (plain-between 53 (omega arith) (omega arith)) _ (c .before .before .before .before .before .third-in .ensures))) ((c .before .before .visit2 .ensures .same) rs h) }
 
+visit-operand-entry-requires : (t : ℕ) → visit-operand-lts.Need-entry-requires (visit-operand-claims t) (visit-operand-at t) visit-operand.Post
+visit-operand-entry-requires t c κs = entry-room _ _ (c .before .before .pre .1 .0 .accepted) (c .before .before .pre .1 .1)
+
+visit-operand-returns : (t : ℕ) → visit-operand-lts.Need-returns (visit-operand-claims t) (visit-operand-at t) visit-operand.Post
+visit-operand-returns t c = record { same = λ rs h. value-step _ _ _ _ _ _ _ _ _ _ (c .before .before .before .before .before .before .before .before .before .pre .1 .0 .accepted) (c .before .before .before .before .before .before .before .before .before .pre .1 .0 .table) h _ _ (c .before .before .before .before .before .before .before .before .before .pre .1 .1) (c .before .before .before .before .before .before .entry .ensures) (kind-read _ _ _ _ _ (c .before .before .before .before .before .before .before .before .before .pre .1 .0 .table) (c .before .before .before .before .before .before .before .before .before .pre .1 .1) (c .before .before .before .before .before .before .entry .ensures) (c .before .before .before .before .before .kind-in .ensures)) (c .before .before .before .before .if1 .taken) _ _ _ (toZ-ofZ w32 _ (record { sfits = search needs })) (c .before .number-in .ensures) (c .number .ensures) ∙ visit-counted _ _ _ _ _ _ _ _ _ (c .before .before .before .if2 .taken) (c .before .before .if3 .taken) }
+
+visit-operand-visit-requires : (t : ℕ) → visit-operand-lts.Need-visit-requires (visit-operand-claims t) (visit-operand-at t) visit-operand.Post
+visit-operand-visit-requires t c κs = (falls-from-operand _ _ (c .before .before .before .before .before .before .pre .0), (c .before .before .before .before .before .before .pre .1))
+
+visit-operand-returns-2 : (t : ℕ) → visit-operand-lts.Need-returns-2 (visit-operand-claims t) (visit-operand-at t) visit-operand.Post
+visit-operand-returns-2 t c = (c .before .before .visit .ensures)
+
 visit-operator-entry-requires : (t : ℕ) → visit-operator-lts.Need-entry-requires (visit-operator-claims t) (visit-operator-at t) visit-operator.Post
 visit-operator-entry-requires t c κs = entry-room _ _ (c .before .before .pre .1 .0 .accepted) (c .before .before .pre .1 .1 .below)
 
-visit-operator-visit-requires : (t : ℕ) → visit-operator-lts.Need-visit-requires (visit-operator-claims t) (visit-operator-at t) visit-operator.Post
-visit-operator-visit-requires t c κs = (falls-same _ _ (c .before .before .before .before .before .pre .0), ((c .before .before .before .before .before .pre .1 .0), (left-child _ _ _ (c .before .before .before .before .before .pre .1 .0 .accepted) _ (c .before .before .before .before .before .pre .1 .1) (second-read _ _ _ _ _ (c .before .before .before .before .before .pre .1 .0 .table) (c .before .before .before .before .before .pre .1 .1) (c .before .before .entry .ensures) (plain-between 52 (omega arith) (omega arith)) _ (c .before .second-in .ensures)))))
+visit-operator-visit-operand-requires : (t : ℕ) → visit-operator-lts.Need-visit-operand-requires (visit-operator-claims t) (visit-operator-at t) visit-operator.Post
+visit-operator-visit-operand-requires t c κs = (falls-to-operand _ _ _ (omega arith) (c .before .before .before .before .before .pre .0), ((c .before .before .before .before .before .pre .1 .0), (left-child _ _ _ (c .before .before .before .before .before .pre .1 .0 .accepted) _ (c .before .before .before .before .before .pre .1 .1) (second-read _ _ _ _ _ (c .before .before .before .before .before .pre .1 .0 .table) (c .before .before .before .before .before .pre .1 .1) (c .before .before .entry .ensures) (plain-between 52 (omega arith) (omega arith)) _ (c .before .second-in .ensures)))))
 
 visit-operator-returns : (t : ℕ) → visit-operator-lts.Need-returns (visit-operator-claims t) (visit-operator-at t) visit-operator.Post
-visit-operator-returns t c = record { same = λ rs h. left-ended _ _ _ _ _ _ _ _ _ _ _ _ _ ((c .before .before .before .before .visit .ensures .same) rs h) (c .before .before .before .before .before .before .before .before .before .before .pre .1 .1) (second-read _ _ _ _ _ (c .before .before .before .before .before .before .before .before .before .before .pre .1 .0 .table) (c .before .before .before .before .before .before .before .before .before .before .pre .1 .1) (c .before .before .before .before .before .before .before .entry .ensures) (plain-between 52 (omega arith) (omega arith)) _ (c .before .before .before .before .before .before .second-in .ensures)) _ (c .enum-told .given .1) }
+visit-operator-returns t c = record { same = λ rs h. left-ended _ _ _ _ _ _ _ _ _ _ _ _ _ ((c .before .before .before .before .visit-operand .ensures .same) rs h) (c .before .before .before .before .before .before .before .before .before .before .pre .1 .1) (second-read _ _ _ _ _ (c .before .before .before .before .before .before .before .before .before .before .pre .1 .0 .table) (c .before .before .before .before .before .before .before .before .before .before .pre .1 .1) (c .before .before .before .before .before .before .before .entry .ensures) (plain-between 52 (omega arith) (omega arith)) _ (c .before .before .before .before .before .before .second-in .ensures)) _ (c .enum-told .given .1) }
 
 visit-operator-returns-2 : (t : ℕ) → visit-operator-lts.Need-returns-2 (visit-operator-claims t) (visit-operator-at t) visit-operator.Post
-visit-operator-returns-2 t c = record { same = λ rs h. left-constructor _ _ _ _ _ _ _ _ _ _ _ _ _ ((c .before .before .before .before .before .before .before .before .visit .ensures .same) rs h) (c .before .before .before .before .before .before .before .before .before .before .before .before .before .before .pre .1 .1) (second-read _ _ _ _ _ (c .before .before .before .before .before .before .before .before .before .before .before .before .before .before .pre .1 .0 .table) (c .before .before .before .before .before .before .before .before .before .before .before .before .before .before .pre .1 .1) (c .before .before .before .before .before .before .before .before .before .before .before .entry .ensures) (plain-between 52 (omega arith) (omega arith)) _ (c .before .before .before .before .before .before .before .before .before .before .second-in .ensures)) _ _ _ _ (c .before .before .before .before .outcome .given .1) (c .before .enum-told2 .given .1) (c .ended .ensures) }
+visit-operator-returns-2 t c = record { same = λ rs h. left-constructor _ _ _ _ _ _ _ _ _ _ _ _ _ ((c .before .before .before .before .before .before .before .before .visit-operand .ensures .same) rs h) (c .before .before .before .before .before .before .before .before .before .before .before .before .before .before .pre .1 .1) (second-read _ _ _ _ _ (c .before .before .before .before .before .before .before .before .before .before .before .before .before .before .pre .1 .0 .table) (c .before .before .before .before .before .before .before .before .before .before .before .before .before .before .pre .1 .1) (c .before .before .before .before .before .before .before .before .before .before .before .entry .ensures) (plain-between 52 (omega arith) (omega arith)) _ (c .before .before .before .before .before .before .before .before .before .before .second-in .ensures)) _ _ _ _ (c .before .before .before .before .outcome .given .1) (c .before .enum-told2 .given .1) (c .ended .ensures) }
 
 visit-operator-entry-requires-2 : (t : ℕ) → visit-operator-lts.Need-entry-requires-2 (visit-operator-claims t) (visit-operator-at t) visit-operator.Post
 visit-operator-entry-requires-2 t c κs = entry-room _ _ (c .before .before .before .before .before .before .before .before .before .before .before .before .before .before .pre .1 .0 .accepted) (c .before .before .before .before .before .before .before .before .before .before .before .before .before .before .pre .1 .1 .below)
 
-visit-operator-visit-requires-2 : (t : ℕ) → visit-operator-lts.Need-visit-requires-2 (visit-operator-claims t) (visit-operator-at t) visit-operator.Post
-visit-operator-visit-requires-2 t c κs = (falls-on _ _ _ (reached-falls _ (c .before .before .before .before .before .before .before .before .before .before .before .before .before .before .before .before .before .pre .1 .0 .accepted) _ _ _ _ _ _ _ _ _ _ (left-child _ _ _ (c .before .before .before .before .before .before .before .before .before .before .before .before .before .before .before .before .before .pre .1 .0 .accepted) _ (c .before .before .before .before .before .before .before .before .before .before .before .before .before .before .before .before .before .pre .1 .1) (second-read _ _ _ _ _ (c .before .before .before .before .before .before .before .before .before .before .before .before .before .before .before .before .before .pre .1 .0 .table) (c .before .before .before .before .before .before .before .before .before .before .before .before .before .before .before .before .before .pre .1 .1) (c .before .before .before .before .before .before .before .before .before .before .before .before .before .before .entry .ensures) (plain-between 52 (omega arith) (omega arith)) _ (c .before .before .before .before .before .before .before .before .before .before .before .before .before .second-in .ensures))) ((c .before .before .before .before .before .before .before .before .before .before .before .visit .ensures .same) (c .before .before .before .before .before .before .before .before .before .before .before .before .before .before .before .before .before .pre .1 .0 .readings) (c .before .before .before .before .before .before .before .before .before .before .before .before .before .before .before .before .before .pre .1 .0 .held))) (c .before .before .before .before .before .before .before .before .before .before .before .before .before .before .before .before .before .pre .0), ((c .before .before .before .before .before .before .before .before .before .before .before .before .before .before .before .before .before .pre .1 .0), right-child _ _ _ (c .before .before .before .before .before .before .before .before .before .before .before .before .before .before .before .before .before .pre .1 .0 .accepted) _ (c .before .before .before .before .before .before .before .before .before .before .before .before .before .before .before .before .before .pre .1 .1) (third-read _ _ _ _ _ (c .before .before .before .before .before .before .before .before .before .before .before .before .before .before .before .before .before .pre .1 .0 .table) (c .before .before .before .before .before .before .before .before .before .before .before .before .before .before .before .before .before .pre .1 .1) (c .before .before .entry2 .ensures) (plain-between 52 (omega arith) (omega arith)) _ (c .before .third-in .ensures))))
+visit-operator-visit-operand-requires-2 : (t : ℕ) → visit-operator-lts.Need-visit-operand-requires-2 (visit-operator-claims t) (visit-operator-at t) visit-operator.Post
+visit-operator-visit-operand-requires-2 t c κs = (falls-to-operand _ _ _ (reached-falls _ (c .before .before .before .before .before .before .before .before .before .before .before .before .before .before .before .before .before .pre .1 .0 .accepted) _ _ _ _ _ _ _ _ _ _ (left-child _ _ _ (c .before .before .before .before .before .before .before .before .before .before .before .before .before .before .before .before .before .pre .1 .0 .accepted) _ (c .before .before .before .before .before .before .before .before .before .before .before .before .before .before .before .before .before .pre .1 .1) (second-read _ _ _ _ _ (c .before .before .before .before .before .before .before .before .before .before .before .before .before .before .before .before .before .pre .1 .0 .table) (c .before .before .before .before .before .before .before .before .before .before .before .before .before .before .before .before .before .pre .1 .1) (c .before .before .before .before .before .before .before .before .before .before .before .before .before .before .entry .ensures) (plain-between 52 (omega arith) (omega arith)) _ (c .before .before .before .before .before .before .before .before .before .before .before .before .before .second-in .ensures))) ((c .before .before .before .before .before .before .before .before .before .before .before .visit-operand .ensures .same) (c .before .before .before .before .before .before .before .before .before .before .before .before .before .before .before .before .before .pre .1 .0 .readings) (c .before .before .before .before .before .before .before .before .before .before .before .before .before .before .before .before .before .pre .1 .0 .held))) (c .before .before .before .before .before .before .before .before .before .before .before .before .before .before .before .before .before .pre .0), ((c .before .before .before .before .before .before .before .before .before .before .before .before .before .before .before .before .before .pre .1 .0), right-child _ _ _ (c .before .before .before .before .before .before .before .before .before .before .before .before .before .before .before .before .before .pre .1 .0 .accepted) _ (c .before .before .before .before .before .before .before .before .before .before .before .before .before .before .before .before .before .pre .1 .1) (third-read _ _ _ _ _ (c .before .before .before .before .before .before .before .before .before .before .before .before .before .before .before .before .before .pre .1 .0 .table) (c .before .before .before .before .before .before .before .before .before .before .before .before .before .before .before .before .before .pre .1 .1) (c .before .before .entry2 .ensures) (plain-between 52 (omega arith) (omega arith)) _ (c .before .third-in .ensures))))
 
 visit-operator-returns-3 : (t : ℕ) → visit-operator-lts.Need-returns-3 (visit-operator-claims t) (visit-operator-at t) visit-operator.Post
-visit-operator-returns-3 t c = record { same = λ rs h. right-ended _ _ _ _ _ _ _ _ _ _ _ _ _ ((c .before .before .before .before .before .before .before .before .before .before .before .before .before .before .before .before .visit .ensures .same) rs h) (c .before .before .before .before .before .before .before .before .before .before .before .before .before .before .before .before .before .before .before .before .before .before .pre .1 .1) (second-read _ _ _ _ _ (c .before .before .before .before .before .before .before .before .before .before .before .before .before .before .before .before .before .before .before .before .before .before .pre .1 .0 .table) (c .before .before .before .before .before .before .before .before .before .before .before .before .before .before .before .before .before .before .before .before .before .before .pre .1 .1) (c .before .before .before .before .before .before .before .before .before .before .before .before .before .before .before .before .before .before .before .entry .ensures) (plain-between 52 (omega arith) (omega arith)) _ (c .before .before .before .before .before .before .before .before .before .before .before .before .before .before .before .before .before .before .second-in .ensures)) _ _ (c .before .before .before .before .before .before .before .before .before .before .before .before .outcome .given .1) (c .before .before .before .before .before .before .before .before .before .value .given .1) _ (third-read _ _ _ _ _ (c .before .before .before .before .before .before .before .before .before .before .before .before .before .before .before .before .before .before .before .before .before .before .pre .1 .0 .table) (c .before .before .before .before .before .before .before .before .before .before .before .before .before .before .before .before .before .before .before .before .before .before .pre .1 .1) (c .before .before .before .before .before .before .before .entry2 .ensures) (plain-between 52 (omega arith) (omega arith)) _ (c .before .before .before .before .before .before .third-in .ensures)) _ _ ((c .before .before .before .before .visit2 .ensures .same) rs h) _ (c .enum-told3 .given .1) }
+visit-operator-returns-3 t c = record { same = λ rs h. right-ended _ _ _ _ _ _ _ _ _ _ _ _ _ ((c .before .before .before .before .before .before .before .before .before .before .before .before .before .before .before .before .visit-operand .ensures .same) rs h) (c .before .before .before .before .before .before .before .before .before .before .before .before .before .before .before .before .before .before .before .before .before .before .pre .1 .1) (second-read _ _ _ _ _ (c .before .before .before .before .before .before .before .before .before .before .before .before .before .before .before .before .before .before .before .before .before .before .pre .1 .0 .table) (c .before .before .before .before .before .before .before .before .before .before .before .before .before .before .before .before .before .before .before .before .before .before .pre .1 .1) (c .before .before .before .before .before .before .before .before .before .before .before .before .before .before .before .before .before .before .before .entry .ensures) (plain-between 52 (omega arith) (omega arith)) _ (c .before .before .before .before .before .before .before .before .before .before .before .before .before .before .before .before .before .before .second-in .ensures)) _ _ (c .before .before .before .before .before .before .before .before .before .before .before .before .outcome .given .1) (c .before .before .before .before .before .before .before .before .before .value .given .1) _ (third-read _ _ _ _ _ (c .before .before .before .before .before .before .before .before .before .before .before .before .before .before .before .before .before .before .before .before .before .before .pre .1 .0 .table) (c .before .before .before .before .before .before .before .before .before .before .before .before .before .before .before .before .before .before .before .before .before .before .pre .1 .1) (c .before .before .before .before .before .before .before .entry2 .ensures) (plain-between 52 (omega arith) (omega arith)) _ (c .before .before .before .before .before .before .third-in .ensures)) _ _ ((c .before .before .before .before .visit-operand2 .ensures .same) rs h) _ (c .enum-told3 .given .1) }
 
 visit-operator-returns-4 : (t : ℕ) → visit-operator-lts.Need-returns-4 (visit-operator-claims t) (visit-operator-at t) visit-operator.Post
-visit-operator-returns-4 t c = record { same = λ rs h. right-constructor _ _ _ _ _ _ _ _ _ _ _ _ _ ((c .before .before .before .before .before .before .before .before .before .before .before .before .before .before .before .before .before .before .before .before .visit .ensures .same) rs h) (c .before .before .before .before .before .before .before .before .before .before .before .before .before .before .before .before .before .before .before .before .before .before .before .before .before .before .pre .1 .1) (second-read _ _ _ _ _ (c .before .before .before .before .before .before .before .before .before .before .before .before .before .before .before .before .before .before .before .before .before .before .before .before .before .before .pre .1 .0 .table) (c .before .before .before .before .before .before .before .before .before .before .before .before .before .before .before .before .before .before .before .before .before .before .before .before .before .before .pre .1 .1) (c .before .before .before .before .before .before .before .before .before .before .before .before .before .before .before .before .before .before .before .before .before .before .before .entry .ensures) (plain-between 52 (omega arith) (omega arith)) _ (c .before .before .before .before .before .before .before .before .before .before .before .before .before .before .before .before .before .before .before .before .before .before .second-in .ensures)) _ _ (c .before .before .before .before .before .before .before .before .before .before .before .before .before .before .before .before .outcome .given .1) (c .before .before .before .before .before .before .before .before .before .before .before .before .before .value .given .1) _ (third-read _ _ _ _ _ (c .before .before .before .before .before .before .before .before .before .before .before .before .before .before .before .before .before .before .before .before .before .before .before .before .before .before .pre .1 .0 .table) (c .before .before .before .before .before .before .before .before .before .before .before .before .before .before .before .before .before .before .before .before .before .before .before .before .before .before .pre .1 .1) (c .before .before .before .before .before .before .before .before .before .before .before .entry2 .ensures) (plain-between 52 (omega arith) (omega arith)) _ (c .before .before .before .before .before .before .before .before .before .before .third-in .ensures)) _ _ ((c .before .before .before .before .before .before .before .before .visit2 .ensures .same) rs h) _ _ _ _ (c .before .before .before .before .outcome2 .given .1) (c .before .enum-told4 .given .1) (c .ended2 .ensures) }
+visit-operator-returns-4 t c = record { same = λ rs h. right-constructor _ _ _ _ _ _ _ _ _ _ _ _ _ ((c .before .before .before .before .before .before .before .before .before .before .before .before .before .before .before .before .before .before .before .before .visit-operand .ensures .same) rs h) (c .before .before .before .before .before .before .before .before .before .before .before .before .before .before .before .before .before .before .before .before .before .before .before .before .before .before .pre .1 .1) (second-read _ _ _ _ _ (c .before .before .before .before .before .before .before .before .before .before .before .before .before .before .before .before .before .before .before .before .before .before .before .before .before .before .pre .1 .0 .table) (c .before .before .before .before .before .before .before .before .before .before .before .before .before .before .before .before .before .before .before .before .before .before .before .before .before .before .pre .1 .1) (c .before .before .before .before .before .before .before .before .before .before .before .before .before .before .before .before .before .before .before .before .before .before .before .entry .ensures) (plain-between 52 (omega arith) (omega arith)) _ (c .before .before .before .before .before .before .before .before .before .before .before .before .before .before .before .before .before .before .before .before .before .before .second-in .ensures)) _ _ (c .before .before .before .before .before .before .before .before .before .before .before .before .before .before .before .before .outcome .given .1) (c .before .before .before .before .before .before .before .before .before .before .before .before .before .value .given .1) _ (third-read _ _ _ _ _ (c .before .before .before .before .before .before .before .before .before .before .before .before .before .before .before .before .before .before .before .before .before .before .before .before .before .before .pre .1 .0 .table) (c .before .before .before .before .before .before .before .before .before .before .before .before .before .before .before .before .before .before .before .before .before .before .before .before .before .before .pre .1 .1) (c .before .before .before .before .before .before .before .before .before .before .before .entry2 .ensures) (plain-between 52 (omega arith) (omega arith)) _ (c .before .before .before .before .before .before .before .before .before .before .third-in .ensures)) _ _ ((c .before .before .before .before .before .before .before .before .visit-operand2 .ensures .same) rs h) _ _ _ _ (c .before .before .before .before .outcome2 .given .1) (c .before .enum-told4 .given .1) (c .ended2 .ensures) }
 
 visit-operator-entry-requires-3 : (t : ℕ) → visit-operator-lts.Need-entry-requires-3 (visit-operator-claims t) (visit-operator-at t) visit-operator.Post
 visit-operator-entry-requires-3 t c κs = entry-room _ _ (c .before .before .before .before .before .before .before .before .before .before .before .before .before .before .before .before .before .before .before .before .before .before .before .before .before .before .pre .1 .0 .accepted) (c .before .before .before .before .before .before .before .before .before .before .before .before .before .before .before .before .before .before .before .before .before .before .before .before .before .before .pre .1 .1 .below)
@@ -322,7 +354,7 @@ visit-operator-same-length-5 : (t : ℕ) → visit-operator-lts.Need-same-length
 visit-operator-same-length-5 t c = (c .before .before .before .before .before .before .before .before .before .before .before .cells2 .given) ∙ (c .before .before .before .before .before .before .before .before .before .before .before .before .before .before .before .before .before .before .before .before .before .before .before .cells .given)
 
 visit-operator-returns-5 : (t : ℕ) → visit-operator-lts.Need-returns-5 (visit-operator-claims t) (visit-operator-at t) visit-operator.Post
-visit-operator-returns-5 t c = record { same = λ rs h. operator-on _ _ _ _ _ _ _ _ _ _ _ _ _ ((c .before .before .before .before .before .before .before .before .before .before .before .before .before .before .before .before .before .before .before .before .before .before .before .before .visit .ensures .same) rs h) (c .before .before .before .before .before .before .before .before .before .before .before .before .before .before .before .before .before .before .before .before .before .before .before .before .before .before .before .before .before .before .pre .1 .1) (second-read _ _ _ _ _ (c .before .before .before .before .before .before .before .before .before .before .before .before .before .before .before .before .before .before .before .before .before .before .before .before .before .before .before .before .before .before .pre .1 .0 .table) (c .before .before .before .before .before .before .before .before .before .before .before .before .before .before .before .before .before .before .before .before .before .before .before .before .before .before .before .before .before .before .pre .1 .1) (c .before .before .before .before .before .before .before .before .before .before .before .before .before .before .before .before .before .before .before .before .before .before .before .before .before .before .before .entry .ensures) (plain-between 52 (omega arith) (omega arith)) _ (c .before .before .before .before .before .before .before .before .before .before .before .before .before .before .before .before .before .before .before .before .before .before .before .before .before .before .second-in .ensures)) _ _ (c .before .before .before .before .before .before .before .before .before .before .before .before .before .before .before .before .before .before .before .before .outcome .given .1) (c .before .before .before .before .before .before .before .before .before .before .before .before .before .before .before .before .before .value .given .1) _ (third-read _ _ _ _ _ (c .before .before .before .before .before .before .before .before .before .before .before .before .before .before .before .before .before .before .before .before .before .before .before .before .before .before .before .before .before .before .pre .1 .0 .table) (c .before .before .before .before .before .before .before .before .before .before .before .before .before .before .before .before .before .before .before .before .before .before .before .before .before .before .before .before .before .before .pre .1 .1) (c .before .before .before .before .before .before .before .before .before .before .before .before .before .before .before .entry2 .ensures) (plain-between 52 (omega arith) (omega arith)) _ (c .before .before .before .before .before .before .before .before .before .before .before .before .before .before .third-in .ensures)) _ _ ((c .before .before .before .before .before .before .before .before .before .before .before .before .visit2 .ensures .same) rs h) _ _ _ _ _ _ _ (c .before .before .before .before .before .before .before .before .outcome2 .given .1) (c .before .before .before .before .before .value2 .given .1) (toZ-ofZ w32 _ (record { sfits = search needs })) (toZ-ofZ w32 _ (record { sfits = search needs })) (first-read _ _ _ _ _ (c .before .before .before .before .before .before .before .before .before .before .before .before .before .before .before .before .before .before .before .before .before .before .before .before .before .before .before .before .before .before .pre .1 .0 .table) (c .before .before .before .before .before .before .before .before .before .before .before .before .before .before .before .before .before .before .before .before .before .before .before .before .before .before .before .before .before .before .pre .1 .1) (c .before .before .before .entry3 .ensures) (λ q. omega (arith, q)) _ (c .before .before .first-in .ensures)) (c .before .compute .ensures) (c .given .ensures) }
+visit-operator-returns-5 t c = record { same = λ rs h. operator-on _ _ _ _ _ _ _ _ _ _ _ _ _ ((c .before .before .before .before .before .before .before .before .before .before .before .before .before .before .before .before .before .before .before .before .before .before .before .before .visit-operand .ensures .same) rs h) (c .before .before .before .before .before .before .before .before .before .before .before .before .before .before .before .before .before .before .before .before .before .before .before .before .before .before .before .before .before .before .pre .1 .1) (second-read _ _ _ _ _ (c .before .before .before .before .before .before .before .before .before .before .before .before .before .before .before .before .before .before .before .before .before .before .before .before .before .before .before .before .before .before .pre .1 .0 .table) (c .before .before .before .before .before .before .before .before .before .before .before .before .before .before .before .before .before .before .before .before .before .before .before .before .before .before .before .before .before .before .pre .1 .1) (c .before .before .before .before .before .before .before .before .before .before .before .before .before .before .before .before .before .before .before .before .before .before .before .before .before .before .before .entry .ensures) (plain-between 52 (omega arith) (omega arith)) _ (c .before .before .before .before .before .before .before .before .before .before .before .before .before .before .before .before .before .before .before .before .before .before .before .before .before .before .second-in .ensures)) _ _ (c .before .before .before .before .before .before .before .before .before .before .before .before .before .before .before .before .before .before .before .before .outcome .given .1) (c .before .before .before .before .before .before .before .before .before .before .before .before .before .before .before .before .before .value .given .1) _ (third-read _ _ _ _ _ (c .before .before .before .before .before .before .before .before .before .before .before .before .before .before .before .before .before .before .before .before .before .before .before .before .before .before .before .before .before .before .pre .1 .0 .table) (c .before .before .before .before .before .before .before .before .before .before .before .before .before .before .before .before .before .before .before .before .before .before .before .before .before .before .before .before .before .before .pre .1 .1) (c .before .before .before .before .before .before .before .before .before .before .before .before .before .before .before .entry2 .ensures) (plain-between 52 (omega arith) (omega arith)) _ (c .before .before .before .before .before .before .before .before .before .before .before .before .before .before .third-in .ensures)) _ _ ((c .before .before .before .before .before .before .before .before .before .before .before .before .visit-operand2 .ensures .same) rs h) _ _ _ _ _ _ _ (c .before .before .before .before .before .before .before .before .outcome2 .given .1) (c .before .before .before .before .before .value2 .given .1) (toZ-ofZ w32 _ (record { sfits = search needs })) (toZ-ofZ w32 _ (record { sfits = search needs })) (first-read _ _ _ _ _ (c .before .before .before .before .before .before .before .before .before .before .before .before .before .before .before .before .before .before .before .before .before .before .before .before .before .before .before .before .before .before .pre .1 .0 .table) (c .before .before .before .before .before .before .before .before .before .before .before .before .before .before .before .before .before .before .before .before .before .before .before .before .before .before .before .before .before .before .pre .1 .1) (c .before .before .before .entry3 .ensures) (λ q. omega (arith, q)) _ (c .before .before .first-in .ensures)) (c .before .compute .ensures) (c .given .ensures) }
 
 visit-select-entry-requires : (t : ℕ) → visit-select-lts.Need-entry-requires (visit-select-claims t) (visit-select-at t) visit-select.Post
 visit-select-entry-requires t c κs = entry-room _ _ (c .before .before .pre .1 .0 .accepted) (c .before .before .pre .1 .1 .below)
@@ -357,14 +389,15 @@ visit-select-visit-requires-2 t c κs = (falls-on _ _ _ (reached-falls _ (c .bef
 visit-select-returns-5 : (t : ℕ) → visit-select-lts.Need-returns-5 (visit-select-claims t) (visit-select-at t) visit-select.Post
 visit-select-returns-5 t c = record { same = λ rs h. select-on _ _ _ _ _ _ _ _ _ _ _ _ _ ((c .before .before .before .before .before .before .before .before .before .before .before .before .before .before .before .before .before .before .before .before .before .before .visit .ensures .same) rs h) (c .before .before .before .before .before .before .before .before .before .before .before .before .before .before .before .before .before .before .before .before .before .before .before .before .before .before .before .before .pre .1 .1) (first-read _ _ _ _ _ (c .before .before .before .before .before .before .before .before .before .before .before .before .before .before .before .before .before .before .before .before .before .before .before .before .before .before .before .before .pre .1 .0 .table) (c .before .before .before .before .before .before .before .before .before .before .before .before .before .before .before .before .before .before .before .before .before .before .before .before .before .before .before .before .pre .1 .1) (c .before .before .before .before .before .before .before .before .before .before .before .before .before .before .before .before .before .before .before .before .before .before .before .before .before .entry .ensures) (λ q. omega (arith, q)) _ (c .before .before .before .before .before .before .before .before .before .before .before .before .before .before .before .before .before .before .before .before .before .before .before .before .first-in .ensures)) _ _ _ (c .before .before .before .before .before .before .before .before .before .before .before .before .before .before .before .before .before .before .outcome .given .1) (c .before .before .before .before .before .before .before .before .before .before .before .before .before .before .before .value .given .1) _ (second-read _ _ _ _ _ (c .before .before .before .before .before .before .before .before .before .before .before .before .before .before .before .before .before .before .before .before .before .before .before .before .before .before .before .before .pre .1 .0 .table) (c .before .before .before .before .before .before .before .before .before .before .before .before .before .before .before .before .before .before .before .before .before .before .before .before .before .before .before .before .pre .1 .1) (c .before .before .before .before .before .before .before .before .before .before .before .before .before .entry2 .ensures) (plain-between 51 (omega arith) (omega arith)) _ (c .before .before .before .before .before .before .before .before .before .before .before .before .second-in .ensures)) _ refl _ (c .before .before .before .before .before .before .before .before .before .before .if1 .left) (member-read _ _ (c .before .before .before .before .before .before .before .before .before .before .before .before .before .before .before .before .before .before .before .before .before .before .before .before .before .before .before .before .pre .1 .0 .accepted) _ _ _ _ (c .before .before .before .before .before .before .before .before .before .before .before .before .before .before .before .before .before .before .before .before .before .before .before .before .before .before .before .before .pre .1 .0 .table) (c .before .before .before .before .before .before .before .before .before .before .before .entry3 .ensures) (c .before .before .before .before .before .before .before .before .before .second-in2 .ensures) (c .before .before .before .before .before .before .before .before .third-in .ensures) (reached-tuple _ (c .before .before .before .before .before .before .before .before .before .before .before .before .before .before .before .before .before .before .before .before .before .before .before .before .before .before .before .before .pre .1 .0 .accepted) _ _ _ _ _ _ _ _ _ _ (select-child _ _ _ (c .before .before .before .before .before .before .before .before .before .before .before .before .before .before .before .before .before .before .before .before .before .before .before .before .before .before .before .before .pre .1 .0 .accepted) _ (c .before .before .before .before .before .before .before .before .before .before .before .before .before .before .before .before .before .before .before .before .before .before .before .before .before .before .before .before .pre .1 .1) (first-read _ _ _ _ _ (c .before .before .before .before .before .before .before .before .before .before .before .before .before .before .before .before .before .before .before .before .before .before .before .before .before .before .before .before .pre .1 .0 .table) (c .before .before .before .before .before .before .before .before .before .before .before .before .before .before .before .before .before .before .before .before .before .before .before .before .before .before .before .before .pre .1 .1) (c .before .before .before .before .before .before .before .before .before .before .before .before .before .before .before .before .before .before .before .before .before .before .before .before .before .entry .ensures) (λ q. omega (arith, q)) _ (c .before .before .before .before .before .before .before .before .before .before .before .before .before .before .before .before .before .before .before .before .before .before .before .before .first-in .ensures))) ((c .before .before .before .before .before .before .before .before .before .before .before .before .before .before .before .before .before .before .before .before .before .before .visit .ensures .same) rs h) _ _ _ (c .before .before .before .before .before .before .before .before .before .before .before .before .before .before .before .before .before .before .outcome .given .1) (c .before .before .before .before .before .before .before .before .before .before .before .before .before .before .before .value .given .1)) _ _ (c .before .before .before .before .before .before .before .before .before .before .if1 .left) (c .before .before .before .before .before .before .before .listed .ensures)) _ _ _ (c .before .before .before .before .before .found .given .1) ((c .before .before .visit2 .ensures .same) rs h) }
 
-pub +evaluate+visit+visit-case+visit-conditional+visit-operator+visit-select-spec :
+pub +evaluate+visit+visit-case+visit-conditional+visit-operand+visit-operator+visit-select-spec :
     {M : Type 1} → statement M
-+evaluate+visit+visit-case+visit-conditional+visit-operator+visit-select-spec =
++evaluate+visit+visit-case+visit-conditional+visit-operand+visit-operator+visit-select-spec =
     close
     μ-evaluate
     μ-visit
     μ-visit-case
     μ-visit-conditional
+    μ-visit-operand
     μ-visit-operator
     μ-visit-select
     (λ t. evaluate-lts.spec (evaluate-claims t)
@@ -376,22 +409,19 @@ pub +evaluate+visit+visit-case+visit-conditional+visit-operator+visit-select-spe
     (λ c κs. search needs)
     (evaluate-returns t)
     (λ c κs. search needs)
-    (λ c κs. search needs)
     (evaluate-returns-2 t)
-    (λ c κs. search needs)
-    (evaluate-returns-3 t)
     (evaluate-visit-select-requires t)
     (λ c. search needs)
-    (evaluate-returns-4 t)
+    (evaluate-returns-3 t)
     (evaluate-visit-operator-requires t)
     (λ c. search needs)
-    (evaluate-returns-5 t)
+    (evaluate-returns-4 t)
     (evaluate-visit-conditional-requires t)
     (λ c. search needs)
-    (evaluate-returns-6 t)
+    (evaluate-returns-5 t)
     (evaluate-visit-case-requires t)
     (λ c. search needs)
-    (evaluate-returns-7 t))
+    (evaluate-returns-6 t))
     (λ t. visit-lts.spec (visit-claims t)
     (visit-at t)
     visit.Post
@@ -470,12 +500,24 @@ pub +evaluate+visit+visit-case+visit-conditional+visit-operator+visit-select-spe
     (visit-conditional-visit-requires-2 t)
     (λ c. search needs)
     (visit-conditional-returns-3 t))
+    (λ t. visit-operand-lts.spec (visit-operand-claims t)
+    (visit-operand-at t)
+    visit-operand.Post
+    (visit-operand-entry-requires t)
+    (λ c κs. search needs)
+    (λ c κs. search needs)
+    (λ c. search needs)
+    (λ c κs. search needs)
+    (visit-operand-returns t)
+    (visit-operand-visit-requires t)
+    (λ c. search needs)
+    (visit-operand-returns-2 t))
     (λ t. visit-operator-lts.spec (visit-operator-claims t)
     (visit-operator-at t)
     visit-operator.Post
     (visit-operator-entry-requires t)
     (λ c κs. search needs)
-    (visit-operator-visit-requires t)
+    (visit-operator-visit-operand-requires t)
     (λ c. search needs)
     (λ c. search needs)
     (λ c. search needs)
@@ -487,7 +529,7 @@ pub +evaluate+visit+visit-case+visit-conditional+visit-operator+visit-select-spe
     (visit-operator-returns-2 t)
     (visit-operator-entry-requires-2 t)
     (λ c κs. search needs)
-    (visit-operator-visit-requires-2 t)
+    (visit-operator-visit-operand-requires-2 t)
     (λ c. search needs)
     (λ c. search needs)
     (λ c. search needs)
