@@ -4,9 +4,9 @@ ghost use Prim.Native.Nat.{_+_, _-_, _*_, _/_, _%_};
 ghost use Rattle.definitions.specs.Listing.{labelAt, previousAt};
 ghost use Rattle.cells.specs.Added.{cellAdded};
 use crate::bytes::put_word;
-use format::bytes::field_of;
-use format::bytes::word;
-use format::records::wide;
+use file_fields::bytes::field_of;
+use file_fields::bytes::word;
+use file_records::records::wide;
 
 // The place of cell `c` among the cells, counted from 0; 0 for the empty context.
 fn index(c: usize) -> usize

@@ -1,7 +1,7 @@
 // Cells of contexts in lent bytes, the listing of a context, and the answer record (document 01, "Run" and "Context
 // listing").
 pub mod answer;
-pub mod bytes;
+mod bytes;
 pub mod cell;
 pub mod listing;
 pub mod numbers;

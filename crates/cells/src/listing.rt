@@ -8,7 +8,7 @@ use crate::bytes::put_word;
 use crate::cell::label_at;
 use crate::cell::previous_at;
 use crate::numbers;
-use format::records::wide;
+use file_records::records::wide;
 
 // What a listing answers: how many labels it has, or the refusal's number and place.
 pub enum Listed {

@@ -1,4 +1,3 @@
-pub mod Indices
 pub mod Walking
 pub mod RunTables
 pub mod Readings

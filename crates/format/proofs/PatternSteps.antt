@@ -20,10 +20,11 @@ use Rattle.definitions.specs.declared.Verdict.{Verdict}
 use Rattle.definitions.specs.declared.Verdict.the-variants.{Accepted, Refused}
 use Rattle.laws.proofs.Verdicts.{require-true, require-false}
 use Rattle.accepted.proofs.Head.{nodes-limit}
-use Rattle.format.specs.Index.{Opened, RunEnds, Owners, NodeAt, startIn}
+use Rattle.file_records.specs.Index.{Opened, startIn}
+use Rattle.format.specs.Readers.{RunEnds, Owners, NodeAt}
 use Rattle.format.specs.Seen.{ParentsOf, TreesAccepted}
 use Rattle.format.specs.Clauses.{entryOf, ClausesOf, ClausesFrom}
-use Rattle.format.proofs.Indices.{opened-record}
+use Rattle.file_records.proofs.Indices.{opened-record}
 use Rattle.format.proofs.ClauseTable.{parent-above, entry-of-body, entry-of-clause, entry-of-parent, within-below}
 
 -- the parent of a node that is no body

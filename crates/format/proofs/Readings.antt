@@ -15,7 +15,8 @@ use Rattle.definitions.specs.declared.Verdict.the-variants.{Accepted, Refused}
 use Rattle.laws.proofs.Verdicts.{then-accepted, then-refused}
 use Rattle.accepted.proofs.Head.{nodes-limit}
 use Rattle.format.specs.Seen.{timesIn, Seen, TimesOf, ParentsOf, TreesAccepted}
-use Rattle.format.specs.Index.{Opened, Walked, RunEnds, Owners, ReadTranslation, ReadSheet}
+use Rattle.file_records.specs.Index.{Opened}
+use Rattle.format.specs.Readers.{Walked, RunEnds, Owners, ReadTranslation, ReadSheet}
 
 -- nothing is both accepted and refused
 pub not-both : {P : Type 0} (v : Verdict) (n p : ℕ) → v ≡ Refused n p → v ≡ Accepted → P

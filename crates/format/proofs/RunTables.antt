@@ -24,8 +24,9 @@ use Rattle.accepted.proofs.Head.{functions-limit, functions-least, nodes-limit}
 use Rattle.accepted.proofs.Sections.{node-counts-sum}
 use Rattle.accepted.proofs.Sums.{sum-rises}
 use Rattle.accepted.proofs.Owners.{run-start, start-below-end, last-end, end-within, owner-unique}
-use Rattle.format.specs.Index.{Indexed, Opened, RunEnds, Owners, ownerAfter}
-use Rattle.format.proofs.Indices.{fewer}
+use Rattle.file_records.specs.Index.{Indexed, Opened}
+use Rattle.format.specs.Readers.{RunEnds, Owners, ownerAfter}
+use Rattle.file_records.proofs.Indices.{fewer}
 
 -- one entry more of a table whose first n entries are right
 pub entry-more : (P : ℕ → ℕ → Type 0) (table : List ℕ) (n x : ℕ) → n < length table → ((i : ℕ) → i < n → P i (getD table i 0)) → P n x

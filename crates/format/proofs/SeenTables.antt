@@ -15,8 +15,8 @@ use Rattle.definitions.specs.Layouts.{nodes, firstNode, nodeRecord}
 use Rattle.definitions.specs.declared.Layout.the-variants.{Sheet}
 use Rattle.definitions.specs.References.{children, child}
 use Rattle.laws.proofs.Lists.{count-more, count-none, sum-more, sum-none, last-more, last-none}
-use Rattle.format.specs.Index.{Opened, startIn}
-use Rattle.format.proofs.Indices.{opened-record}
+use Rattle.file_records.specs.Index.{Opened, startIn}
+use Rattle.file_records.proofs.Indices.{opened-record}
 use Rattle.format.specs.Seen.{timesIn, once, Sized, NotedOne, Noted, Seen}
 
 pub once-first : (n : ℕ) → n < 1 → 1 ≡ once n

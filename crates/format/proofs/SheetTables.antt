@@ -11,8 +11,9 @@ use Rattle.definitions.specs.References.{parameters, arity}
 use Rattle.definitions.specs.declared.Layout.the-variants.{Sheet}
 use Rattle.accepted.proofs.Head.{nodes-least, nodes-limit, functions-limit}
 use Rattle.accepted.proofs.Owners.{owner-below}
-use Rattle.format.specs.Index.{Opened, Owners, RunEnds, NamesAt, startIn}
-use Rattle.format.proofs.Indices.{indexed-field, opened-record}
+use Rattle.file_records.specs.Index.{Opened, startIn}
+use Rattle.format.specs.Readers.{Owners, RunEnds, NamesAt}
+use Rattle.file_records.proofs.Indices.{indexed-field, opened-record}
 
 -- a function's parameter count and a constructor's arity, as the index shows them
 pub opened-parameters : (b starts : List ℕ) (f x : ℕ) → Opened Sheet b starts → f < functions b

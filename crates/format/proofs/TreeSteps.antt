@@ -21,9 +21,10 @@ use Rattle.accepted.proofs.Head.{nodes-limit, functions-limit}
 use Rattle.accepted.proofs.Owners.{owner-below, body-before-end}
 use Rattle.laws.proofs.Tests.{Each, each-all, each-fails}
 use Rattle.laws.proofs.Verdicts.{require-true, require-false, Passed, passed-more, passed-refused, passed-all}
-use Rattle.format.specs.Index.{Opened, RunEnds, Owners, NodeAt, startIn}
+use Rattle.file_records.specs.Index.{Opened, startIn}
+use Rattle.format.specs.Readers.{RunEnds, Owners, NodeAt}
 use Rattle.format.specs.Seen.{TimesOf}
-use Rattle.format.proofs.Indices.{opened-record}
+use Rattle.file_records.proofs.Indices.{opened-record}
 
 -- node k and its owner are in the tables
 module _ (b starts ends owners : List ℕ) (k : ℕ) (w : NodeAt b starts ends owners k) where

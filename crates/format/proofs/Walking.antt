@@ -23,7 +23,8 @@ use Rattle.laws.proofs.Lists.{below-suc}
 use Rattle.laws.proofs.Records.{start-zero, start-next, next-whole, whole-inside}
 use Rattle.laws.proofs.Verdicts.{then-accepted, then-refused, require-true, require-false, first-none, first-more, first-refused}
 use Rattle.laws.proofs.Walk.{shaped, head-ranges, due-room}
-use Rattle.format.specs.Index.{Indexed, Walked}
+use Rattle.file_records.specs.Index.{Indexed}
+use Rattle.format.specs.Readers.{Walked}
 
 -- before record r: it starts at `at`, those before it are accepted and in the index, and `count` records are due
 pub record Walking (y : Layout) (b : List ℕ) (count : ℕ) (starts : List ℕ) (at r : ℕ) : Type 0 where

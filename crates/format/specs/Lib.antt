@@ -1,3 +1,3 @@
-pub mod Index
+pub mod Readers
 pub mod Seen
 pub mod Clauses

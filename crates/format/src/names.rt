@@ -1,52 +1,36 @@
 // The references and argument counts of sheets.
 ghost use mathlib.Core.Path.{_≡_};
-ghost use Prim.Native.Nat.{_+_, _-_};
+ghost use Prim.Native.Nat.{_-_};
 ghost use mathlib.Core.Bool.{true};
-ghost use Rattle.definitions.specs.Records.{recordAt, recordOf, field, fieldCount};
-ghost use Rattle.definitions.specs.Layouts.{firstItem, firstFunction, firstNode, due, ownerOf};
+ghost use Rattle.definitions.specs.Records.{recordOf, fieldCount};
+ghost use Rattle.definitions.specs.Layouts.{firstNode, due, ownerOf};
 ghost use Rattle.definitions.specs.References.{parameters, namesInRange, references};
 ghost use Rattle.definitions.specs.Checks.{argumentsMatch, arguments};
 ghost use Rattle.definitions.specs.Verdicts.{_andThen_, firstOf};
 ghost use Rattle.definitions.specs.declared.Layout.the-variants.{Sheet};
-ghost use Rattle.format.specs.Index.{Opened, Owners, NamesAt, startIn};
-use crate::layout::due;
-use crate::layout::first_function;
-use crate::layout::first_item;
-use crate::layout::first_node;
-use crate::layout::functions;
-use crate::layout::items;
-use crate::layout::nodes;
-use crate::layout::readings;
+ghost use Rattle.file_records.specs.Index.{Opened};
+ghost use Rattle.format.specs.Readers.{Owners, NamesAt};
 use crate::numbers;
-use crate::records::field;
-use crate::records::field_count;
-use crate::records::indexed;
-use crate::records::indexed_from;
-use crate::records::kind;
-use crate::records::wide;
-use crate::records::wide8;
-use crate::references::children_below;
-use crate::references::constructors_below;
-use crate::sheet_kinds;
 use definitions::Layout;
 use definitions::Verdict;
-
-// A function's parameter count: field 0 of the record that the index shows for it.
-pub fn parameters(b: &[u8], starts: &[u16; 1601], f: usize) -> u16
-    ensures { λ r. ⌜ r ≡ field (recordAt (now (b .entry)) (startIn (now (starts .entry)) (firstFunction Sheet (now (b .entry)) + f))) 0 ⌝ }
-{
-    field(
-        indexed_from(b, starts, first_function(Layout::Sheet, b), f),
-        0,
-    )
-}
-
-// A constructor's arity: field 0 of the record that the index shows for it.
-pub fn arity(b: &[u8], starts: &[u16; 1601], k: usize) -> u16
-    ensures { λ r. ⌜ r ≡ field (recordAt (now (b .entry)) (startIn (now (starts .entry)) (firstItem Sheet (now (b .entry)) + k))) 0 ⌝ }
-{
-    field(indexed_from(b, starts, first_item(Layout::Sheet, b), k), 0)
-}
+use file_layout::layout::due;
+use file_layout::layout::first_function;
+use file_layout::layout::first_node;
+use file_layout::layout::functions;
+use file_layout::layout::items;
+use file_layout::layout::nodes;
+use file_layout::layout::readings;
+use file_layout::sheet_kinds;
+use file_records::declared_counts::arity;
+use file_records::declared_counts::parameters;
+use file_records::records::field;
+use file_records::records::field_count;
+use file_records::records::indexed;
+use file_records::records::kind;
+use file_records::records::wide;
+use file_records::records::wide8;
+use file_references::references::children_below;
+use file_references::references::constructors_below;
 
 // The parameter count of the function that owns the node of record `r`.
 fn owner_parameters(b: &[u8], starts: &[u16; 1601], owners: &[u8; 1024], r: usize) -> u16

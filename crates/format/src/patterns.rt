@@ -7,24 +7,25 @@ ghost use Rattle.definitions.specs.Checks.{clauseOf, clauseWithin, patternRight
 ghost use Rattle.definitions.specs.Verdicts.{firstOf};
 ghost use Rattle.definitions.specs.declared.Layout.the-variants.{Sheet};
 ghost use Rattle.definitions.specs.declared.Verdict.the-variants.{Accepted};
-ghost use Rattle.format.specs.Index.{Opened, RunEnds, Owners, NodeAt};
+ghost use Rattle.file_records.specs.Index.{Opened};
+ghost use Rattle.format.specs.Readers.{RunEnds, Owners, NodeAt};
 ghost use Rattle.format.specs.Seen.{ParentsOf, TreesAccepted};
 ghost use Rattle.format.specs.Clauses.{entryOf, ClausesOf, ClausesFrom};
-use crate::layout::first_node;
-use crate::layout::nodes;
-use crate::names::arity;
 use crate::numbers;
-use crate::records::field;
-use crate::records::indexed;
-use crate::records::kind;
-use crate::records::wide;
-use crate::records::wide32;
-use crate::references::child;
-use crate::references::clause_constructor;
-use crate::references::clauses;
-use crate::sheet_kinds;
 use crate::tree::is_body;
 use definitions::Verdict;
+use file_layout::layout::first_node;
+use file_layout::layout::nodes;
+use file_layout::sheet_kinds;
+use file_records::declared_counts::arity;
+use file_records::records::field;
+use file_records::records::indexed;
+use file_records::records::kind;
+use file_records::records::wide;
+use file_records::records::wide32;
+use file_references::references::child;
+use file_references::references::clause_constructor;
+use file_references::references::clauses;
 
 // One more than the constructor of the clause of a case's record that node `k` is, 0 where it is none.
 fn clause_of(rec: &[u8], k: usize) -> u32

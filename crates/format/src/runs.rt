@@ -1,18 +1,19 @@
 // The runs of nodes that functions own: where each ends, and which function owns a node.
-ghost use Rattle.format.specs.Index.{Opened, RunEnds, Owners, ownerAfter};
+ghost use Rattle.file_records.specs.Index.{Opened};
+ghost use Rattle.format.specs.Readers.{RunEnds, Owners, ownerAfter};
 ghost use Prim.Native.Nat.{_<_};
 ghost use Rattle.definitions.specs.Shape.{fileShape};
 ghost use Rattle.definitions.specs.declared.Layout.the-variants.{Sheet};
 ghost use Rattle.definitions.specs.declared.Verdict.the-variants.{Accepted};
 ghost use mathlib.Core.Path.{_≡_};
-use crate::layout::count_field;
-use crate::layout::first_function;
-use crate::layout::functions;
-use crate::layout::nodes;
-use crate::records::field;
-use crate::records::indexed;
-use crate::records::wide;
 use definitions::Layout;
+use file_layout::layout::count_field;
+use file_layout::layout::first_function;
+use file_layout::layout::functions;
+use file_layout::layout::nodes;
+use file_records::records::field;
+use file_records::records::indexed;
+use file_records::records::wide;
 
 // The table of the ends of runs.
 pub(crate) fn run_ends(y: Layout, b: &[u8], starts: &[u16; 1601]) -> [u16; 64]

@@ -4,15 +4,15 @@ ghost use Prim.Native.Nat.{_+_, _≤_, _<_};
 ghost use Rattle.definitions.specs.Layouts.{nodes};
 ghost use Rattle.definitions.specs.References.{children};
 ghost use Rattle.definitions.specs.declared.Layout.the-variants.{Sheet};
-ghost use Rattle.format.specs.Index.{Opened};
+ghost use Rattle.file_records.specs.Index.{Opened};
 ghost use Rattle.format.specs.Seen.{Sized, NotedOne, Noted, Seen, once};
 ghost use lib.ListN.{getD, set};
-use crate::layout::first_node;
-use crate::layout::nodes;
-use crate::records::indexed;
-use crate::records::wide;
-use crate::references::child;
-use crate::references::children;
+use file_layout::layout::first_node;
+use file_layout::layout::nodes;
+use file_records::records::indexed;
+use file_records::records::wide;
+use file_references::references::child;
+use file_references::references::children;
 
 // The tables of children.
 pub struct SeenChildren {

@@ -2,7 +2,8 @@
 ghost use mathlib.Core.Path.{_≡_};
 ghost use Rattle.definitions.specs.Checks.{sheetVerdict};
 ghost use Rattle.definitions.specs.declared.Layout.the-variants.{Sheet};
-ghost use Rattle.format.specs.Index.{Opened, RunEnds, Owners, ReadSheet};
+ghost use Rattle.file_records.specs.Index.{Opened};
+ghost use Rattle.format.specs.Readers.{RunEnds, Owners, ReadSheet};
 use crate::names::names;
 use crate::patterns::patterns;
 use crate::runs::run_ends;

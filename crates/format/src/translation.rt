@@ -6,22 +6,23 @@ ghost use Rattle.definitions.specs.Layouts.{due};
 ghost use Rattle.definitions.specs.References.{namesInRange, references};
 ghost use Rattle.definitions.specs.Verdicts.{firstOf};
 ghost use Rattle.definitions.specs.declared.Layout.the-variants.{Translation};
-ghost use Rattle.format.specs.Index.{Opened, ReadTranslation};
-use crate::layout::due;
-use crate::layout::functions;
-use crate::layout::items;
-use crate::layout::nodes;
-use crate::layout::readings;
+ghost use Rattle.file_records.specs.Index.{Opened};
+ghost use Rattle.format.specs.Readers.{ReadTranslation};
 use crate::numbers;
-use crate::records::field;
-use crate::records::indexed;
-use crate::records::kind;
-use crate::references::children_below;
 use crate::runs::run_ends;
 use crate::shape::file_shape;
-use crate::translation_kinds;
 use definitions::Layout;
 use definitions::Verdict;
+use file_layout::layout::due;
+use file_layout::layout::functions;
+use file_layout::layout::items;
+use file_layout::layout::nodes;
+use file_layout::layout::readings;
+use file_layout::translation_kinds;
+use file_records::records::field;
+use file_records::records::indexed;
+use file_records::records::kind;
+use file_references::references::children_below;
 
 // What reading a translation gives: the verdict, where its records start, and where the runs of its functions end. Of a
 // refused file only the verdict counts.

@@ -9,21 +9,22 @@ ghost use Rattle.definitions.specs.References.{children, child};
 ghost use Rattle.definitions.specs.Checks.{isBody, clausesRise, treeRight, tree};
 ghost use Rattle.definitions.specs.Verdicts.{firstOf};
 ghost use Rattle.definitions.specs.declared.Layout.the-variants.{Sheet};
-ghost use Rattle.format.specs.Index.{Opened, RunEnds, Owners, NodeAt};
+ghost use Rattle.file_records.specs.Index.{Opened};
+ghost use Rattle.format.specs.Readers.{RunEnds, Owners, NodeAt};
 ghost use Rattle.format.specs.Seen.{TimesOf};
-use crate::layout::first_node;
-use crate::layout::nodes;
 use crate::numbers;
-use crate::records::indexed;
-use crate::records::kind;
-use crate::records::wide;
-use crate::records::wide8;
-use crate::references::child;
-use crate::references::children;
-use crate::references::clause_constructor;
-use crate::references::clauses;
-use crate::sheet_kinds;
 use definitions::Verdict;
+use file_layout::layout::first_node;
+use file_layout::layout::nodes;
+use file_layout::sheet_kinds;
+use file_records::records::indexed;
+use file_records::records::kind;
+use file_records::records::wide;
+use file_records::records::wide8;
+use file_references::references::child;
+use file_references::references::children;
+use file_references::references::clause_constructor;
+use file_references::references::clauses;
 
 // Whether node `k` is the body of its function.
 pub(crate) fn is_body(

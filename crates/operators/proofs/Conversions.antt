@@ -36,6 +36,13 @@ unfolding residue
 positive-bits (pos n) f e = let h : n < 2147483648 = f .sfits in let k : n < 4294967296 = omega arith in ap pos (sym (mod-eq-of-lt k))
 positive-bits (negsuc n) f e = absurd (let z : _≡_ {A = Bool} true false = e in let y : _≡_ {A = ℕ} 0 1 = cc in omega arith)
 
+-- a number of 32 bits and one from 2 ^ 31 to 2 ^ 33 have a sum of 64 bits
+sum-narrow : (x : ℤ) (n : ℕ) → SFits w32 x → 2147483648 ≤ n → n ≤ 8589934592 → SFits w64 (x +ℤ pos n)
+sum-narrow (pos m) n f h k = let g : m < 2147483648 = f .sfits in record { sfits = omega arith }
+sum-narrow (negsuc m) n f h k =
+    let g : m < 2147483648 = f .sfits in
+    rw (le-ltb n (suc m) (omega arith)) (record { sfits = omega arith })
+
 module _ (x : ℤ) (f : SFits w32 x) where
   low-test : {t : Bool} → ltZ (toZ w32 (ofZ w32 x)) (pos 0) ≡ t → ltZ x (pos 0) ≡ t
   low-test {t} e = subst (λ (z : ℤ). ltZ z (pos 0) ≡ t) (toZ-ofZ w32 x f) e
@@ -44,14 +51,12 @@ module _ (x : ℤ) (f : SFits w32 x) where
   wide-sum : ltZ (toZ w32 (ofZ w32 x)) (pos 0) ≡ true → toZ w64 (ofZ w64 (toZ w32 (ofZ w32 x))) +ℤ pos 4294967296 ≡ pos (residue w32 x)
   wide-sum e = ap (λ (z : ℤ). z +ℤ pos 4294967296) (wide-back x f) ∙ negative-bits x f (low-test e)
 
-  pub sum-fits : ltZ (toZ w32 (ofZ w32 x)) (pos 0) ≡ true → SFits w64 (toZ w64 (ofZ w64 (toZ w32 (ofZ w32 x))) +ℤ pos 4294967296)
-  sum-fits e =
-      subst (λ (z : ℤ). SFits w64 z) (sym (wide-sum e))
-      (record { sfits = let h : residue w32 x < 4294967296 = residue-below w32 x in omega arith })
+  pub sum-fits : (n : ℕ) → 2147483648 ≤ n → n ≤ 8589934592 → SFits w64 (toZ w64 (ofZ w64 (toZ w32 (ofZ w32 x))) +ℤ pos n)
+  sum-fits n h k = subst (λ (z : ℤ). SFits w64 (z +ℤ pos n)) (sym (wide-back x f)) (sum-narrow x n f h k)
 
   pub sum-bits : ltZ (toZ w32 (ofZ w32 x)) (pos 0) ≡ true
       → toZ w64 (ofZ w64 (toZ w64 (ofZ w64 (toZ w32 (ofZ w32 x))) +ℤ pos 4294967296)) ≡ pos (residue w32 x)
-  sum-bits e = toZ-ofZ w64 _ (sum-fits e) ∙ wide-sum e
+  sum-bits e = toZ-ofZ w64 _ (sum-fits 4294967296 (omega arith) (omega arith)) ∙ wide-sum e
 
   pub own-bits : ltZ (toZ w32 (ofZ w32 x)) (pos 0) ≡ false → toZ w32 (ofZ w32 x) ≡ pos (residue w32 x)
   own-bits e = toZ-ofZ w32 x f ∙ positive-bits x f (low-test e)

@@ -3,7 +3,7 @@ ghost use mathlib.Core.Path.{_≡_};
 ghost use Rattle.definitions.specs.Operators.{computed};
 ghost use Rattle.operators.specs.Results.{computedOf};
 
-pub mod arithmetic;
+mod arithmetic;
 pub mod bits;
 pub mod codes;
 

@@ -22,8 +22,8 @@ use Rattle.accepted.proofs.Head.{nodes-limit}
 use Rattle.accepted.proofs.Records.{within-limit, record-whole, record-fields}
 use Rattle.accepted.proofs.Checks.{translation-shape}
 use Rattle.accepted.proofs.TranslationNames.{formal-below, translation-call-below}
-use Rattle.format.specs.Index.{Indexed, Opened, startIn}
-use Rattle.format.proofs.Indices.{start-inside, indexed-record}
+use Rattle.file_records.specs.Index.{Indexed, Opened, startIn}
+use Rattle.file_records.proofs.Indices.{start-inside, indexed-record}
 use Rattle.format.proofs.RunTables.{entry-more}
 use Rattle.run.specs.NodeTable.{Parts, EntryOf, ReadingOf, NodeTable, ReadingsIn, ListEntry, ReadingEntry}
 use Rattle.run.specs.States.{Ready}

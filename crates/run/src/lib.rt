@@ -2,7 +2,6 @@
 ghost use Rattle.run.specs.States.{Ready};
 ghost use Rattle.run.specs.Promise.{Runs};
 
-pub mod allowances;
 mod answers;
 mod look_up;
 mod next;
@@ -11,16 +10,16 @@ mod numbers;
 mod state;
 mod visit;
 
-use crate::allowances::allowed;
 use crate::answers::answered;
 use crate::look_up::body;
 use crate::node_table::node_table;
 use crate::visit::visit;
+use allowances::allowed;
 use cells::answer::Answer;
 use cells::answer::refused;
 use definitions::Verdict;
-use format::layout;
-use format::records::wide;
+use file_layout::layout;
+use file_records::records::wide;
 use format::translation::read_translation;
 
 // Runs a translation on a list of readings, with allowances of steps, nesting and cells, in lent cells of 4 bytes. The answer

@@ -13,15 +13,15 @@ ghost use lib.ListN.{length, getD};
 ghost use Rattle.definitions.specs.Layouts.{functions, nodes, due, bodyOf, nodeRecord};
 ghost use Rattle.definitions.specs.NodeFields.{clauseList, chosen};
 ghost use Rattle.definitions.specs.declared.Layout.the-variants.{Translation};
-ghost use Rattle.format.specs.Index.{Indexed};
+ghost use Rattle.file_records.specs.Index.{Indexed};
 ghost use Rattle.run.specs.States.{foundOf, Ready};
-use format::bytes::field_of;
-use format::layout::first_node;
-use format::records::field;
-use format::records::indexed;
-use format::records::wide;
-use format::references::clause_constructor;
-use format::references::clauses;
+use file_fields::bytes::field_of;
+use file_layout::layout::first_node;
+use file_records::records::field;
+use file_records::records::indexed;
+use file_records::records::wide;
+use file_references::references::clause_constructor;
+use file_references::references::clauses;
 
 // A node that was looked up, or none.
 pub enum Found {

@@ -13,8 +13,8 @@ use crate::node_table::third_in;
 use crate::numbers;
 use cells::cell::add_cell;
 use cells::cell::cell_at;
-use format::records::wide;
-use format::translation_kinds;
+use file_layout::translation_kinds;
+use file_records::records::wide;
 
 // A visit of a node under a context, with so many cells made; the number of a stop or a run fault; or neither, as the node is
 // no formal and no call.

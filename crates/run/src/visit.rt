@@ -26,9 +26,9 @@ use crate::state::ended;
 use crate::state::given;
 use crate::state::number;
 use crate::state::tag;
-use format::records::record_at;
-use format::records::wide;
-use format::translation_kinds;
+use file_layout::translation_kinds;
+use file_records::records::record_at;
+use file_records::records::wide;
 use operators::compute;
 
 // Visits node `k` under context `w`, with so many visits that may still be nested, steps left and cells made. What a formal

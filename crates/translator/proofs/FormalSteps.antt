@@ -12,8 +12,8 @@ use Rattle.definitions.specs.Layouts.{readings, items, functions, nodes, firstF
 use Rattle.definitions.specs.Translate.{calls, recordWords, actuals, formals, headWords, functionWords}
 use Rattle.definitions.specs.declared.Layout.the-variants.{Sheet}
 use Rattle.readback.proofs.Joined.{picked-length}
-use Rattle.format.specs.Index.{Opened, startIn}
-use Rattle.format.proofs.Indices.{indexed-field}
+use Rattle.file_records.specs.Index.{Opened, startIn}
+use Rattle.file_records.proofs.Indices.{indexed-field}
 use Rattle.translator.specs.Writing.{Wrote}
 use Rattle.translator.specs.Tables.{FirstFormals, FormalAt, marked}
 use Rattle.translator.proofs.Writing.{wrote-nothing, wrote-then, wrote-record}

@@ -23,7 +23,7 @@ use Rattle.definitions.specs.Translate.{recordWords, calls, labelOf, formalOf, 
 use Rattle.definitions.specs.declared.Layout.the-variants.{Sheet}
 use Rattle.accepted.proofs.Head.{nodes-limit}
 use Rattle.accepted.proofs.SheetRecords.{SheetRecord, is-number, is-reading, is-parameter, is-patternVariable, is-operator, is-conditional, is-call, is-build, is-case, node-record}
-use Rattle.format.specs.Index.{startIn}
+use Rattle.file_records.specs.Index.{startIn}
 use Rattle.translator.specs.Writing.{fieldWords}
 use Rattle.translator.specs.Tables.{Tables, NodeRead, OwnerFormals, marked}
 use Rattle.translator.proofs.Writing.{fields-listed}

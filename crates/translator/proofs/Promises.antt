@@ -19,7 +19,7 @@ use Rattle.laws.proofs.Verdicts.{then-accepted, then-refused}
 use Rattle.accepted.proofs.Checks.{sheet-shape}
 use Rattle.readback.proofs.Words.{bytes-length}
 use Rattle.readback.proofs.Size.{translation-limit}
-use Rattle.format.specs.Index.{ReadSheet}
+use Rattle.format.specs.Readers.{ReadSheet}
 use Rattle.translator.specs.Promise.{translationRefusal, answerOf, outputOf, Translates}
 use Rattle.translator.specs.Writing.{Wrote, lastPlace}
 use Rattle.translator.specs.Tables.{ReadTables}

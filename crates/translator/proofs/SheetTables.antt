@@ -18,8 +18,8 @@ use Rattle.definitions.specs.declared.Layout.the-variants.{Sheet}
 use Rattle.laws.proofs.Lists.{sum-more, count-more}
 use Rattle.accepted.proofs.Head.{nodes-limit, functions-limit}
 use Rattle.accepted.proofs.Owners.{owner-below, body-before-end, body-below}
-use Rattle.format.specs.Index.{Opened, startIn}
-use Rattle.format.proofs.Indices.{opened-record}
+use Rattle.file_records.specs.Index.{Opened, startIn}
+use Rattle.file_records.proofs.Indices.{opened-record}
 use Rattle.format.proofs.RunTables.{entry-more}
 use Rattle.translator.specs.Tables.{calleeOf, Callees, marked, FirstFormals, ReadTables, CallTable, FormalAt, OwnerFormals}
 

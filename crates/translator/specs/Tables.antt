@@ -14,7 +14,8 @@ use Rattle.definitions.specs.Shape.{fileShape}
 use Rattle.definitions.specs.Checks.{sheetVerdict}
 use Rattle.definitions.specs.declared.Layout.the-variants.{Sheet}
 use Rattle.definitions.specs.declared.Verdict.the-variants.{Accepted}
-use Rattle.format.specs.Index.{Opened, RunEnds, Owners}
+use Rattle.file_records.specs.Index.{Opened}
+use Rattle.format.specs.Readers.{RunEnds, Owners}
 
 -- the entry of a node's record: one more than the function that it calls, 0 where it is no call
 unfoldable pub calleeOf : List ℕ → ℕ

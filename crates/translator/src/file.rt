@@ -6,7 +6,7 @@ ghost use Rattle.definitions.specs.Shape.{fileShape};
 ghost use Rattle.definitions.specs.Translate.{headWords, functionWords, translationWords};
 ghost use Rattle.definitions.specs.declared.Layout.the-variants.{Sheet};
 ghost use Rattle.definitions.specs.declared.Verdict.the-variants.{Accepted};
-ghost use Rattle.format.specs.Index.{Opened};
+ghost use Rattle.file_records.specs.Index.{Opened};
 ghost use Rattle.translator.specs.Writing.{Wrote};
 ghost use Rattle.translator.specs.Tables.{FirstFormals, Tables};
 use crate::formals::put_formals;
@@ -18,13 +18,13 @@ use crate::words::put;
 use crate::words::put_one;
 use crate::words::put_start;
 use definitions::Layout;
-use format::layout::first_function;
-use format::layout::functions;
-use format::layout::nodes;
-use format::layout::readings;
-use format::records::field;
-use format::records::indexed;
-use format::records::wide;
+use file_layout::layout::first_function;
+use file_layout::layout::functions;
+use file_layout::layout::nodes;
+use file_layout::layout::readings;
+use file_records::records::field;
+use file_records::records::indexed;
+use file_records::records::wide;
 
 // Writes the head.
 fn put_head(b: &[u8], firsts: &[u32; 65], out: &mut [u8], at: usize) -> usize

@@ -15,13 +15,13 @@ use crate::tables::count_calls;
 use crate::tables::is_marked;
 use crate::words::put;
 use crate::words::put_start;
-use format::layout::first_node;
-use format::layout::functions;
-use format::layout::nodes;
-use format::names::parameters;
-use format::records::field;
-use format::records::indexed;
-use format::records::wide;
+use file_layout::layout::first_node;
+use file_layout::layout::functions;
+use file_layout::layout::nodes;
+use file_records::declared_counts::parameters;
+use file_records::records::field;
+use file_records::records::indexed;
+use file_records::records::wide;
 
 // Writes the argument of node `k` at position `i`, where it is a call of function `f`.
 fn put_actual(

@@ -16,14 +16,14 @@ use crate::tables::wide32;
 use crate::words::put_copy;
 use crate::words::put_one;
 use crate::words::put_two;
-use format::layout::first_node;
-use format::layout::nodes;
-use format::records::field;
-use format::records::indexed;
-use format::records::kind;
-use format::records::wide;
-use format::records::wide8;
-use format::sheet_kinds;
+use file_layout::layout::first_node;
+use file_layout::layout::nodes;
+use file_layout::sheet_kinds;
+use file_records::records::field;
+use file_records::records::indexed;
+use file_records::records::kind;
+use file_records::records::wide;
+use file_records::records::wide8;
 
 // The scrutinee of the case that is the body of node `k`'s function.
 fn scrutinee(b: &[u8], starts: &[u16; 1601], ends: &[u16; 64], owners: &[u8; 1024], k: usize) -> u16

@@ -4,17 +4,17 @@ ghost use mathlib.Core.Bool.{cond};
 ghost use Prim.Native.Nat.{_≤_, _<_};
 ghost use Rattle.definitions.specs.Lists.{countOf};
 ghost use Rattle.definitions.specs.declared.Layout.the-variants.{Sheet};
-ghost use Rattle.format.specs.Index.{Opened};
+ghost use Rattle.file_records.specs.Index.{Opened};
 ghost use Rattle.translator.specs.Tables.{calleeOf, Callees, marked, FirstFormals};
-use format::layout::first_node;
-use format::layout::functions;
-use format::layout::nodes;
-use format::names::parameters;
-use format::records::field;
-use format::records::indexed;
-use format::records::kind;
-use format::records::wide;
-use format::sheet_kinds;
+use file_layout::layout::first_node;
+use file_layout::layout::functions;
+use file_layout::layout::nodes;
+use file_layout::sheet_kinds;
+use file_records::declared_counts::parameters;
+use file_records::records::field;
+use file_records::records::indexed;
+use file_records::records::kind;
+use file_records::records::wide;
 
 // One more than the function that a node's record calls, 0 where it is no call.
 fn callee(rec: &[u8]) -> u32

@@ -7,10 +7,10 @@ ghost use lib.ListN.{length, set};
 ghost use Rattle.definitions.specs.Records.{kindOf, fieldCount};
 ghost use Rattle.definitions.specs.Translate.{recordWords};
 ghost use Rattle.translator.specs.Writing.{Wrote, fieldWords};
-use format::records::field;
-use format::records::field_count;
-use format::records::kind;
-use format::records::wide;
+use file_records::records::field;
+use file_records::records::field_count;
+use file_records::records::kind;
+use file_records::records::wide;
 
 // "Translation, at most 40,960 bytes".
 const LAST_PLACE: usize = 40960;

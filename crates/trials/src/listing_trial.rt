@@ -11,9 +11,9 @@ use crate::text::numbered;
 use crate::translator_trial::agree;
 use cells::listing::Listed;
 use cells::listing::list_context;
+use file_fields::bytes::word;
+use file_records::records::wide;
 use file_writer::Space;
-use format::bytes::word;
-use format::records::wide;
 
 // Lists the context of cell `c` of the first `lent` bytes of cells into the first `room` bytes of an output.
 fn listed(cells: &[u8], lent: usize, c: usize, out: &mut [u8], room: usize) -> Listed {

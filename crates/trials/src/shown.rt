@@ -1,10 +1,10 @@
 // What the trials write: parts of their text, numbers between words, and refusals.
 use crate::text::entry_end;
+use file_fields::bytes::word;
+use file_fields::bytes::word32;
+use file_records::records::wide;
+use file_records::records::wide32;
 use file_writer::Space;
-use format::bytes::word;
-use format::bytes::word32;
-use format::records::wide;
-use format::records::wide32;
 
 // A part of the text.
 pub(crate) fn show_part(text: &[u8], from: usize, end: usize) {

@@ -1,7 +1,8 @@
 -- `run::run_accepted` meets its contract: the refusals 9 and 10, and else the rule's answer.
 use borrow.Author.Tests.{not-true, not-false}
 use native.Mathlib.Omega.{arith}
-use Rattle.run.proofs.Answering.{fitting, result-there, first-below, run-ends, readings-refused, allowance-refused, run-answered}
+use Rattle.allowances.proofs.Limits.{fitting}
+use Rattle.run.proofs.Answering.{result-there, first-below, run-ends, readings-refused, allowance-refused, run-answered}
 use borrow.Author.Needs.{needs}
 use Rattle.run.proofs.run_accepted.Statement.{statement}
 use Rattle.run.proofs.run_accepted.Tie as tie

@@ -1,5 +1,6 @@
 -- `format::names::names` meets its contract. The loop's invariant: the records passed are accepted.
-use Rattle.format.specs.Index.{Opened, Owners}
+use Rattle.file_records.specs.Index.{Opened}
+use Rattle.format.specs.Readers.{Owners}
 use Rattle.laws.proofs.Verdicts.{Passed, passed-none, passed-more, passed-refused, passed-all}
 use Rattle.definitions.specs.declared.Layout.the-variants.{Sheet}
 use Rattle.definitions.specs.Verdicts.{_andThen_}

@@ -1,5 +1,5 @@
 -- `format::names::names_at` meets its contract: 5 and then 7, of the record that the index reaches.
-use Rattle.format.proofs.Indices.{opened-record}
+use Rattle.file_records.proofs.Indices.{opened-record}
 use Rattle.laws.proofs.Arguments.{out-of-range, mismatched, matched}
 use Rattle.laws.proofs.Names.{children-out, names-out, all-in}
 use mathlib.Core.Path.{sym, _∙_}

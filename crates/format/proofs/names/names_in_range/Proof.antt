@@ -1,6 +1,6 @@
 -- `format::names::names_in_range` meets its contract, kind by kind.
 use mathlib.Core.Path.{_∙_}
-use Rattle.format.proofs.Indices.{numbered-sheet-kind}
+use Rattle.file_records.proofs.Indices.{numbered-sheet-kind}
 use Rattle.laws.proofs.Names.{names-sheet-reading, names-parameter, names-callee, names-constructor, names-clauses, names-sheet-none}
 use borrow.Author.Needs.{needs}
 use Rattle.format.proofs.names.names_in_range.Statement.{statement}

@@ -1,6 +1,6 @@
 -- `format::runs::run_ends` meets its contract. The loop's invariant: the ends of the runs passed are in the table, and the total is the last of them.
 use Rattle.format.proofs.RunTables.{Ending, ending-begins, next-fits, ending-goes-on, ending-done}
-use Rattle.format.proofs.Indices.{indexed-field}
+use Rattle.file_records.proofs.Indices.{indexed-field}
 use native.Mathlib.Omega.{arith}
 use mathlib.Core.Path.{refl, _∙_}
 use Prim.Native.Nat.{_-_}

@@ -1,6 +1,6 @@
 -- `format::shape::run_counts` meets its contract; at the last function the index holds every function's record.
 use native.Mathlib.Omega.{arith}
-use Rattle.format.proofs.Indices.{as-many}
+use Rattle.file_records.proofs.Indices.{as-many}
 use Rattle.laws.proofs.Shape.{run-empty, run-last, run-inner}
 use borrow.Author.Needs.{needs}
 use Rattle.format.proofs.shape.run_counts.Statement.{statement}

@@ -2,9 +2,9 @@
 use native.Mathlib.Omega.{arith}
 use Rattle.definitions.specs.Records.{field}
 use mathlib.Core.Path.{_∙_, ap}
-use Rattle.format.proofs.Indices.{indexed-record, indexed-field, as-many}
+use Rattle.file_records.proofs.Indices.{indexed-record, indexed-field, as-many}
 use Rattle.laws.proofs.Runs.{Totalled, total-none, total-more, total-counts}
-use Rattle.format.specs.Index.{Indexed}
+use Rattle.file_records.specs.Index.{Indexed}
 use Prim.Native.Nat.{_≤_, _-_, _+_, _*_}
 use borrow.Author.Needs.{needs}
 use Rattle.format.proofs.shape.run_total.Statement.{statement}

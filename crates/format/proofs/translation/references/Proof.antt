@@ -1,6 +1,6 @@
 -- `format::translation::references` meets its contract. The loop's invariant: the rules of the records passed are accepted.
 use native.Mathlib.Omega.{arith}
-use Rattle.format.specs.Index.{Opened}
+use Rattle.file_records.specs.Index.{Opened}
 use Rattle.laws.proofs.Verdicts.{Passed, passed-none, passed-more, passed-refused, passed-all}
 use Rattle.definitions.specs.declared.Layout.the-variants.{Translation}
 use Rattle.definitions.specs.References.{references}

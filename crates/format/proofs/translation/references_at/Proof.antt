@@ -1,5 +1,5 @@
 -- `format::translation::references_at` meets its contract: the record that the index reaches is the record of that number.
-use Rattle.format.proofs.Indices.{opened-record, opened-translation-kind}
+use Rattle.file_records.proofs.Indices.{opened-record, opened-translation-kind}
 use Rattle.laws.proofs.Names.{children-out, names-out, all-in}
 use borrow.Author.Tests.{not-true, not-false}
 use borrow.Author.Needs.{needs}

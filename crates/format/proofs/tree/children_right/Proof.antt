@@ -1,6 +1,6 @@
 -- `format::tree::children_right` meets its contract. The loop's invariant: the children so far are right.
 use Rattle.format.proofs.TreeSteps.{child-not-smaller, child-elsewhere, child-right}
-use Rattle.format.specs.Index.{Owners}
+use Rattle.format.specs.Readers.{Owners}
 use Rattle.laws.proofs.Tests.{Each, each-none, each-more, each-fails, each-all}
 use Rattle.definitions.specs.declared.Layout.the-variants.{Sheet}
 use Rattle.definitions.specs.References.{children, child}

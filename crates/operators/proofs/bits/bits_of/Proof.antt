@@ -1,5 +1,6 @@
 -- `operators::bits::bits_of` meets its contract: 2 ^ 32 above a negative number are its bits, and any other is its own.
 use lib.IntN.{natAbs}
+use native.Mathlib.Omega.{arith}
 use mathlib.Core.Path.{ap}
 use Rattle.operators.proofs.Conversions.{widened, sum-fits, sum-bits, own-bits, bits-cast}
 use Rattle.operators.proofs.bits.bits_of.Statement.{statement}
@@ -9,7 +10,7 @@ cast-result : tie.Need-cast-result
 cast-result c = widened _ (c .before .fits .x)
 
 add-result : tie.Need-add-result
-add-result c = sum-fits _ (c .before .fits .x) (c .if1 .taken)
+add-result c = sum-fits _ (c .before .fits .x) _ (omega arith) (omega arith)
 
 cast-result-2 : tie.Need-cast-result-2
 cast-result-2 c = bits-cast (c .before .args .x) (c .before .fits .x) _ (sum-bits _ (c .before .fits .x) (c .if1 .taken))

@@ -36,8 +36,8 @@ use Rattle.run.proofs.visit.+evaluate+visit+visit_case+visit_conditiona
 use Rattle.run.proofs.visit.visit_select.Reads as visit-select
 use Rattle.run.proofs.visit.visit_select.Kinds as visit-select-kinds
 use Rattle.run.proofs.visit.+evaluate+visit+visit_case+visit_conditional+visit_operand+visit_operator+visit_select.Lts-visit_select as visit-select-lts
-use Rattle.format.proofs.records.record_at.Reads as record-at-reads
-use Rattle.format.proofs.records.wide.Reads as wide-reads
+use Rattle.file_records.proofs.records.record_at.Reads as record-at-reads
+use Rattle.file_records.proofs.records.wide.Reads as wide-reads
 use Rattle.operators.proofs.compute.Reads as compute-reads
 use Rattle.run.proofs.look_up.branch.Reads as branch-reads
 use Rattle.run.proofs.look_up.clause.Reads as clause-reads

@@ -12,11 +12,11 @@ use Rattle.translator.proofs.file.put_functions.Statement.{statement}
 use Rattle.translator.proofs.file.put_functions.Tie as tie
 use Rattle.translator.proofs.file.put_functions.Reads as reads
 use Rattle.translator.proofs.file.put_functions.Lts as lts
-use Rattle.format.proofs.layout.first_function.Reads as first-function-reads
-use Rattle.format.proofs.layout.functions.Reads as functions-reads
-use Rattle.format.proofs.records.field.Reads as field-reads
-use Rattle.format.proofs.records.indexed.Reads as indexed-reads
-use Rattle.format.proofs.records.wide.Reads as wide-reads
+use Rattle.file_layout.proofs.layout.first_function.Reads as first-function-reads
+use Rattle.file_layout.proofs.layout.functions.Reads as functions-reads
+use Rattle.file_records.proofs.records.field.Reads as field-reads
+use Rattle.file_records.proofs.records.indexed.Reads as indexed-reads
+use Rattle.file_records.proofs.records.wide.Reads as wide-reads
 use Rattle.translator.proofs.words.put_one.Reads as put-one-reads
 
 abbrev Inv-loop : tie.InvT-loop

@@ -9,10 +9,10 @@ use Rattle.translator.proofs.file.put_head.Statement.{statement}
 use Rattle.translator.proofs.file.put_head.Tie as tie
 use Rattle.translator.proofs.file.put_head.Reads as reads
 use Rattle.translator.proofs.file.put_head.Lts as lts
-use Rattle.format.proofs.layout.functions.Reads as functions-reads
-use Rattle.format.proofs.layout.nodes.Reads as nodes-reads
-use Rattle.format.proofs.layout.readings.Reads as readings-reads
-use Rattle.format.proofs.records.wide.Reads as wide-reads
+use Rattle.file_layout.proofs.layout.functions.Reads as functions-reads
+use Rattle.file_layout.proofs.layout.nodes.Reads as nodes-reads
+use Rattle.file_layout.proofs.layout.readings.Reads as readings-reads
+use Rattle.file_records.proofs.records.wide.Reads as wide-reads
 use Rattle.translator.proofs.tables.wide32.Reads as wide32-reads
 use Rattle.translator.proofs.words.put.Reads as put-reads
 use Rattle.translator.proofs.words.put_start.Reads as put-start-reads

@@ -6,10 +6,10 @@ use Rattle.translator.proofs.formals.put_actual.Statement.{statement}
 use Rattle.translator.proofs.formals.put_actual.Tie as tie
 use Rattle.translator.proofs.formals.put_actual.Reads as reads
 use Rattle.translator.proofs.formals.put_actual.Lts as lts
-use Rattle.format.proofs.layout.first_node.Reads as first-node-reads
-use Rattle.format.proofs.records.field.Reads as field-reads
-use Rattle.format.proofs.records.indexed.Reads as indexed-reads
-use Rattle.format.proofs.records.wide.Reads as wide-reads
+use Rattle.file_layout.proofs.layout.first_node.Reads as first-node-reads
+use Rattle.file_records.proofs.records.field.Reads as field-reads
+use Rattle.file_records.proofs.records.indexed.Reads as indexed-reads
+use Rattle.file_records.proofs.records.wide.Reads as wide-reads
 use Rattle.translator.proofs.tables.is_marked.Reads as is-marked-reads
 use Rattle.translator.proofs.words.put.Reads as put-reads
 

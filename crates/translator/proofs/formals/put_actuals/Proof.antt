@@ -15,8 +15,8 @@ use Rattle.translator.proofs.formals.put_actuals.Statement.{statement}
 use Rattle.translator.proofs.formals.put_actuals.Tie as tie
 use Rattle.translator.proofs.formals.put_actuals.Reads as reads
 use Rattle.translator.proofs.formals.put_actuals.Lts as lts
-use Rattle.format.proofs.layout.nodes.Reads as nodes-reads
-use Rattle.format.proofs.records.wide.Reads as wide-reads
+use Rattle.file_layout.proofs.layout.nodes.Reads as nodes-reads
+use Rattle.file_records.proofs.records.wide.Reads as wide-reads
 use Rattle.translator.proofs.formals.put_actual.Reads as put-actual-reads
 
 abbrev Inv-loop : tie.InvT-loop

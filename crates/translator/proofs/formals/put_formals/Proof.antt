@@ -10,7 +10,7 @@ use Rattle.translator.proofs.formals.put_formals.Statement.{statement}
 use Rattle.translator.proofs.formals.put_formals.Tie as tie
 use Rattle.translator.proofs.formals.put_formals.Reads as reads
 use Rattle.translator.proofs.formals.put_formals.Lts as lts
-use Rattle.format.proofs.layout.functions.Reads as functions-reads
+use Rattle.file_layout.proofs.layout.functions.Reads as functions-reads
 use Rattle.translator.proofs.formals.put_function_formals.Reads as put-function-formals-reads
 
 abbrev Inv-loop : tie.InvT-loop

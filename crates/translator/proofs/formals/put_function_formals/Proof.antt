@@ -14,9 +14,9 @@ use Rattle.translator.proofs.formals.put_function_formals.Statement.{st
 use Rattle.translator.proofs.formals.put_function_formals.Tie as tie
 use Rattle.translator.proofs.formals.put_function_formals.Reads as reads
 use Rattle.translator.proofs.formals.put_function_formals.Lts as lts
-use Rattle.format.proofs.layout.nodes.Reads as nodes-reads
-use Rattle.format.proofs.names.parameters.Reads as parameters-reads
-use Rattle.format.proofs.records.wide.Reads as wide-reads
+use Rattle.file_layout.proofs.layout.nodes.Reads as nodes-reads
+use Rattle.file_records.proofs.declared_counts.parameters.Reads as parameters-reads
+use Rattle.file_records.proofs.records.wide.Reads as wide-reads
 use Rattle.translator.proofs.formals.put_formal.Reads as put-formal-reads
 use Rattle.translator.proofs.tables.count_calls.Reads as count-calls-reads
 

@@ -6,8 +6,8 @@ use Rattle.translator.proofs.nodes.formal.Statement.{statement}
 use Rattle.translator.proofs.nodes.formal.Tie as tie
 use Rattle.translator.proofs.nodes.formal.Reads as reads
 use Rattle.translator.proofs.nodes.formal.Lts as lts
-use Rattle.format.proofs.records.wide.Reads as wide-reads
-use Rattle.format.proofs.records.wide8.Reads as wide8-reads
+use Rattle.file_records.proofs.records.wide.Reads as wide-reads
+use Rattle.file_records.proofs.records.wide8.Reads as wide8-reads
 use Rattle.translator.proofs.tables.wide32.Reads as wide32-reads
 
 -- src/nodes.rt:29:25

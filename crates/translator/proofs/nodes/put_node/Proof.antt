@@ -5,8 +5,8 @@ use Rattle.translator.proofs.nodes.put_node.Statement.{statement}
 use Rattle.translator.proofs.nodes.put_node.Tie as tie
 use Rattle.translator.proofs.nodes.put_node.Reads as reads
 use Rattle.translator.proofs.nodes.put_node.Lts as lts
-use Rattle.format.proofs.layout.first_node.Reads as first-node-reads
-use Rattle.format.proofs.records.indexed.Reads as indexed-reads
+use Rattle.file_layout.proofs.layout.first_node.Reads as first-node-reads
+use Rattle.file_records.proofs.records.indexed.Reads as indexed-reads
 use Rattle.translator.proofs.nodes.put_read.Reads as put-read-reads
 
 -- src/nodes.rt:59:75

@@ -11,8 +11,8 @@ use Rattle.translator.proofs.nodes.put_nodes.Statement.{statement}
 use Rattle.translator.proofs.nodes.put_nodes.Tie as tie
 use Rattle.translator.proofs.nodes.put_nodes.Reads as reads
 use Rattle.translator.proofs.nodes.put_nodes.Lts as lts
-use Rattle.format.proofs.layout.nodes.Reads as nodes-reads
-use Rattle.format.proofs.records.wide.Reads as wide-reads
+use Rattle.file_layout.proofs.layout.nodes.Reads as nodes-reads
+use Rattle.file_records.proofs.records.wide.Reads as wide-reads
 use Rattle.translator.proofs.nodes.put_node.Reads as put-node-reads
 
 abbrev Inv-loop : tie.InvT-loop

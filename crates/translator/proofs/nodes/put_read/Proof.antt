@@ -7,9 +7,9 @@ use Rattle.translator.proofs.nodes.put_read.Statement.{statement}
 use Rattle.translator.proofs.nodes.put_read.Tie as tie
 use Rattle.translator.proofs.nodes.put_read.Reads as reads
 use Rattle.translator.proofs.nodes.put_read.Lts as lts
-use Rattle.format.proofs.records.field.Reads as field-reads
-use Rattle.format.proofs.records.kind.Reads as kind-reads
-use Rattle.format.proofs.records.wide.Reads as wide-reads
+use Rattle.file_records.proofs.records.field.Reads as field-reads
+use Rattle.file_records.proofs.records.kind.Reads as kind-reads
+use Rattle.file_records.proofs.records.wide.Reads as wide-reads
 use Rattle.translator.proofs.nodes.formal.Reads as formal-reads
 use Rattle.translator.proofs.nodes.scrutinee.Reads as scrutinee-reads
 use Rattle.translator.proofs.tables.count_calls.Reads as count-calls-reads

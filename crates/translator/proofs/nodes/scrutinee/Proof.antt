@@ -6,11 +6,11 @@ use Rattle.translator.proofs.nodes.scrutinee.Statement.{statement}
 use Rattle.translator.proofs.nodes.scrutinee.Tie as tie
 use Rattle.translator.proofs.nodes.scrutinee.Reads as reads
 use Rattle.translator.proofs.nodes.scrutinee.Lts as lts
-use Rattle.format.proofs.layout.first_node.Reads as first-node-reads
-use Rattle.format.proofs.records.field.Reads as field-reads
-use Rattle.format.proofs.records.indexed.Reads as indexed-reads
-use Rattle.format.proofs.records.wide.Reads as wide-reads
-use Rattle.format.proofs.records.wide8.Reads as wide8-reads
+use Rattle.file_layout.proofs.layout.first_node.Reads as first-node-reads
+use Rattle.file_records.proofs.records.field.Reads as field-reads
+use Rattle.file_records.proofs.records.indexed.Reads as indexed-reads
+use Rattle.file_records.proofs.records.wide.Reads as wide-reads
+use Rattle.file_records.proofs.records.wide8.Reads as wide8-reads
 
 -- src/nodes.rt:20:31
 element-copy-out-wide8 : tie.Need-element-copy-out-wide8

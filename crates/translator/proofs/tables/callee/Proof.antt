@@ -5,8 +5,8 @@ use Rattle.translator.proofs.tables.callee.Statement.{statement}
 use Rattle.translator.proofs.tables.callee.Tie as tie
 use Rattle.translator.proofs.tables.callee.Reads as reads
 use Rattle.translator.proofs.tables.callee.Lts as lts
-use Rattle.format.proofs.records.field.Reads as field-reads
-use Rattle.format.proofs.records.kind.Reads as kind-reads
+use Rattle.file_records.proofs.records.field.Reads as field-reads
+use Rattle.file_records.proofs.records.kind.Reads as kind-reads
 
 -- src/tables.rt:17:8
 kind-requires : tie.Need-kind-requires

@@ -7,10 +7,10 @@ use Rattle.translator.proofs.tables.callees.Statement.{statement}
 use Rattle.translator.proofs.tables.callees.Tie as tie
 use Rattle.translator.proofs.tables.callees.Reads as reads
 use Rattle.translator.proofs.tables.callees.Lts as lts
-use Rattle.format.proofs.layout.first_node.Reads as first-node-reads
-use Rattle.format.proofs.layout.nodes.Reads as nodes-reads
-use Rattle.format.proofs.records.indexed.Reads as indexed-reads
-use Rattle.format.proofs.records.wide.Reads as wide-reads
+use Rattle.file_layout.proofs.layout.first_node.Reads as first-node-reads
+use Rattle.file_layout.proofs.layout.nodes.Reads as nodes-reads
+use Rattle.file_records.proofs.records.indexed.Reads as indexed-reads
+use Rattle.file_records.proofs.records.wide.Reads as wide-reads
 use Rattle.translator.proofs.tables.callee.Reads as callee-reads
 
 abbrev Inv-loop : tie.InvT-loop

@@ -9,9 +9,9 @@ use Rattle.translator.proofs.tables.first_formals.Statement.{statement}
 use Rattle.translator.proofs.tables.first_formals.Tie as tie
 use Rattle.translator.proofs.tables.first_formals.Reads as reads
 use Rattle.translator.proofs.tables.first_formals.Lts as lts
-use Rattle.format.proofs.layout.functions.Reads as functions-reads
-use Rattle.format.proofs.names.parameters.Reads as parameters-reads
-use Rattle.format.proofs.records.wide.Reads as wide-reads
+use Rattle.file_layout.proofs.layout.functions.Reads as functions-reads
+use Rattle.file_records.proofs.declared_counts.parameters.Reads as parameters-reads
+use Rattle.file_records.proofs.records.wide.Reads as wide-reads
 
 abbrev Inv-loop : tie.InvT-loop
 Inv-loop b starts count firsts₀ total₀ f₀ firsts total f = Summing b firsts count total f

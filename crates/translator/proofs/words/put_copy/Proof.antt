@@ -6,9 +6,9 @@ use Rattle.translator.proofs.words.put_copy.Statement.{statement}
 use Rattle.translator.proofs.words.put_copy.Tie as tie
 use Rattle.translator.proofs.words.put_copy.Reads as reads
 use Rattle.translator.proofs.words.put_copy.Lts as lts
-use Rattle.format.proofs.records.field_count.Reads as field-count-reads
-use Rattle.format.proofs.records.kind.Reads as kind-reads
-use Rattle.format.proofs.records.wide.Reads as wide-reads
+use Rattle.file_records.proofs.records.field_count.Reads as field-count-reads
+use Rattle.file_records.proofs.records.kind.Reads as kind-reads
+use Rattle.file_records.proofs.records.wide.Reads as wide-reads
 use Rattle.translator.proofs.words.put_fields.Reads as put-fields-reads
 use Rattle.translator.proofs.words.put_start.Reads as put-start-reads
 

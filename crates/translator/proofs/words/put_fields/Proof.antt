@@ -11,9 +11,9 @@ use Rattle.translator.proofs.words.put_fields.Statement.{statement}
 use Rattle.translator.proofs.words.put_fields.Tie as tie
 use Rattle.translator.proofs.words.put_fields.Reads as reads
 use Rattle.translator.proofs.words.put_fields.Lts as lts
-use Rattle.format.proofs.records.field.Reads as field-reads
-use Rattle.format.proofs.records.field_count.Reads as field-count-reads
-use Rattle.format.proofs.records.wide.Reads as wide-reads
+use Rattle.file_records.proofs.records.field.Reads as field-reads
+use Rattle.file_records.proofs.records.field_count.Reads as field-count-reads
+use Rattle.file_records.proofs.records.wide.Reads as wide-reads
 use Rattle.translator.proofs.words.put.Reads as put-reads
 
 abbrev Inv-loop : tie.InvT-loop

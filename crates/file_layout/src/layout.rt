@@ -1,0 +1,140 @@
+// The parts of a file: the head's counts, the sections of records and the runs of nodes.
+ghost use mathlib.Core.Path.{_≡_};
+ghost use Prim.Native.Nat.{_≤_};
+ghost use Rattle.definitions.specs.Layouts.{readings, items, functions, nodes, firstItem, firstFunction, firstNode, due, headKind, sectionKind, nodeKind, isDue, countField};
+ghost use Rattle.definitions.specs.Shape.{fileLimit, itemLimit};
+use crate::sheet_kinds;
+use crate::translation_kinds;
+use definitions::Layout;
+use file_fields::bytes::word;
+
+// The head's counts.
+pub fn readings(b: &[u8]) -> u16
+    ensures { λ r. ⌜ r ≡ readings (now (b .entry)) ⌝ }
+{
+    word(b, 4)
+}
+
+pub fn items(b: &[u8]) -> u16
+    ensures { λ r. ⌜ r ≡ items (now (b .entry)) ⌝ }
+{
+    word(b, 6)
+}
+
+pub fn functions(b: &[u8]) -> u16
+    ensures { λ r. ⌜ r ≡ functions (now (b .entry)) ⌝ }
+{
+    word(b, 8)
+}
+
+pub fn nodes(b: &[u8]) -> u16
+    ensures { λ r. ⌜ r ≡ nodes (now (b .entry)) ⌝ }
+{
+    word(b, 10)
+}
+
+// The numbers of the first item's, the first function's and the first node's record, and of the records due.
+pub fn first_item(y: Layout, b: &[u8]) -> usize
+    ensures { λ r. ⌜ (r ≡ firstItem y (now (b .entry))) × (r ≤ 65536) ⌝ }
+{
+    match y {
+        Layout::Sheet => 1,
+        Layout::Translation => 1 + functions(b) as usize,
+    }
+}
+
+pub fn first_function(y: Layout, b: &[u8]) -> usize
+    ensures { λ r. ⌜ (r ≡ firstFunction y (now (b .entry))) × (r ≤ 65536) ⌝ }
+{
+    match y {
+        Layout::Sheet => 1 + items(b) as usize,
+        Layout::Translation => 1,
+    }
+}
+
+pub fn first_node(b: &[u8]) -> usize
+    ensures { λ r. ⌜ (r ≡ firstNode (now (b .entry))) × (r ≤ 131071) ⌝ }
+{
+    1 + items(b) as usize + functions(b) as usize
+}
+
+pub fn due(b: &[u8]) -> usize
+    ensures { λ r. ⌜ (r ≡ due (now (b .entry))) × (r ≤ 196606) ⌝ }
+{
+    first_node(b) + nodes(b) as usize
+}
+
+// The kinds that are due.
+fn head_kind(y: Layout) -> u16
+    ensures { λ r. ⌜ r ≡ headKind y ⌝ }
+{
+    match y {
+        Layout::Sheet => sheet_kinds::HEAD,
+        Layout::Translation => translation_kinds::HEAD,
+    }
+}
+
+fn section_kind(y: Layout, b: &[u8], r: usize) -> u16
+    ensures { λ k. ⌜ k ≡ sectionKind y (now (b .entry)) r ⌝ }
+{
+    match y {
+        Layout::Sheet => { if r <= items(b) as usize { 2 } else { 3 } }
+        Layout::Translation => { if r <= functions(b) as usize { 34 } else { 35 } }
+    }
+}
+
+fn node_kind(y: Layout) -> u16
+    ensures { λ r. ⌜ r ≡ nodeKind y ⌝ }
+{
+    match y {
+        Layout::Sheet => sheet_kinds::NUMBER,
+        Layout::Translation => translation_kinds::NUMBER,
+    }
+}
+
+// Whether a kind is due at record `r`.
+pub fn is_due(y: Layout, b: &[u8], r: usize, kind: u16) -> bool
+    ensures { λ t. ⌜ t ≡ isDue y (now (b .entry)) r kind ⌝ }
+{
+    if r == 0 {
+        return kind == head_kind(y);
+    }
+    if r < first_node(b) {
+        return kind == section_kind(y, b, r);
+    }
+    let low = node_kind(y);
+    if kind < low {
+        return false;
+    }
+    kind - low <= 8
+}
+
+// The field of a function's record that holds its node count.
+pub fn count_field(y: Layout) -> usize
+    ensures { λ r. ⌜ r ≡ countField y ⌝ }
+{
+    match y {
+        Layout::Sheet => 1,
+        Layout::Translation => 0,
+    }
+}
+
+// The greatest length of a file: "at most 32,768 bytes", "at most 40,960 bytes".
+pub fn file_limit(y: Layout) -> usize
+    ensures { λ r. ⌜ r ≡ fileLimit y ⌝ }
+{
+    match y {
+        Layout::Sheet => 32768,
+        Layout::Translation => 40960,
+    }
+}
+
+// The greatest count of items: "constructors K 0..64", "formals P 0..512".
+pub fn item_limit(y: Layout) -> u16
+    ensures { λ r. ⌜ r ≡ itemLimit y ⌝ }
+{
+    match y {
+        Layout::Sheet => 64,
+        Layout::Translation => 512,
+    }
+}

@@ -1,0 +1,20 @@
+-- `file_records::declared_counts::arity` meets its contract.
+use Rattle.file_records.proofs.Indices.{shown-field}
+use borrow.Author.Needs.{needs}
+use Rattle.file_records.proofs.declared_counts.arity.Statement.{statement}
+use Rattle.file_records.proofs.declared_counts.arity.Tie as tie
+
+first-item-requires : tie.Need-first-item-requires
+first-item-requires c κs = search needs
+
+indexed-from-requires : tie.Need-indexed-from-requires
+indexed-from-requires c κs = search needs
+
+field-requires : tie.Need-field-requires
+field-requires c κs = search needs
+
+returns : tie.Need-returns
+returns c = shown-field _ _ _ _ _ _ _ (c .before .before .first-item .ensures .0) (c .before .indexed-from .ensures) (c .field .ensures)
+
+pub arity-spec : {M : Type 1} → statement M
+arity-spec = tie.close (tie.spec first-item-requires indexed-from-requires field-requires returns)

@@ -1,0 +1,21 @@
+-- `file_records::declared_counts::parameters` meets its contract.
+use Rattle.file_records.proofs.Indices.{shown-field}
+use borrow.Author.Needs.{needs}
+use Rattle.file_records.proofs.declared_counts.parameters.Statement.{statement}
+use Rattle.file_records.proofs.declared_counts.parameters.Tie as tie
+
+first-function-requires : tie.Need-first-function-requires
+first-function-requires c κs = search needs
+
+indexed-from-requires : tie.Need-indexed-from-requires
+indexed-from-requires c κs = search needs
+
+field-requires : tie.Need-field-requires
+field-requires c κs = search needs
+
+returns : tie.Need-returns
+returns c = shown-field _ _ _ _ _ _ _ (c .before .before .first-function .ensures .0) (c .before .indexed-from .ensures) (c .field .ensures)
+
+pub parameters-spec : {M : Type 1} → statement M
+parameters-spec =
+    tie.close (tie.spec first-function-requires indexed-from-requires field-requires returns)

@@ -1,0 +1,60 @@
+-- `file_references::references::constructors_below` meets its contract. The loop's invariant: every constructor so far is below the limit.
+use Rattle.laws.proofs.Tests.{Each, each-none, each-more, each-fails, each-all, below-test, below-not}
+use Rattle.definitions.specs.References.{clauses, clauseConstructor}
+use Rattle.definitions.specs.Lists.{allOf}
+use lib.Dec.{ltb}
+use mathlib.Core.Bool.{true}
+use mathlib.Core.Path.{_≡_, sym, _∙_}
+use Prim.Native.Nat.{_≤_, _-_}
+use borrow.Author.Needs.{needs}
+use Rattle.file_references.proofs.references.constructors_below.Statement.{statement}
+use Rattle.file_references.proofs.references.constructors_below.Tie as tie
+
+abbrev Inv-loop : tie.InvT-loop
+Inv-loop rec limit count j₀ j = (j ≤ count) × (count ≡ clauses rec) × Each j (λ i. ltb (clauseConstructor rec i) limit)
+
+abbrev μ-loop : tie.MeasureT-loop
+μ-loop rec limit count j₀ j = count - j
+
+clauses-requires : tie.Need-clauses-requires Inv-loop μ-loop
+clauses-requires c κs = search needs
+
+loop-holds : tie.Need-loop-holds Inv-loop μ-loop
+loop-holds c = (search needs, c .clauses .ensures, each-none _)
+
+clause-constructor-requires : tie.Need-clause-constructor-requires Inv-loop μ-loop
+clause-constructor-requires c κs = search needs
+
+cast-if1 : tie.Need-cast-if1 Inv-loop μ-loop
+cast-if1 c = search needs
+
+returns : tie.Need-returns Inv-loop μ-loop
+returns c = each-fails _ _ _ _ (c .before .before .before .loop .inv .1) (c .before .before .loop-test .taken) (below-not _ _ _ (c .before .clause-constructor .ensures) (c .if1 .taken))
+
+add-j : tie.Need-add-j Inv-loop μ-loop
+add-j c = search needs
+
+loop-less : tie.Need-loop-less Inv-loop μ-loop
+loop-less c = search needs
+
+loop-again : tie.Need-loop-again Inv-loop μ-loop
+loop-again c = (search needs, c .before .before .before .loop .inv .1, each-more _ _ (c .before .before .before .loop .inv .2) (below-test _ _ _ (c .before .clause-constructor .ensures) (c .if1 .left)))
+
+returns-2 : tie.Need-returns-2 Inv-loop μ-loop
+returns-2 c = each-all _ _ _ _ (c .before .loop .inv .1) (c .before .loop .inv .0) (c .loop-test .left) (c .before .loop .inv .2)
+
+pub constructors-below-spec : {M : Type 1} → statement M
+constructors-below-spec =
+    tie.close
+    (tie.spec
+    Inv-loop
+    μ-loop
+    clauses-requires
+    loop-holds
+    clause-constructor-requires
+    cast-if1
+    returns
+    add-j
+    loop-less
+    loop-again
+    returns-2)
