@@ -11,7 +11,7 @@ pub mod Steps
 pub mod NumberSteps
 pub mod ConstructorSteps
 pub mod Nodes
-pub mod Visiting
+pub mod Formals
 pub mod Answering
 pub mod Entries
 pub mod EntryReads

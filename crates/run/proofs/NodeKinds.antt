@@ -14,8 +14,7 @@ use Rattle.definitions.specs.declared.Layout.the-variants.{Translation}
 use Rattle.definitions.specs.declared.Verdict.the-variants.{Accepted}
 use Rattle.accepted.proofs.Checks.{translation-shape}
 use Rattle.accepted.proofs.Sections.{node-kind}
-use Rattle.run.specs.States.{NodeIs}
-use Rattle.run.specs.Next.{Remains}
+use Rattle.run.specs.States.{NodeIs, Remains}
 
 -- the node of a kind
 module _ (b rec : List ℕ) (k : ℕ) where
@@ -75,6 +74,7 @@ node-last b rec k kind accepted h e f n0 n1 n2 n3 n4 n5 n6 n7 =
     node-is b rec k kind 56 h e f (last-of kind (rw (f, e) (l .least)) (rw (f, e) (l .greatest)) n0 n1 n2 n3 n4 n5 n6 n7)
 
 pub node-remaining : (b : List ℕ) (k kind : ℕ) → translationVerdict b ≡ Accepted → k < nodes b → kind ≡ kindOf (nodeRecord b k) → Remains b k
-    → (kind ≡ 48 → ⊥) → (kind ≡ 49 → ⊥) → (kind ≡ 51 → ⊥) → (kind ≡ 52 → ⊥) → (kind ≡ 53 → ⊥) → (kind ≡ 55 → ⊥) → NodeIs b (nodeRecord b k) k 56
-node-remaining b k kind accepted h f r n0 n1 n3 n4 n5 n7 =
-    node-last b (nodeRecord b k) k kind accepted h refl f n0 n1 (λ q. r .no-formal (sym f ∙ q)) n3 n4 n5 (λ q. r .no-call (sym f ∙ q)) n7
+    → (kind ≡ 48 → ⊥) → (kind ≡ 49 → ⊥) → (kind ≡ 51 → ⊥) → (kind ≡ 52 → ⊥) → (kind ≡ 53 → ⊥) → (kind ≡ 54 → ⊥) → (kind ≡ 55 → ⊥)
+    → NodeIs b (nodeRecord b k) k 56
+node-remaining b k kind accepted h f r n0 n1 n3 n4 n5 n6 n7 =
+    node-last b (nodeRecord b k) k kind accepted h refl f n0 n1 (λ q. r .no-formal (sym f ∙ q)) n3 n4 n5 n6 n7

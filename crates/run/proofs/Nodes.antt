@@ -31,21 +31,18 @@ use Rattle.run.proofs.Endings.{found-some}
 use Rattle.run.proofs.Falls.{TupleAt, Good, visit-good, member-below, clause-below, branch-below}
 use Rattle.run.proofs.NodeKinds.{is-formal, is-select, is-operator, is-conditional, is-call, is-case}
 
--- the measures: four for each step left; one more for an operand, two where the kind is told, three before
-pub falls-told : (left t : ℕ) → 4 * left + 3 ≡ t → 4 * left + 2 < t
+-- the measures: four for each step left; one more where the kind is told, two more before it, three more at a formal
+pub falls-counted : (left t : ℕ) → (left ≡ 0 → ⊥) → 4 * left ≡ t → 4 * (left - 1) + 3 < t
+falls-counted left t h e = omega arith
+
+pub falls-told : (left t : ℕ) → 4 * left + 2 ≡ t → 4 * left + 1 < t
 falls-told left t e = omega arith
 
-pub falls-on : (l left t : ℕ) → l ≤ left → 4 * left + 2 ≡ t → 4 * l < t
+pub falls-on : (l left t : ℕ) → l ≤ left → 4 * left + 1 ≡ t → 4 * l < t
 falls-on l left t h e = omega arith
 
-pub falls-same : (left t : ℕ) → 4 * left + 2 ≡ t → 4 * left < t
+pub falls-same : (left t : ℕ) → 4 * left + 1 ≡ t → 4 * left < t
 falls-same left t e = omega arith
-
-pub falls-to-operand : (l left t : ℕ) → l ≤ left → 4 * left + 2 ≡ t → 4 * l + 1 < t
-falls-to-operand l left t h e = omega arith
-
-pub falls-from-operand : (left t : ℕ) → 4 * left + 1 ≡ t → 4 * left < t
-falls-from-operand left t e = omega arith
 
 module _ (b rec : List ℕ) (k : ℕ) (accepted : translationVerdict b ≡ Accepted) where
   module _ (x : ℕ) where

@@ -1,5 +1,4 @@
 pub mod Lent
 pub mod NodeTable
 pub mod States
-pub mod Next
 pub mod Promise

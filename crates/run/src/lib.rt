@@ -4,7 +4,6 @@ ghost use Rattle.run.specs.Promise.{Runs};
 
 mod answers;
 mod look_up;
-mod next;
 mod node_table;
 mod numbers;
 mod state;

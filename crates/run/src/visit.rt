@@ -1,16 +1,13 @@
-// The visits of a run: of a node, and by its kind of a selection, a case and the rest. They call each other while the steps
+// The visits of a run: of a node, and by its kind of a formal, a selection, a case and the rest. They call each other while the steps
 // left fall. `tab` is the table of nodes, `most` the cell allowance.
 ghost use Prim.Native.Nat.{_<_};
 ghost use Rattle.definitions.specs.Layouts.{nodes, nodeRecord};
 ghost use Rattle.definitions.specs.TranslationKinds as kinds;
-ghost use Rattle.run.specs.States.{Equipped, NodeIs, Visits, Evaluates};
-ghost use Rattle.run.specs.Next.{Remains};
+ghost use Rattle.run.specs.States.{Equipped, NodeIs, Remains, Visits, Evaluates};
 use crate::look_up::Found;
 use crate::look_up::branch;
 use crate::look_up::clause;
 use crate::look_up::listed;
-use crate::next::Next;
-use crate::next::follow;
 use crate::node_table::entry;
 use crate::node_table::first_in;
 use crate::node_table::kind_in;
@@ -26,14 +23,42 @@ use crate::state::ended;
 use crate::state::given;
 use crate::state::number;
 use crate::state::tag;
+use cells::cell::add_cell;
+use cells::cell::cell_at;
 use file_layout::translation_kinds;
 use file_records::records::record_at;
 use file_records::records::wide;
 use operators::compute;
 
-// Visits node `k` under context `w`, with so many visits that may still be nested, steps left and cells made. What a formal
-// or a call leads to is visited in the same loop.
+// Visits node `k` under context `w`, with so many visits that may still be nested, steps left and cells made.
 pub(crate) fn visit(
+    b: &[u8],
+    tab: &[u64; 1024],
+    cells: &mut [u8],
+    most: u16,
+    nest: u16,
+    k: u16,
+    w: u16,
+    left: u32,
+    made: u16,
+) -> State
+    requires { ⌜ Equipped (now b) (now tab) × (k < nodes (now b)) ⌝ }
+    ensures { λ r. ⌜ Visits (now (b .entry)) (now (tab .entry)) most nest k w left made (now (cells .entry)) r (now (cells .exit)) ⌝ }
+{
+    if left == 0 {
+        return ended(numbers::NO_STEP, left, made);
+    }
+    if nest == 0 {
+        return ended(numbers::NO_NESTING, left, made);
+    }
+    let inner = nest - 1;
+    let rest = left - 1;
+    visit_formal(b, tab, cells, most, inner, k, w, rest, made)
+}
+
+// A formal: visits the actual that the head label names, under the tail, in a loop while that is a formal too. A node that is
+// no formal is worked out.
+fn visit_formal(
     b: &[u8],
     tab: &[u64; 1024],
     cells: &mut [u8],
@@ -42,39 +67,36 @@ pub(crate) fn visit(
     mut k: u16,
     mut w: u16,
     mut left: u32,
-    mut made: u16,
+    made: u16,
 ) -> State
     requires { ⌜ Equipped (now b) (now tab) × (k < nodes (now b)) ⌝ }
-    ensures { λ r. ⌜ Visits (now (b .entry)) (now (tab .entry)) most nest k w left made (now (cells .entry)) r (now (cells .exit)) ⌝ }
+    ensures { λ r. ⌜ Evaluates (now (b .entry)) (now (tab .entry)) most nest k w left made (now (cells .entry)) r (now (cells .exit)) ⌝ }
 {
-    while left != 0 {
-        if nest == 0 {
-            return ended(numbers::NO_NESTING, left, made);
+    let mut node = entry(tab, k);
+    while kind_in(node) == translation_kinds::FORMAL {
+        if w == 0 {
+            return ended(numbers::NO_ACTUAL, left, made);
+        }
+        let cell = cell_at(cells, w);
+        let label = (cell % 0x1_0000) as u16;
+        let found = listed(b, second_in(node), third_in(node), label);
+        let Found::Node(n) = found else {
+            return ended(numbers::NO_ACTUAL, left, made);
+        };
+        let tail = (cell / 0x1_0000) as u16;
+        if left == 0 || nest == 0 {
+            return visit(b, tab, cells, most, nest, n, tail, left, made);
         }
         nest -= 1;
+        k = n;
+        w = tail;
         left -= 1;
-        match follow(b, tab, cells, most, k, w, made) {
-            Next::Visit {
-                node,
-                context,
-                made: cells_made,
-            } => {
-                k = node;
-                w = context;
-                made = cells_made;
-            }
-            Next::Ended(number) => {
-                return ended(number, left, made);
-            }
-            Next::Other => {
-                return evaluate(b, tab, cells, most, nest, k, w, left, made);
-            }
-        }
+        node = entry(tab, k);
     }
-    ended(numbers::NO_STEP, left, made)
+    evaluate(b, tab, cells, most, nest, k, w, left, made)
 }
 
-// Works out node `k`, no formal and no call, once its step is counted.
+// Works out node `k`, no formal, once its step is counted.
 fn evaluate(
     b: &[u8],
     tab: &[u64; 1024],
@@ -96,6 +118,9 @@ fn evaluate(
     }
     if kind == translation_kinds::TUPLE {
         return constructor(k, w, left, made);
+    }
+    if kind == translation_kinds::CALL {
+        return visit_call(b, tab, cells, most, nest, k, w, left, made);
     }
     if kind == translation_kinds::SELECT {
         return visit_select(b, tab, cells, most, nest, k, w, left, made);
@@ -147,32 +172,6 @@ fn visit_select(
     visit(b, tab, cells, most, nest, m, v, left, made)
 }
 
-// Visits an operand. A number or a reading is taken from the table at once.
-fn visit_operand(
-    b: &[u8],
-    tab: &[u64; 1024],
-    cells: &mut [u8],
-    most: u16,
-    nest: u16,
-    k: u16,
-    w: u16,
-    left: u32,
-    made: u16,
-) -> State
-    requires { ⌜ Equipped (now b) (now tab) × (k < nodes (now b)) ⌝ }
-    ensures { λ r. ⌜ Visits (now (b .entry)) (now (tab .entry)) most nest k w left made (now (cells .entry)) r (now (cells .exit)) ⌝ }
-{
-    let node = entry(tab, k);
-    if kind_in(node) <= translation_kinds::READING {
-        if left != 0 {
-            if nest != 0 {
-                return number(number_in(node), left - 1, made);
-            }
-        }
-    }
-    visit(b, tab, cells, most, nest, k, w, left, made)
-}
-
 // An operator: the left operand has to be a number before the right is visited.
 fn visit_operator(
     b: &[u8],
@@ -189,7 +188,7 @@ fn visit_operator(
     ensures { λ r. ⌜ Evaluates (now (b .entry)) (now (tab .entry)) most nest k w left made (now (cells .entry)) r (now (cells .exit)) ⌝ }
 {
     let n = second_in(entry(tab, k));
-    let first = visit_operand(b, tab, cells, most, nest, n, w, left, made);
+    let first = visit(b, tab, cells, most, nest, n, w, left, made);
     let outcome = first.outcome;
     let Outcome::Value(value) = outcome else {
         return first;
@@ -200,7 +199,7 @@ fn visit_operator(
         return ended(numbers::NUMBER_WANTED, left, made);
     };
     let m = third_in(entry(tab, k));
-    let second = visit_operand(b, tab, cells, most, nest, m, w, left, made);
+    let second = visit(b, tab, cells, most, nest, m, w, left, made);
     let outcome = second.outcome;
     let Outcome::Value(value) = outcome else {
         return second;
@@ -242,6 +241,31 @@ fn visit_conditional(
     let node = entry(tab, k);
     let m = branch(z, second_in(node), third_in(node));
     visit(b, tab, cells, most, nest, m, w, left, made)
+}
+
+// A call: one cell more, and the body under it.
+fn visit_call(
+    b: &[u8],
+    tab: &[u64; 1024],
+    cells: &mut [u8],
+    most: u16,
+    nest: u16,
+    k: u16,
+    w: u16,
+    left: u32,
+    made: u16,
+) -> State
+    requires { ⌜ Equipped (now b) (now tab) × NodeIs (now b) (nodeRecord (now b) k) k kinds.call ⌝ }
+    ensures { λ r. ⌜ Evaluates (now (b .entry)) (now (tab .entry)) most nest k w left made (now (cells .entry)) r (now (cells .exit)) ⌝ }
+{
+    if most <= made {
+        return ended(numbers::NO_CELL, left, made);
+    }
+    let node = entry(tab, k);
+    add_cell(cells, wide(made), first_in(node), w);
+    let n = made + 1;
+    let body = third_in(node);
+    visit(b, tab, cells, most, nest, body, n, left, n)
 }
 
 // A case: the scrutinee, then the first clause with its tag.
