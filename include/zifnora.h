@@ -5,7 +5,8 @@
  * any other buffer of the call. A buffer of length 0 may be any non-null pointer that is aligned for its type.
  *
  * Build the archive with `rt staticlib zifnora_c`, and link target/staticlib/libzifnora_c.a. A run nests at most 1,024 visits
- * and needs less than 1 MiB of stack; the joined call has 40,960 bytes of stack more.
+ * and takes 13 KiB of stack and 80 bytes more for each open visit, less than 96 KiB in all; the joined call takes less than
+ * 144 KiB, the other calls less than 32 KiB. These bounds are measured (bench prints them), not proved.
  */
 #ifndef ZIFNORA_H
 #define ZIFNORA_H
@@ -61,6 +62,21 @@ extern "C" {
  * (1 to 8) leaves all of `out` as it was. */
 uint64_t zifnora_translate(const uint8_t *sheet, size_t sheet_length, uint8_t *out, size_t out_length);
 
+/* The two calls that run, as they stand in the archive: the lent cells are a pair of address and length behind a pointer. The
+ * pair is as it was after the call, and must not overlap any buffer of the call. zifnora_run and zifnora_translate_and_run below
+ * make the pair; what they say of `cells` holds of the bytes that it names. */
+struct zifnora_slice {
+  uint8_t *data;
+  size_t length;
+};
+uint64_t zifnora_run_slice(const uint8_t *translation, size_t translation_length, const int32_t *readings, size_t readings_count,
+                           uint32_t steps, uint32_t nesting, uint32_t cells_allowed, struct zifnora_slice *cells,
+                           uint8_t *record, size_t record_length);
+uint64_t zifnora_translate_and_run_slice(const uint8_t *sheet, size_t sheet_length, uint8_t *out, size_t out_length,
+                                         const int32_t *readings, size_t readings_count, uint32_t steps, uint32_t nesting,
+                                         uint32_t cells_allowed, struct zifnora_slice *cells, uint8_t *record,
+                                         size_t record_length);
+
 /* Runs a translation on readings, with allowances of steps, nesting and cells, in lent cells, and writes the answer record.
  * Returns 0, also where the run itself is refused: the record says so. 8 where `record` has fewer than 20 bytes: then nothing is
  * run, and nothing is written.
@@ -70,22 +86,30 @@ uint64_t zifnora_translate(const uint8_t *sheet, size_t sheet_length, uint8_t *o
  * (2) and context (2) of a constructor, else 0; cells made (2). Bytes of `record` past 20 stay as they were.
  *
  * `cells` starts with the cells made, 4 bytes each, and stays as it was past them; a refusal leaves it as it was. */
-uint64_t zifnora_run(const uint8_t *translation, size_t translation_length, const int32_t *readings, size_t readings_count,
-                     uint32_t steps, uint32_t nesting, uint32_t cells_allowed, uint8_t *cells, size_t cells_length,
-                     uint8_t *record, size_t record_length);
+static inline uint64_t zifnora_run(const uint8_t *translation, size_t translation_length, const int32_t *readings,
+                                   size_t readings_count, uint32_t steps, uint32_t nesting, uint32_t cells_allowed,
+                                   uint8_t *cells, size_t cells_length, uint8_t *record, size_t record_length) {
+  struct zifnora_slice lent = {cells, cells_length};
+  return zifnora_run_slice(translation, translation_length, readings, readings_count, steps, nesting, cells_allowed, &lent,
+                           record, record_length);
+}
 
 /* Translates a sheet into `out` and runs the translation; the rest is as above. Any refusal (1 to 7 of the sheet, then 8 where
  * `out` is too short, then 9, then 10) is in the record, and leaves `out` and `cells` as they were. */
-uint64_t zifnora_translate_and_run(const uint8_t *sheet, size_t sheet_length, uint8_t *out, size_t out_length,
-                                   const int32_t *readings, size_t readings_count, uint32_t steps, uint32_t nesting,
-                                   uint32_t cells_allowed, uint8_t *cells, size_t cells_length, uint8_t *record,
-                                   size_t record_length);
+static inline uint64_t zifnora_translate_and_run(const uint8_t *sheet, size_t sheet_length, uint8_t *out, size_t out_length,
+                                                 const int32_t *readings, size_t readings_count, uint32_t steps,
+                                                 uint32_t nesting, uint32_t cells_allowed, uint8_t *cells,
+                                                 size_t cells_length, uint8_t *record, size_t record_length) {
+  struct zifnora_slice lent = {cells, cells_length};
+  return zifnora_translate_and_run_slice(sheet, sheet_length, out, out_length, readings, readings_count, steps, nesting,
+                                         cells_allowed, &lent, record, record_length);
+}
 
 /* Lists the context of cell `cell` (0 is the empty context): its labels, newest first, two bytes each, into `out`. Returns their
  * count. 5 with the cell as place where a cell met is beyond the cells or its previous number is not smaller than its own; then 8
  * where `out` is too short. A refusal leaves `out` as it was; else it stays as it was past the labels. Bytes of `cells` past the
  * last whole cell are part of no cell. */
-uint64_t zifnora_list_context(const uint8_t *cells, size_t cells_length, uint64_t cell, uint8_t *out, size_t out_length);
+uint64_t zifnora_list_context(const uint8_t *cells, size_t cells_length, uint32_t cell, uint8_t *out, size_t out_length);
 
 #ifdef __cplusplus
 }

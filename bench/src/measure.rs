@@ -1,13 +1,15 @@
-//! Times of the calls, in nanoseconds: the least of several batches.
+//! Times of the calls, in nanoseconds: the least of many short batches.
 
-use crate::plain;
+use crate::nodes::decode;
+use crate::plain::accept;
+use crate::run::{run, Ended};
 use compare::interface::{Allowances, Interface};
-use compare::model::answer::Answer;
+use compare::model::answer::{Answer, RECORD};
 use std::hint::black_box;
 use std::time::Instant;
 
-const BATCHES: usize = 15;
-const BATCH_NANOSECONDS: f64 = 5e6;
+const BATCHES: usize = 50;
+const BATCH_NANOSECONDS: f64 = 2e6;
 
 /// Nanoseconds of one call of each work. The batches of the works take
 /// turns, so that a busy machine disturbs all of them alike.
@@ -40,67 +42,71 @@ fn repeats(work: &mut dyn FnMut()) -> u32 {
     }
 }
 
-pub const NESTING: u32 = 1024;
 pub const CELLS: u32 = 8192;
+
+/// The greatest allowances, with so many steps.
+pub fn greatest(steps: u32) -> Allowances {
+    Allowances {
+        steps,
+        nesting: 1024,
+        cells: CELLS,
+    }
+}
+
+pub fn lent_cells() -> Vec<u8> {
+    vec![0; 4 * CELLS as usize]
+}
 
 /// One run through the interface.
 pub fn interface_run(on: &dyn Interface, file: &[u8], steps: u32, cells: &mut [u8]) -> Answer {
-    let mut record = [0; 20];
-    let allowances = Allowances {
-        steps,
-        nesting: NESTING,
-        cells: CELLS,
-    };
-    on.run(black_box(file), &[], allowances, cells, &mut record);
-    Answer::from_record(&record).expect("a record of kind 64")
+    let mut record = [0; RECORD];
+    on.run(black_box(file), &[], greatest(steps), cells, &mut record);
+    Answer::from_record(&record).expect("an answer record")
 }
 
-/// One plain run, the check of the file included: outcome, value, steps left.
-pub fn plain_run(file: &[u8], steps: u32, cells: &mut [u8]) -> (u16, i32, u32) {
-    let index = plain::accept(black_box(file)).expect("accepted");
-    let mut run = plain::Run {
-        file,
-        index: &index,
-        readings: &[],
-        cells,
-        steps_left: steps,
-        nesting: NESTING,
-        made: 0,
-        most: CELLS,
-    };
-    let (outcome, value) = run.start();
-    (outcome, value, run.steps_left)
+/// One plain run, reading and decoding included.
+pub fn plain_run(file: &[u8], steps: u32, cells: &mut [u8]) -> Ended {
+    let index = accept(black_box(file)).expect("accepted");
+    run(&decode(file, &index), &[], greatest(steps), cells)
 }
 
-/// Costs of runs of one translation.
+/// Runs both; their common answer.
+pub fn agreed(on: &dyn Interface, file: &[u8]) -> Answer {
+    let (mut one, mut two) = (lent_cells(), lent_cells());
+    let answer = interface_run(on, file, u32::MAX, &mut one);
+    let ours = Ended {
+        outcome: answer.outcome,
+        value: answer.value,
+        steps: answer.steps,
+        cells: answer.cells,
+    };
+    let plain = plain_run(file, u32::MAX, &mut two);
+    assert_eq!(ours, plain, "the two runs agree");
+    assert_eq!(one, two, "the two runs leave the same cells");
+    answer
+}
+
+/// Nanoseconds of the parts of runs of one translation.
 pub struct RunCost {
     pub answer: Answer,
-    /// A run without a step: reading and accepting the file.
-    pub interface_accept: f64,
+    /// A run without a step: the file read, checked and made ready.
+    pub accept: f64,
+    /// The plain reader: the file read and checked.
     pub plain_accept: f64,
-    /// Nanoseconds per step beyond that.
-    pub interface_step: f64,
+    /// The plain reader, and the nodes decoded.
+    pub plain_decode: f64,
+    /// A step.
+    pub step: f64,
     pub plain_step: f64,
 }
 
 pub fn run_cost(on: &dyn Interface, file: &[u8]) -> RunCost {
-    let mut cells = vec![0; 4 * CELLS as usize];
-    let answer = interface_run(on, file, u32::MAX, &mut cells);
-    let plain = plain_run(file, u32::MAX, &mut cells);
-    assert_eq!(
-        (answer.outcome, answer.value),
-        (plain.0, plain.1),
-        "the two runs agree"
-    );
-    assert_eq!(
-        answer.steps,
-        u32::MAX - plain.2,
-        "the two runs take the same steps"
-    );
-    let steps = answer.steps as f64;
-    let mut lent = [(); 4].map(|()| vec![0; 4 * CELLS as usize]);
-    let [one, two, three, four] = lent.each_mut();
-    let [interface_accept, interface_all, plain_accept, plain_all] = times([
+    let answer = agreed(on, file);
+    let index = accept(file).expect("accepted");
+    let program = decode(file, &index);
+    let mut lent = [(); 3].map(|()| lent_cells());
+    let [one, two, three] = lent.each_mut();
+    let [start, all, plain_accept, plain_decode, plain_all] = times([
         &mut || {
             black_box(interface_run(on, file, 0, one));
         },
@@ -108,18 +114,24 @@ pub fn run_cost(on: &dyn Interface, file: &[u8]) -> RunCost {
             black_box(interface_run(on, file, u32::MAX, two));
         },
         &mut || {
-            black_box(plain_run(file, 0, three));
+            black_box(accept(black_box(file)));
         },
         &mut || {
-            black_box(plain_run(file, u32::MAX, four));
+            let index = accept(black_box(file)).expect("accepted");
+            black_box(decode(file, &index));
+        },
+        &mut || {
+            black_box(run(&program, &[], greatest(u32::MAX), three));
         },
     ]);
+    let steps = answer.steps as f64;
     RunCost {
         answer,
-        interface_accept,
+        accept: start,
         plain_accept,
-        interface_step: (interface_all - interface_accept) / steps,
-        plain_step: (plain_all - plain_accept) / steps,
+        plain_decode,
+        step: (all - start) / steps,
+        plain_step: plain_all / steps,
     }
 }
 

@@ -1,6 +1,10 @@
 //! A small builder of sheet files: expression trees in, records out.
 //! It writes what it is told; nothing here checks the rules of a sheet.
 
+pub use crate::kinds::operators::*;
+use crate::kinds::sheet as kinds;
+use std::iter::once;
+
 #[derive(Clone, Debug)]
 pub enum Expr {
     Number(i32),
@@ -13,13 +17,6 @@ pub enum Expr {
     Build(u16, Vec<Expr>),
     Case(Box<Expr>, Vec<(u16, Expr)>),
 }
-
-pub const ADD: u16 = 0;
-pub const SUBTRACT: u16 = 1;
-pub const MULTIPLY: u16 = 2;
-pub const DIVIDE: u16 = 3;
-pub const LESS: u16 = 4;
-pub const EQUAL: u16 = 5;
 
 // Short forms for sheets written by hand.
 pub fn num(number: i32) -> Expr {
@@ -63,81 +60,76 @@ struct Loose {
     children: Vec<(usize, usize)>,
 }
 
+/// A field of a node: a number that stays, or a child.
+enum Part<'a> {
+    Field(u16),
+    Child(&'a Expr),
+}
+
 impl Expr {
     /// Number of nodes.
     pub fn size(&self) -> usize {
-        1 + match self {
-            Expr::Operator(_, left, right) => left.size() + right.size(),
-            Expr::If(condition, yes, no) => condition.size() + yes.size() + no.size(),
-            Expr::Call(_, all) | Expr::Build(_, all) => all.iter().map(Expr::size).sum(),
-            Expr::Case(scrutinee, clauses) => {
-                scrutinee.size() + clauses.iter().map(|clause| clause.1.size()).sum::<usize>()
+        let parts = self.parts().into_iter();
+        let children = parts.map(|part| match part {
+            Part::Field(_) => 0,
+            Part::Child(child) => child.size(),
+        });
+        1 + children.sum::<usize>()
+    }
+
+    fn kind(&self) -> u16 {
+        match self {
+            Expr::Number(_) => kinds::NUMBER,
+            Expr::Reading(_) => kinds::READING,
+            Expr::Parameter(_) => kinds::PARAMETER,
+            Expr::Pattern(_) => kinds::PATTERN,
+            Expr::Operator(..) => kinds::OPERATOR,
+            Expr::If(..) => kinds::IF,
+            Expr::Call(..) => kinds::CALL,
+            Expr::Build(..) => kinds::BUILD,
+            Expr::Case(..) => kinds::CASE,
+        }
+    }
+
+    /// The fields of the node's record, in order.
+    fn parts(&self) -> Vec<Part<'_>> {
+        use Part::{Child, Field};
+        match self {
+            Expr::Number(number) => {
+                let bits = *number as u32;
+                vec![Field(bits as u16), Field((bits >> 16) as u16)]
             }
-            _ => 0,
+            Expr::Reading(field) | Expr::Parameter(field) | Expr::Pattern(field) => {
+                vec![Field(*field)]
+            }
+            Expr::Operator(code, left, right) => vec![Field(*code), Child(left), Child(right)],
+            Expr::If(condition, yes, no) => vec![Child(condition), Child(yes), Child(no)],
+            Expr::Call(target, arguments) | Expr::Build(target, arguments) => {
+                let arguments = arguments.iter().map(Child);
+                once(Field(*target)).chain(arguments).collect()
+            }
+            Expr::Case(scrutinee, clauses) => {
+                let clauses = clauses.iter();
+                let pairs = clauses.flat_map(|(number, node)| [Field(*number), Child(node)]);
+                once(Child(scrutinee)).chain(pairs).collect()
+            }
         }
     }
 
     /// Adds the nodes in post-order; the position of this one.
     fn flatten(&self, into: &mut Vec<Loose>) -> usize {
-        let mut fields = Vec::new();
-        let mut children = Vec::new();
-        let mut child = |expr: &Expr, fields: &mut Vec<u16>, into: &mut Vec<Loose>| {
-            let position = expr.flatten(into);
-            children.push((fields.len(), position));
-            fields.push(0);
-        };
-        let kind = match self {
-            Expr::Number(number) => {
-                let bits = *number as u32;
-                fields.extend_from_slice(&[bits as u16, (bits >> 16) as u16]);
-                16
-            }
-            Expr::Reading(reading) => {
-                fields.push(*reading);
-                17
-            }
-            Expr::Parameter(position) => {
-                fields.push(*position);
-                18
-            }
-            Expr::Pattern(position) => {
-                fields.push(*position);
-                19
-            }
-            Expr::Operator(code, left, right) => {
-                fields.push(*code);
-                child(left, &mut fields, into);
-                child(right, &mut fields, into);
-                20
-            }
-            Expr::If(condition, yes, no) => {
-                child(condition, &mut fields, into);
-                child(yes, &mut fields, into);
-                child(no, &mut fields, into);
-                21
-            }
-            Expr::Call(target, arguments) | Expr::Build(target, arguments) => {
-                fields.push(*target);
-                for argument in arguments {
-                    child(argument, &mut fields, into);
-                }
-                if matches!(self, Expr::Call(..)) {
-                    22
-                } else {
-                    23
+        let (mut fields, mut children) = (Vec::new(), Vec::new());
+        for part in self.parts() {
+            match part {
+                Part::Field(field) => fields.push(field),
+                Part::Child(child) => {
+                    children.push((fields.len(), child.flatten(into)));
+                    fields.push(0);
                 }
             }
-            Expr::Case(scrutinee, clauses) => {
-                child(scrutinee, &mut fields, into);
-                for (constructor, node) in clauses {
-                    fields.push(*constructor);
-                    child(node, &mut fields, into);
-                }
-                24
-            }
-        };
+        }
         into.push(Loose {
-            kind,
+            kind: self.kind(),
             fields,
             children,
         });
@@ -180,12 +172,13 @@ impl Program {
             self.functions.len() as u16,
             total as u16,
         ];
-        put_record(&mut file, 1, &head);
+        put_record(&mut file, kinds::HEAD, &head);
         for &arity in &self.arities {
-            put_record(&mut file, 2, &[arity]);
+            put_record(&mut file, kinds::CONSTRUCTOR, &[arity]);
         }
         for ((parameters, _), nodes) in self.functions.iter().zip(&runs) {
-            put_record(&mut file, 3, &[*parameters, nodes.len() as u16]);
+            let fields = [*parameters, nodes.len() as u16];
+            put_record(&mut file, kinds::FUNCTION, &fields);
         }
         let mut first = 0;
         for nodes in &runs {
@@ -193,20 +186,25 @@ impl Program {
                 true => shuffled(nodes, &mut pick),
                 false => (0..nodes.len()).collect(),
             };
-            let mut number_of = vec![0; nodes.len()];
-            for (place, &node) in order.iter().enumerate() {
-                number_of[node] = (first + place) as u16;
-            }
-            for &node in &order {
-                let mut fields = nodes[node].fields.clone();
-                for &(field, child) in &nodes[node].children {
-                    fields[field] = number_of[child];
-                }
-                put_record(&mut file, nodes[node].kind, &fields);
-            }
+            put_nodes(&mut file, nodes, &order, first);
             first += nodes.len();
         }
         file
+    }
+}
+
+/// The nodes of a function in an order, numbered from `first` on.
+fn put_nodes(file: &mut Vec<u8>, nodes: &[Loose], order: &[usize], first: usize) {
+    let mut number_of = vec![0; nodes.len()];
+    for (place, &node) in order.iter().enumerate() {
+        number_of[node] = (first + place) as u16;
+    }
+    for &node in order {
+        let mut fields = nodes[node].fields.clone();
+        for &(field, child) in &nodes[node].children {
+            fields[field] = number_of[child];
+        }
+        put_record(file, nodes[node].kind, &fields);
     }
 }
 

@@ -2,6 +2,7 @@
 //! buffers included; and what it leaves behind.
 
 use crate::interface::{Allowances, Interface};
+use std::hint::black_box;
 
 #[derive(Clone, Debug)]
 pub struct RunInput {
@@ -31,7 +32,7 @@ pub enum Call {
     },
     List {
         cells: Vec<u8>,
-        cell: u64,
+        cell: u32,
         out: Vec<u8>,
     },
 }
@@ -85,72 +86,74 @@ impl Call {
     /// Performs the call on copies of its buffers.
     pub fn perform(&self, on: &dyn Interface) -> After {
         match self {
-            Call::Translate { sheet, out } => {
-                let (file, mut out) = (sheet.clone(), guarded(out));
-                let answer = on.translate(&file, lent(&mut out));
-                let input_kept = std::hint::black_box(&file) == sheet;
-                After {
-                    answer,
-                    out,
-                    cells: vec![],
-                    record: vec![],
-                    input_kept,
-                }
-            }
-            Call::Run { file, input, .. } => {
-                let (copy, readings) = (file.clone(), input.readings.clone());
-                let (mut cells, mut record) = (guarded(&input.cells), guarded(&input.record));
-                let answer = on.run(
-                    &copy,
-                    &readings,
-                    input.allowances,
-                    lent(&mut cells),
-                    lent(&mut record),
-                );
-                let input_kept = std::hint::black_box(&copy) == file
-                    && std::hint::black_box(&readings) == &input.readings;
-                After {
-                    answer,
-                    out: vec![],
-                    cells,
-                    record,
-                    input_kept,
-                }
-            }
-            Call::Joined { sheet, out, input } => {
-                let (copy, readings) = (sheet.clone(), input.readings.clone());
-                let (mut cells, mut record) = (guarded(&input.cells), guarded(&input.record));
-                let mut out = guarded(out);
-                let answer = on.translate_and_run(
-                    &copy,
-                    lent(&mut out),
-                    &readings,
-                    input.allowances,
-                    lent(&mut cells),
-                    lent(&mut record),
-                );
-                let input_kept = std::hint::black_box(&copy) == sheet
-                    && std::hint::black_box(&readings) == &input.readings;
-                After {
-                    answer,
-                    out,
-                    cells,
-                    record,
-                    input_kept,
-                }
-            }
-            Call::List { cells, cell, out } => {
-                let (copy, mut out) = (cells.clone(), guarded(out));
-                let answer = on.list_context(&copy, *cell, lent(&mut out));
-                let input_kept = std::hint::black_box(&copy) == cells;
-                After {
-                    answer,
-                    out,
-                    cells: vec![],
-                    record: vec![],
-                    input_kept,
-                }
-            }
+            Call::Translate { sheet, out } => translate(on, sheet, out),
+            Call::Run { file, input, .. } => run(on, file, input),
+            Call::Joined { sheet, out, input } => joined(on, sheet, out, input),
+            Call::List { cells, cell, out } => list(on, cells, *cell, out),
         }
+    }
+}
+
+fn translate(on: &dyn Interface, sheet: &[u8], out: &[u8]) -> After {
+    let (copy, mut out) = (sheet.to_vec(), guarded(out));
+    let answer = on.translate(&copy, lent(&mut out));
+    After {
+        answer,
+        out,
+        cells: vec![],
+        record: vec![],
+        input_kept: black_box(copy) == sheet,
+    }
+}
+
+fn run(on: &dyn Interface, file: &[u8], input: &RunInput) -> After {
+    let (copy, readings) = (file.to_vec(), input.readings.clone());
+    let (mut cells, mut record) = (guarded(&input.cells), guarded(&input.record));
+    let answer = on.run(
+        &copy,
+        &readings,
+        input.allowances,
+        lent(&mut cells),
+        lent(&mut record),
+    );
+    After {
+        answer,
+        out: vec![],
+        cells,
+        record,
+        input_kept: black_box(copy) == file && black_box(readings) == input.readings,
+    }
+}
+
+fn joined(on: &dyn Interface, sheet: &[u8], out: &[u8], input: &RunInput) -> After {
+    let (copy, readings) = (sheet.to_vec(), input.readings.clone());
+    let (mut cells, mut record) = (guarded(&input.cells), guarded(&input.record));
+    let mut out = guarded(out);
+    let answer = on.translate_and_run(
+        &copy,
+        lent(&mut out),
+        &readings,
+        input.allowances,
+        lent(&mut cells),
+        lent(&mut record),
+    );
+    After {
+        answer,
+        out,
+        cells,
+        record,
+        input_kept: black_box(copy) == sheet && black_box(readings) == input.readings,
+    }
+}
+
+fn list(on: &dyn Interface, cells: &[u8], cell: u32, out: &[u8]) -> After {
+    let (copy, mut out) = (cells.to_vec(), guarded(out));
+    let answer = on.list_context(&copy, cell, lent(&mut out));
+    After {
+        answer,
+        out,
+        cells: vec![],
+        record: vec![],
+        input_kept: black_box(copy) == cells,
     }
 }

@@ -6,6 +6,7 @@ use crate::interface::Interface;
 use crate::model::answer::Answer;
 use crate::model::name;
 use crate::model::{sheet, Model};
+use crate::numbers::is_end;
 
 /// What differs, in words, and the call to try again.
 #[derive(Debug)]
@@ -52,33 +53,20 @@ pub fn differs(theirs: &After, ours: &After) -> Option<String> {
             show(ours)
         ));
     }
-    let buffers = [
-        ("output", &theirs.out, &ours.out),
-        ("cells", &theirs.cells, &ours.cells),
-    ];
-    for (name, theirs, ours) in buffers {
-        if theirs == ours {
-            continue;
-        }
-        let at = theirs
-            .iter()
-            .zip(ours)
-            .take_while(|pair| pair.0 == pair.1)
-            .count();
-        let offset = at as i64 - (theirs.len() - inner(theirs).len()) as i64 / 2;
-        return Some(format!(
-            "{name}: byte {offset} of {} is {} in the interface, {} in the model",
-            inner(theirs).len(),
-            theirs[at],
-            ours[at]
-        ));
-    }
-    None
+    differing_byte("output", &theirs.out, &ours.out)
+        .or_else(|| differing_byte("cells", &theirs.cells, &ours.cells))
 }
 
-/// The outcome is a number, a constructor or a run fault.
-pub fn ends(outcome: u16) -> bool {
-    matches!(outcome, 0 | 100 | 14..=19)
+/// Describes the first byte in which two guarded buffers differ.
+fn differing_byte(name: &str, theirs: &[u8], ours: &[u8]) -> Option<String> {
+    let at = theirs.iter().zip(ours).position(|pair| pair.0 != pair.1)?;
+    let offset = at as i64 - (theirs.len() - inner(theirs).len()) as i64 / 2;
+    Some(format!(
+        "{name}: byte {offset} of {} is {} in the interface, {} in the model",
+        inner(theirs).len(),
+        theirs[at],
+        ours[at]
+    ))
 }
 
 /// A number, constructor or run fault of a translated sheet's run has to be
@@ -97,7 +85,7 @@ fn against_meaning(call: &Call, after: &After) -> Option<String> {
         return None;
     }
     let answer = Answer::from_record(inner(&after.record))?;
-    if !ends(answer.outcome) {
+    if !is_end(answer.outcome) {
         return None;
     }
     compare_meaning(sheet, input, &answer)

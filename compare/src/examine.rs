@@ -7,6 +7,7 @@ use crate::generate::sizes;
 use crate::interface::{Allowances, Interface};
 use crate::model::answer::Answer;
 use crate::model::{joined, listing, Model};
+use crate::numbers::{is_refusal, is_stop, NESTING};
 use crate::tally::Tally;
 
 pub struct Examiner<'a> {
@@ -21,10 +22,6 @@ fn readings_due(file: &[u8]) -> usize {
         0..=5 => 0,
         _ => (u16::from_le_bytes([file[4], file[5]]) as usize).min(40),
     }
-}
-
-fn is_stop(outcome: u16) -> bool {
-    (11..=13).contains(&outcome)
 }
 
 impl Examiner<'_> {
@@ -85,54 +82,24 @@ impl Examiner<'_> {
         let after = self.check(&call(run_input(random, due)))?;
         self.list(random, inner(&after.cells), &after)?;
 
-        // Ample allowances and the right number of readings.
-        let (steps, cells) = match random.below(100) {
-            0 => (40_000, 8192),
-            1..=3 => (3000, 8192),
-            _ => (1500, 300),
-        };
-        let allowances = Allowances {
-            steps,
-            nesting: 1024,
-            cells,
-        };
-        let readings = (0..due).map(|_| random.number()).collect();
-        let ample = RunInput {
-            readings,
-            allowances,
-            cells: random.bytes(4 * cells as usize),
-            record: random.bytes(20),
-        };
+        let ample = ample_input(random, due);
         let after = self.check(&call(ample.clone()))?;
         self.list(random, inner(&after.cells), &after)?;
         let Some(answer) = Answer::from_record(inner(&after.record)) else {
             return Ok(());
         };
-        if answer.outcome > 0 && answer.outcome <= 10 {
+        if is_refusal(answer.outcome) {
             return Ok(());
         }
-        for allowances in edges(random, allowances, &answer) {
-            let lent = 4 * (allowances.cells as usize).min(8200);
-            let input = RunInput {
-                allowances,
-                cells: random.bytes(lent),
-                record: random.bytes(20),
-                ..ample.clone()
-            };
+        for allowances in edges(random, ample.allowances, &answer) {
+            let input = edge_input(random, &ample, allowances);
             let after = self.check(&call(input.clone()))?;
-            let Some(answer) = Answer::from_record(inner(&after.record)) else {
-                continue;
-            };
             // Where nesting and steps run out at once.
-            if answer.outcome == 12 {
-                let allowances = Allowances {
-                    steps: answer.steps,
-                    ..allowances
-                };
-                self.check(&call(RunInput {
-                    allowances,
-                    ..input
-                }))?;
+            match Answer::from_record(inner(&after.record)) {
+                Some(answer) if answer.outcome == NESTING => {
+                    self.check(&call(with_steps(input, answer.steps)))?;
+                }
+                _ => {}
             }
         }
         Ok(())
@@ -147,27 +114,14 @@ impl Examiner<'_> {
         if answer.cells == 0 && !random.chance(5) {
             return Ok(());
         }
-        let made = 4 * (answer.cells as usize);
-        let mut lent = match random.below(4) {
-            0 => cells[..made.min(cells.len())].to_vec(),
-            1 => cells[..random.below(cells.len().min(made + 12) + 1)].to_vec(),
-            _ => cells[..cells.len().min(made + random.below(9))].to_vec(),
-        };
-        if random.chance(30) {
-            for _ in 0..random.between(1, 3) {
-                if !lent.is_empty() {
-                    let at = random.below(lent.len());
-                    lent[at] = random.below(1 + lent.len() / 3) as u8;
-                }
-            }
-        }
+        let lent = some_cells(random, cells, 4 * answer.cells as usize);
         let cell = match random.below(8) {
             0 => 0,
-            1 => answer.context as u64,
-            2 => answer.cells as u64,
-            3 => answer.cells as u64 + 1,
-            4 if random.chance(10) => random.bits() as u32 as u64,
-            _ => random.below(lent.len() / 4 + 2) as u64,
+            1 => answer.context as u32,
+            2 => answer.cells as u32,
+            3 => answer.cells as u32 + 1,
+            4 if random.chance(10) => random.bits() as u32,
+            _ => random.below(lent.len() / 4 + 2) as u32,
         };
         let mut scratch = vec![0; 2 * lent.len()];
         let count = listing::list(self.reference, &lent, cell, &mut scratch).unwrap_or(3);
@@ -191,12 +145,62 @@ impl Examiner<'_> {
         for (number, cell) in cells.chunks_exact_mut(4).enumerate() {
             cell[2..].copy_from_slice(&(number.min(65_535) as u16).to_le_bytes());
         }
-        let cell = random.pick(&[65_535, 65_536, count, count + 1]) as u64;
+        let cell = random.pick(&[65_535, 65_536, count, count + 1]) as u32;
         let labels = (cell as usize).min(65_536);
         let room = random.pick(&[2 * labels - 1, 2 * labels, 2 * labels + 5]);
         let out = random.bytes(room);
         self.check(&Call::List { cells, cell, out })?;
         Ok(())
+    }
+}
+
+/// Some of the cells that a run left, now and then damaged; it made cells in
+/// the first `made` bytes.
+fn some_cells(random: &mut Random, cells: &[u8], made: usize) -> Vec<u8> {
+    let mut lent = match random.below(4) {
+        0 => cells[..made.min(cells.len())].to_vec(),
+        1 => cells[..random.below(cells.len().min(made + 12) + 1)].to_vec(),
+        _ => cells[..cells.len().min(made + random.below(9))].to_vec(),
+    };
+    if random.chance(30) {
+        for _ in 0..random.between(1, 3) {
+            if !lent.is_empty() {
+                let at = random.below(lent.len());
+                lent[at] = random.below(1 + lent.len() / 3) as u8;
+            }
+        }
+    }
+    lent
+}
+
+fn with_steps(input: RunInput, steps: u32) -> RunInput {
+    let allowances = Allowances {
+        steps,
+        ..input.allowances
+    };
+    RunInput {
+        allowances,
+        ..input
+    }
+}
+
+/// Ample allowances and the right number of readings.
+fn ample_input(random: &mut Random, due: usize) -> RunInput {
+    let (steps, cells) = match random.below(100) {
+        0 => (40_000, 8192),
+        1..=3 => (3000, 8192),
+        _ => (1500, 300),
+    };
+    let readings = (0..due).map(|_| random.number()).collect();
+    RunInput {
+        readings,
+        allowances: Allowances {
+            steps,
+            nesting: 1024,
+            cells,
+        },
+        cells: random.bytes(4 * cells as usize),
+        record: random.bytes(20),
     }
 }
 
@@ -209,6 +213,17 @@ fn run_input(random: &mut Random, due: usize) -> RunInput {
         allowances,
         cells: random.bytes(cells),
         record: random.bytes(record),
+    }
+}
+
+/// The same readings with other allowances and buffers.
+fn edge_input(random: &mut Random, ample: &RunInput, allowances: Allowances) -> RunInput {
+    let lent = 4 * (allowances.cells as usize).min(8200);
+    RunInput {
+        readings: ample.readings.clone(),
+        allowances,
+        cells: random.bytes(lent),
+        record: random.bytes(20),
     }
 }
 

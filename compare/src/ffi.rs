@@ -2,10 +2,28 @@
 
 use crate::interface::{Allowances, Interface};
 
+/// A lent buffer as the two calls that run take it: address and length,
+/// behind a pointer. It is as it was after the call.
+#[repr(C)]
+#[derive(PartialEq)]
+struct Lent {
+    data: *mut u8,
+    length: usize,
+}
+
+impl Lent {
+    fn of(bytes: &mut [u8]) -> Lent {
+        Lent {
+            data: bytes.as_mut_ptr(),
+            length: bytes.len(),
+        }
+    }
+}
+
 extern "C" {
     fn zifnora_translate(sheet: *const u8, sheet_len: usize, out: *mut u8, out_len: usize) -> u64;
 
-    fn zifnora_run(
+    fn zifnora_run_slice(
         file: *const u8,
         file_len: usize,
         readings: *const i32,
@@ -13,13 +31,12 @@ extern "C" {
         steps: u32,
         nesting: u32,
         most: u32,
-        cells: *mut u8,
-        cells_len: usize,
+        cells: *mut Lent,
         record: *mut u8,
         record_len: usize,
     ) -> u64;
 
-    fn zifnora_translate_and_run(
+    fn zifnora_translate_and_run_slice(
         sheet: *const u8,
         sheet_len: usize,
         out: *mut u8,
@@ -29,8 +46,7 @@ extern "C" {
         steps: u32,
         nesting: u32,
         most: u32,
-        cells: *mut u8,
-        cells_len: usize,
+        cells: *mut Lent,
         record: *mut u8,
         record_len: usize,
     ) -> u64;
@@ -38,7 +54,7 @@ extern "C" {
     fn zifnora_list_context(
         cells: *const u8,
         cells_len: usize,
-        cell: u64,
+        cell: u32,
         out: *mut u8,
         out_len: usize,
     ) -> u64;
@@ -62,8 +78,9 @@ impl Interface for Archive {
         cells: &mut [u8],
         record: &mut [u8],
     ) -> u64 {
-        unsafe {
-            zifnora_run(
+        let mut lent = Lent::of(cells);
+        let answer = unsafe {
+            zifnora_run_slice(
                 file.as_ptr(),
                 file.len(),
                 readings.as_ptr(),
@@ -71,12 +88,13 @@ impl Interface for Archive {
                 allowances.steps,
                 allowances.nesting,
                 allowances.cells,
-                cells.as_mut_ptr(),
-                cells.len(),
+                &mut lent,
                 record.as_mut_ptr(),
                 record.len(),
             )
-        }
+        };
+        assert!(lent == Lent::of(cells), "the pair is as it was");
+        answer
     }
 
     fn translate_and_run(
@@ -88,8 +106,9 @@ impl Interface for Archive {
         cells: &mut [u8],
         record: &mut [u8],
     ) -> u64 {
-        unsafe {
-            zifnora_translate_and_run(
+        let mut lent = Lent::of(cells);
+        let answer = unsafe {
+            zifnora_translate_and_run_slice(
                 sheet.as_ptr(),
                 sheet.len(),
                 out.as_mut_ptr(),
@@ -99,15 +118,16 @@ impl Interface for Archive {
                 allowances.steps,
                 allowances.nesting,
                 allowances.cells,
-                cells.as_mut_ptr(),
-                cells.len(),
+                &mut lent,
                 record.as_mut_ptr(),
                 record.len(),
             )
-        }
+        };
+        assert!(lent == Lent::of(cells), "the pair is as it was");
+        answer
     }
 
-    fn list_context(&self, cells: &[u8], cell: u64, out: &mut [u8]) -> u64 {
+    fn list_context(&self, cells: &[u8], cell: u32, out: &mut [u8]) -> u64 {
         unsafe {
             zifnora_list_context(
                 cells.as_ptr(),

@@ -34,5 +34,5 @@ pub trait Interface {
         record: &mut [u8],
     ) -> u64;
 
-    fn list_context(&self, cells: &[u8], cell: u64, out: &mut [u8]) -> u64;
+    fn list_context(&self, cells: &[u8], cell: u32, out: &mut [u8]) -> u64;
 }

@@ -13,34 +13,20 @@ pub fn write(folder: &Path, difference: &Difference, origin: &str) -> Result<()>
     fs::create_dir_all(folder)?;
     let put = |name: &str, bytes: &[u8]| fs::write(folder.join(name), bytes);
     let mut text = format!("call {}\n", difference.call.name());
-    let mut put_input = |input: &RunInput| -> Result<()> {
-        let allowances = input.allowances;
-        text += &format!("steps {}\n", allowances.steps);
-        text += &format!("nesting {}\n", allowances.nesting);
-        text += &format!("cells {}\n", allowances.cells);
-        let readings: Vec<u8> = input
-            .readings
-            .iter()
-            .flat_map(|reading| reading.to_le_bytes())
-            .collect();
-        put("readings.bin", &readings)?;
-        put("cells.bin", &input.cells)?;
-        put("record.bin", &input.record)
-    };
     match &*difference.call {
         Call::Translate { sheet, out } => {
             put("sheet.bin", sheet)?;
             put("out.bin", out)?;
         }
         Call::Run { of, file, input } => {
-            put_input(input)?;
+            text += &write_input(folder, input)?;
             put("translation.bin", file)?;
             if let Some(sheet) = of {
                 put("sheet.bin", sheet)?;
             }
         }
         Call::Joined { sheet, out, input } => {
-            put_input(input)?;
+            text += &write_input(folder, input)?;
             put("sheet.bin", sheet)?;
             put("out.bin", out)?;
         }
@@ -55,35 +41,57 @@ pub fn write(folder: &Path, difference: &Difference, origin: &str) -> Result<()>
     fs::write(folder.join("call.txt"), text)
 }
 
+/// Writes the bytes of a run's input; its words.
+fn write_input(folder: &Path, input: &RunInput) -> Result<String> {
+    let readings = input.readings.iter();
+    let readings: Vec<u8> = readings.flat_map(|reading| reading.to_le_bytes()).collect();
+    fs::write(folder.join("readings.bin"), readings)?;
+    fs::write(folder.join("cells.bin"), &input.cells)?;
+    fs::write(folder.join("record.bin"), &input.record)?;
+    let Allowances {
+        steps,
+        nesting,
+        cells,
+    } = input.allowances;
+    Ok(format!("steps {steps}\nnesting {nesting}\ncells {cells}\n"))
+}
+
+/// The words of a call, by name.
+type Words<'a> = HashMap<&'a str, &'a str>;
+
+fn wrong(what: &str) -> Error {
+    Error::new(ErrorKind::InvalidData, format!("call.txt: {what}"))
+}
+
+fn number(words: &Words, name: &str) -> Result<u32> {
+    let word = words.get(name).ok_or_else(|| wrong(name))?;
+    word.parse().map_err(|_| wrong(name))
+}
+
+fn read_input(folder: &Path, words: &Words) -> Result<RunInput> {
+    let readings = fs::read(folder.join("readings.bin"))?
+        .chunks_exact(4)
+        .map(|four| i32::from_le_bytes([four[0], four[1], four[2], four[3]]))
+        .collect();
+    Ok(RunInput {
+        readings,
+        allowances: Allowances {
+            steps: number(words, "steps")?,
+            nesting: number(words, "nesting")?,
+            cells: number(words, "cells")?,
+        },
+        cells: fs::read(folder.join("cells.bin"))?,
+        record: fs::read(folder.join("record.bin"))?,
+    })
+}
+
 pub fn read(folder: &Path) -> Result<Call> {
     let text = fs::read_to_string(folder.join("call.txt"))?;
-    let words: HashMap<&str, &str> = text
+    let words: Words = text
         .lines()
         .filter_map(|line| line.split_once(' '))
         .collect();
-    let wrong = |what: &str| Error::new(ErrorKind::InvalidData, format!("call.txt: {what}"));
-    let number = |name: &str| -> Result<u64> {
-        let word = words.get(name).ok_or_else(|| wrong(name))?;
-        word.parse().map_err(|_| wrong(name))
-    };
     let get = |name: &str| fs::read(folder.join(name));
-    let input = || -> Result<RunInput> {
-        let readings = get("readings.bin")?
-            .chunks_exact(4)
-            .map(|four| i32::from_le_bytes([four[0], four[1], four[2], four[3]]))
-            .collect();
-        let allowances = Allowances {
-            steps: number("steps")? as u32,
-            nesting: number("nesting")? as u32,
-            cells: number("cells")? as u32,
-        };
-        Ok(RunInput {
-            readings,
-            allowances,
-            cells: get("cells.bin")?,
-            record: get("record.bin")?,
-        })
-    };
     match words.get("call").copied() {
         Some("translate") => Ok(Call::Translate {
             sheet: get("sheet.bin")?,
@@ -92,16 +100,16 @@ pub fn read(folder: &Path) -> Result<Call> {
         Some("run") => Ok(Call::Run {
             of: get("sheet.bin").ok(),
             file: get("translation.bin")?,
-            input: input()?,
+            input: read_input(folder, &words)?,
         }),
         Some("translate_and_run") => Ok(Call::Joined {
             sheet: get("sheet.bin")?,
             out: get("out.bin")?,
-            input: input()?,
+            input: read_input(folder, &words)?,
         }),
         Some("list_context") => Ok(Call::List {
             cells: get("cells.bin")?,
-            cell: number("cell")?,
+            cell: number(&words, "cell")?,
             out: get("out.bin")?,
         }),
         _ => Err(wrong("call")),

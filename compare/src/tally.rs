@@ -1,8 +1,8 @@
 //! Counts of what the compared calls answered, to show what was covered.
 
 use crate::call::{inner, After, Call};
-use crate::check::ends;
 use crate::model::answer::Answer;
+use crate::numbers::is_end;
 
 const KINDS: [&str; 4] = ["translate", "run", "translate_and_run", "list_context"];
 
@@ -38,7 +38,7 @@ impl Tally {
                 number = answer.outcome as usize;
                 self.steps += answer.steps as u64;
                 let of_sheet = !matches!(call, Call::Run { of: None, .. });
-                self.by_name += (of_sheet && ends(answer.outcome)) as u64;
+                self.by_name += (of_sheet && is_end(answer.outcome)) as u64;
             }
         }
         self.counts[kind][number.min(127)] += 1;

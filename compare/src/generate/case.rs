@@ -24,57 +24,74 @@ pub fn well_formed(seed: u64, number: u64) -> (Case, Random) {
 /// Damaged or odd file number `number`, and the generator to go on with.
 pub fn damaged(seed: u64, number: u64) -> (Case, Random) {
     let mut random = Random::of_case(seed, 2, number);
-    let kind = random.below(200);
-    let case = match kind {
+    let case = match random.below(200) {
         0 => {
-            let mut file = ceiling::greatest(&mut random);
-            damage::damage(&mut random, &mut file);
-            Case::Sheet(file)
+            let file = ceiling::greatest(&mut random);
+            Case::Sheet(changed(&mut random, file, damage::damage))
         }
         1 => Case::Sheet(long_sheet(&mut random)),
         2 => Case::Translation(long_translation(&mut random)),
-        3 => {
-            let length = random.below(40);
-            Case::Sheet(random.bytes(length))
-        }
+        3 => Case::Sheet(few_bytes(&mut random)),
         4 => {
-            let mut file = sheet::sheet(&mut random);
-            let total = random.pick(&[32_767, 32_768, 32_769, 65_536, 65_536 + file.len()]);
-            file.resize(total, 0);
-            Case::Sheet(file)
+            let file = sheet::sheet(&mut random);
+            Case::Sheet(resized(&mut random, file, 32_768))
         }
         5 => {
-            let mut file = translation::translation(&mut random);
-            let total = random.pick(&[40_959, 40_960, 40_961, 65_536, 65_536 + file.len()]);
-            file.resize(total, 0);
-            Case::Translation(file)
+            let file = translation::translation(&mut random);
+            Case::Translation(resized(&mut random, file, 40_960))
         }
         6..=59 => {
-            let mut file = sheet::sheet(&mut random);
-            damage::damage(&mut random, &mut file);
-            Case::Sheet(file)
+            let file = sheet::sheet(&mut random);
+            Case::Sheet(changed(&mut random, file, damage::damage))
         }
         60..=119 => {
-            let mut file = sheet::sheet(&mut random);
-            targeted::break_rules(&mut random, &mut file);
-            Case::Sheet(file)
+            let file = sheet::sheet(&mut random);
+            Case::Sheet(changed(&mut random, file, targeted::break_rules))
         }
         120..=149 => {
-            let file = sheet::sheet(&mut random);
-            let mut out = vec![0; 40_960];
-            let length = joined::translate_into(&Model::correct(), &file, &mut out);
-            out.truncate(length.expect("generated sheets are accepted"));
-            either(&mut random, &mut out);
-            Case::Translation(out)
+            let file = translated(&sheet::sheet(&mut random));
+            Case::Translation(changed(&mut random, file, either))
         }
         150..=179 => Case::Translation(translation::translation(&mut random)),
         _ => {
-            let mut file = translation::translation(&mut random);
-            either(&mut random, &mut file);
-            Case::Translation(file)
+            let file = translation::translation(&mut random);
+            Case::Translation(changed(&mut random, file, either))
         }
     };
     (case, random)
+}
+
+fn changed(random: &mut Random, file: Vec<u8>, change: fn(&mut Random, &mut Vec<u8>)) -> Vec<u8> {
+    let mut file = file;
+    change(random, &mut file);
+    file
+}
+
+/// The file cut or filled with zeros to a size at or near `greatest`, or one
+/// that two bytes cannot tell.
+fn resized(random: &mut Random, file: Vec<u8>, greatest: usize) -> Vec<u8> {
+    let mut file = file;
+    let sizes = [
+        greatest - 1,
+        greatest,
+        greatest + 1,
+        65_536,
+        65_536 + file.len(),
+    ];
+    file.resize(random.pick(&sizes), 0);
+    file
+}
+
+fn few_bytes(random: &mut Random) -> Vec<u8> {
+    let length = random.below(40);
+    random.bytes(length)
+}
+
+fn translated(sheet: &[u8]) -> Vec<u8> {
+    let mut out = vec![0; 40_960];
+    let length = joined::translate_into(&Model::correct(), sheet, &mut out);
+    out.truncate(length.expect("generated sheets are accepted"));
+    out
 }
 
 /// Any damage, or only references out of place.

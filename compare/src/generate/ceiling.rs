@@ -1,10 +1,11 @@
 //! Sheets at the ceilings of document 01.
 
 use super::expr::Grow;
-use super::plan::{plan, Limits};
+use super::plan::{plan, Limits, Plan};
 use super::random::Random;
 use super::sheet::encode;
 use crate::build_sheet::{build, num, op, put_record, Expr, Program};
+use crate::kinds::sheet as kinds;
 
 /// A well-formed sheet with 32 readings, 64 constructors, 64 functions of 8
 /// parameters, a case of up to 64 clauses and exactly 1,024 nodes.
@@ -23,22 +24,10 @@ pub fn greatest(random: &mut Random) -> Vec<u8> {
         .map(|constructor| constructor.fields.len() as u16)
         .collect();
     let wide = random.below(63);
-    let mut functions: Vec<(u16, Expr)> = Vec::new();
     let mut left: usize = 1024;
+    let mut functions = Vec::new();
     for number in 0..63 {
-        let spend = random.between(1, 14) as i32;
-        let mut grow = Grow::new(random, &plan, number, spend);
-        let mut body = if number == wide {
-            wide_case(&mut grow)
-        } else {
-            grow.body()
-        };
-        // Nodes are kept for the wide case and the functions still to come.
-        let coming: usize = 64 - number;
-        let spare = left.saturating_sub(80 + coming);
-        if number != wide && body.size() > 2 * spare / coming {
-            body = num(number as i32);
-        }
+        let body = body(random, &plan, number, wide, left);
         left -= body.size();
         functions.push((plan.functions[number].parameters.len() as u16, body));
     }
@@ -56,6 +45,24 @@ pub fn greatest(random: &mut Random) -> Vec<u8> {
             functions,
         },
     )
+}
+
+/// A body that keeps nodes for the wide case and the functions still to
+/// come, of those left.
+fn body(random: &mut Random, plan: &Plan, number: usize, wide: usize, left: usize) -> Expr {
+    let spend = random.between(1, 14) as i32;
+    let mut grow = Grow::new(random, plan, number, spend);
+    if number == wide {
+        return wide_case(&mut grow);
+    }
+    let body = grow.body();
+    let coming = 64 - number;
+    let spare = left.saturating_sub(80 + coming);
+    if body.size() > 2 * spare / coming {
+        num(number as i32)
+    } else {
+        body
+    }
 }
 
 /// A case with a clause for (almost) every constructor.
@@ -110,7 +117,36 @@ fn exact(random: &mut Random, size: usize, single: Option<u16>) -> Expr {
 pub fn long(random: &mut Random, target: usize, wild: bool) -> Vec<u8> {
     let constructors = random.between(60, 64);
     let functions = random.between(1, 64);
-    let mut left = target - 12 - 6 * constructors - 8 * functions;
+    let lengths = lengths(random, target - 12 - 6 * constructors - 8 * functions);
+    if lengths.len() < functions {
+        return long(random, target, wild);
+    }
+    let nodes = lengths.len();
+    let mut file = Vec::new();
+    let head = [32, constructors as u16, functions as u16, nodes as u16];
+    put_record(&mut file, kinds::HEAD, &head);
+    for _ in 0..constructors {
+        put_record(&mut file, kinds::CONSTRUCTOR, &[random.below(9) as u16]);
+    }
+    for number in 0..functions {
+        let count = if number == 0 {
+            nodes - functions + 1
+        } else {
+            1
+        };
+        put_record(&mut file, kinds::FUNCTION, &[0, count as u16]);
+    }
+    for (number, &length) in lengths.iter().enumerate() {
+        let far = wild && random.chance(1);
+        let bound = if far { 2000 } else { number.max(1) };
+        long_node(random, &mut file, length, bound, constructors);
+    }
+    file
+}
+
+/// Lengths of node records that fill so many bytes.
+fn lengths(random: &mut Random, bytes: usize) -> Vec<usize> {
+    let mut left = bytes;
     let mut lengths = Vec::new();
     while left > 300 {
         lengths.push(10 + 4 * random.between(50, 63));
@@ -127,43 +163,28 @@ pub fn long(random: &mut Random, target: usize, wild: bool) -> Vec<u8> {
             left -= length;
         }
     }
-    if lengths.len() < functions {
-        return long(random, target, wild);
-    }
-    let nodes = lengths.len();
-    let mut file = Vec::new();
-    let head = [32, constructors as u16, functions as u16, nodes as u16];
-    put_record(&mut file, 1, &head);
-    for _ in 0..constructors {
-        put_record(&mut file, 2, &[random.below(9) as u16]);
-    }
-    for number in 0..functions {
-        let count = if number == 0 {
-            nodes - functions + 1
-        } else {
-            1
-        };
-        put_record(&mut file, 3, &[0, count as u16]);
-    }
-    for (number, &length) in lengths.iter().enumerate() {
-        let bound = if wild && random.chance(1) {
-            2000
-        } else {
-            number.max(1)
-        };
-        let mut node = || random.below(bound) as u16;
-        match length {
-            6 => put_record(&mut file, 17, &[node() % 32]),
-            8 => put_record(&mut file, 16, &[node(), node()]),
-            10 => put_record(&mut file, 21, &[node(), node(), node()]),
-            _ => {
-                let mut fields = vec![node()];
-                for clause in 0..(length - 6) / 4 {
-                    fields.extend_from_slice(&[clause as u16 % constructors as u16, node()]);
-                }
-                put_record(&mut file, 24, &fields);
+    lengths
+}
+
+/// A node of a length, with references below `bound`.
+fn long_node(
+    random: &mut Random,
+    file: &mut Vec<u8>,
+    length: usize,
+    bound: usize,
+    constructors: usize,
+) {
+    let mut node = || random.below(bound) as u16;
+    match length {
+        6 => put_record(file, kinds::READING, &[node() % 32]),
+        8 => put_record(file, kinds::NUMBER, &[node(), node()]),
+        10 => put_record(file, kinds::IF, &[node(), node(), node()]),
+        _ => {
+            let mut fields = vec![node()];
+            for clause in 0..(length - 6) / 4 {
+                fields.extend_from_slice(&[clause as u16 % constructors as u16, node()]);
             }
+            put_record(file, kinds::CASE, &fields);
         }
     }
-    file
 }

@@ -2,6 +2,7 @@
 //! to neighbouring or marginal values.
 
 use super::random::Random;
+use crate::kinds::{sheet, translation};
 
 /// Start and length of each whole record, walking by lengths.
 pub fn records(file: &[u8]) -> Vec<(usize, usize)> {
@@ -30,8 +31,7 @@ fn damage_once(random: &mut Random, file: &mut Vec<u8>) {
     let records = records(file);
     if records.is_empty() || file.is_empty() {
         let more = random.below(20);
-        let extra = random.bytes(more);
-        file.extend_from_slice(&extra);
+        file.extend(random.bytes(more));
         return;
     }
     let chosen = records[pick_record(random, records.len())];
@@ -49,24 +49,31 @@ fn damage_once(random: &mut Random, file: &mut Vec<u8>) {
         4 => file.truncate(file.len() - random.between(1, file.len().min(9))),
         5 | 6 => {
             let count = random.between(1, 9);
-            let extra = random.bytes(count);
-            file.extend_from_slice(&extra);
+            file.extend(random.bytes(count));
         }
-        7 => {
-            let copy = file[chosen.0..chosen.0 + chosen.1].to_vec();
-            file.extend_from_slice(&copy);
-        }
-        8 | 9 => exchange(random, file, &records, chosen),
-        10 => {
-            file.drain(chosen.0..chosen.0 + chosen.1);
-        }
+        way => damage_record(random, file, &records, chosen, way),
+    }
+}
+
+/// Damage to one record or to the order of records.
+fn damage_record(
+    random: &mut Random,
+    file: &mut Vec<u8>,
+    records: &[(usize, usize)],
+    chosen: (usize, usize),
+    way: usize,
+) {
+    let (at, end) = (chosen.0, chosen.0 + chosen.1);
+    match way {
+        7 => file.extend_from_within(at..end),
+        8 | 9 => exchange(random, file, records, chosen),
+        10 => drop(file.drain(at..end)),
         11 => {
-            let copy = file[chosen.0..chosen.0 + chosen.1].to_vec();
-            let at = chosen.0;
+            let copy = file[at..end].to_vec();
             file.splice(at..at, copy);
         }
         12 => lengthen(random, file, chosen),
-        13 => add_node(file, &records),
+        13 => add_node(file, records),
         14 | 15 => {
             // Several fields of one record.
             for _ in 0..random.between(2, 4) {
@@ -76,8 +83,8 @@ fn damage_once(random: &mut Random, file: &mut Vec<u8>) {
         16 => swap_fields(random, file, chosen),
         17 => field(random, file, records[0]),
         18 => {
-            let kind = get(file, chosen.0 + 2);
-            set(file, chosen.0 + 2, kind ^ 1);
+            let kind = get(file, at + 2);
+            set(file, at + 2, kind ^ 1);
         }
         _ => field(random, file, chosen),
     }
@@ -186,7 +193,11 @@ fn lengthen(random: &mut Random, file: &mut Vec<u8>, record: (usize, usize)) {
 /// Adds a number as the last node, with the counts kept consistent.
 fn add_node(file: &mut Vec<u8>, records: &[(usize, usize)]) {
     let kind = get(file, records[0].0 + 2);
-    let (function, number) = if kind == 1 { (3, 16u16) } else { (34, 48) };
+    let (function, number) = if kind == sheet::HEAD {
+        (sheet::FUNCTION, sheet::NUMBER)
+    } else {
+        (translation::FUNCTION, translation::NUMBER)
+    };
     let last = records
         .iter()
         .rev()

@@ -33,8 +33,20 @@ pub struct Limits {
     pub arity: (usize, usize),
 }
 
+fn between(random: &mut Random, range: (usize, usize)) -> usize {
+    random.between(range.0, range.1)
+}
+
+/// A number, or one of so many types of data.
+fn some_type(random: &mut Random, types: u16) -> u16 {
+    if types == 0 || random.chance(45) {
+        0
+    } else {
+        random.between(1, types as usize) as u16
+    }
+}
+
 pub fn plan(random: &mut Random, limits: &Limits) -> Plan {
-    let between = |random: &mut Random, range: (usize, usize)| random.between(range.0, range.1);
     let readings = between(random, limits.readings) as u16;
     let count = between(random, limits.constructors);
     let types = if count == 0 {
@@ -42,44 +54,14 @@ pub fn plan(random: &mut Random, limits: &Limits) -> Plan {
     } else {
         random.between(1, 3.min(count)) as u16
     };
-    let some_type = |random: &mut Random| {
-        if types == 0 || random.chance(45) {
-            0
-        } else {
-            random.between(1, types as usize) as u16
-        }
-    };
     let fuel = random.chance(75);
-
-    let mut constructors = Vec::new();
-    for number in 0..count {
-        // The first constructor of a type has no or few fields.
-        let own = number as u16 % types + 1;
-        let greatest = if number < types as usize {
-            2.min(limits.arity.1)
-        } else {
-            limits.arity.1
-        };
-        let arity = random.between(limits.arity.0.min(greatest), greatest);
-        let fields = (0..arity).map(|_| some_type(random)).collect();
-        constructors.push(Constructor { own, fields });
-    }
-
-    let mut functions = Vec::new();
-    for number in 0..between(random, limits.functions) {
-        let mut parameters = Vec::new();
-        if number > 0 {
-            let most = between(random, limits.parameters);
-            parameters = (0..most).map(|_| some_type(random)).collect();
-        }
-        if fuel && !parameters.is_empty() {
-            parameters[0] = 0;
-        }
-        functions.push(Function {
-            result: some_type(random),
-            parameters,
-        });
-    }
+    let constructors = (0..count)
+        .map(|number| constructor(random, limits, types, number))
+        .collect();
+    let count = between(random, limits.functions);
+    let mut functions: Vec<Function> = (0..count)
+        .map(|number| function(random, limits, types, fuel, number))
+        .collect();
     // Most sheets end with a number.
     if random.chance(70) {
         functions[0].result = 0;
@@ -90,5 +72,40 @@ pub fn plan(random: &mut Random, limits: &Limits) -> Plan {
         constructors,
         functions,
         fuel,
+    }
+}
+
+/// The first constructor of a type has no or few fields.
+fn constructor(random: &mut Random, limits: &Limits, types: u16, number: usize) -> Constructor {
+    let greatest = if number < types as usize {
+        2.min(limits.arity.1)
+    } else {
+        limits.arity.1
+    };
+    let arity = random.between(limits.arity.0.min(greatest), greatest);
+    Constructor {
+        own: number as u16 % types + 1,
+        fields: (0..arity).map(|_| some_type(random, types)).collect(),
+    }
+}
+
+fn function(
+    random: &mut Random,
+    limits: &Limits,
+    types: u16,
+    fuel: bool,
+    number: usize,
+) -> Function {
+    let mut parameters = Vec::new();
+    if number > 0 {
+        let count = between(random, limits.parameters);
+        parameters = (0..count).map(|_| some_type(random, types)).collect();
+    }
+    if fuel && !parameters.is_empty() {
+        parameters[0] = 0;
+    }
+    Function {
+        result: some_type(random, types),
+        parameters,
     }
 }

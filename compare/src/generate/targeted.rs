@@ -3,6 +3,7 @@
 
 use super::damage::records;
 use super::random::Random;
+use crate::kinds::{sheet, translation};
 
 #[derive(Clone, Copy, PartialEq)]
 enum Class {
@@ -19,17 +20,18 @@ enum Class {
 /// What a field of a record of some kind refers to.
 fn class(kind: u16, field: usize) -> Class {
     match (kind, field) {
-        (17 | 49, _) => Class::Reading,
-        (18, _) => Class::Parameter,
-        (19, _) => Class::Pattern,
-        (50, _) => Class::Formal,
-        (51, 0) | (21 | 53 | 35, _) => Class::Node,
-        (20 | 52, 1 | 2) => Class::Node,
-        (22, 0) | (54, 1) => Class::Function,
-        (23, 0) => Class::Constructor,
-        (22 | 23 | 55, 1..) => Class::Node,
-        (24 | 56, _) if field % 2 == 0 => Class::Node,
-        (24, _) => Class::Constructor,
+        (sheet::READING | translation::READING, _) => Class::Reading,
+        (sheet::PARAMETER, _) => Class::Parameter,
+        (sheet::PATTERN, _) => Class::Pattern,
+        (translation::FORMAL, _) => Class::Formal,
+        (translation::SELECT, 0) => Class::Node,
+        (sheet::IF | translation::IF | translation::ACTUALS, _) => Class::Node,
+        (sheet::OPERATOR | translation::OPERATOR, 1 | 2) => Class::Node,
+        (sheet::CALL, 0) | (translation::CALL, 1) => Class::Function,
+        (sheet::BUILD, 0) => Class::Constructor,
+        (sheet::CALL | sheet::BUILD | translation::TUPLE, 1..) => Class::Node,
+        (sheet::CASE | translation::CASE, _) if field % 2 == 0 => Class::Node,
+        (sheet::CASE, _) => Class::Constructor,
         _ => Class::Free,
     }
 }
@@ -141,7 +143,7 @@ impl Parts<'_> {
 
     /// Exchanges two clause constructors of a case, or makes them equal.
     fn clause_order(&mut self, random: &mut Random) {
-        let Some(record) = self.some(random, &[24, 56]) else {
+        let Some(record) = self.some(random, &[sheet::CASE, translation::CASE]) else {
             return;
         };
         let clauses = (self.fields(record) - 1) / 2;
@@ -155,15 +157,18 @@ impl Parts<'_> {
 
     /// Turns a reading or parameter into a pattern variable.
     fn pattern_somewhere(&mut self, random: &mut Random) {
-        if let Some(record) = self.some(random, &[17, 18]) {
+        if let Some(record) = self.some(random, &[sheet::READING, sheet::PARAMETER]) {
             let at = self.records[record].0;
-            self.file[at + 2] = 19;
+            self.file[at + 2] = sheet::PATTERN as u8;
             self.set(record, 0, random.below(3) as u16);
         }
     }
 
     fn pattern_position(&mut self, random: &mut Random) {
-        if let Some(record) = self.some(random, &[19, 19, 2]) {
+        if let Some(record) = self.some(
+            random,
+            &[sheet::PATTERN, sheet::PATTERN, sheet::CONSTRUCTOR],
+        ) {
             let old = self.get(record, 0) as usize;
             let value = random.pick(&[old + 1, old + 2, old.saturating_sub(1), 0, 7, 8]);
             self.set(record, 0, value as u16);
@@ -172,7 +177,7 @@ impl Parts<'_> {
 
     /// Moves the boundary between two functions, so that bodies change.
     fn boundary(&mut self, random: &mut Random) {
-        let Some(record) = self.some(random, &[3, 34]) else {
+        let Some(record) = self.some(random, &[sheet::FUNCTION, translation::FUNCTION]) else {
             return;
         };
         let next = record + 1;
@@ -192,7 +197,7 @@ impl Parts<'_> {
 
     /// A wrong number of arguments and a reference out of range at once.
     fn two_faults(&mut self, random: &mut Random) {
-        let Some(record) = self.some(random, &[22, 23]) else {
+        let Some(record) = self.some(random, &[sheet::CALL, sheet::BUILD]) else {
             return;
         };
         let target = class(self.kind(record), 0);
@@ -207,7 +212,7 @@ impl Parts<'_> {
 
     /// Turns an if (10 bytes) into a case of one clause.
     fn case_elsewhere(&mut self, random: &mut Random) {
-        let Some(record) = self.some(random, &[21, 53]) else {
+        let Some(record) = self.some(random, &[sheet::IF, translation::IF]) else {
             return;
         };
         let at = self.records[record].0;

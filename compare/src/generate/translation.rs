@@ -2,6 +2,7 @@
 
 use super::random::Random;
 use crate::build_sheet::put_record;
+use crate::kinds::translation as kinds;
 
 const GREATEST: usize = 40_960;
 
@@ -68,7 +69,7 @@ fn encode(
         functions as u16,
         records.len() as u16,
     ];
-    put_record(&mut file, 33, &head);
+    put_record(&mut file, kinds::HEAD, &head);
     let mut left = records.len();
     for number in 0..functions {
         let after = functions - number - 1;
@@ -78,10 +79,10 @@ fn encode(
             random.between(1, (left - after).min(40))
         };
         left -= count;
-        put_record(&mut file, 34, &[count as u16]);
+        put_record(&mut file, kinds::FUNCTION, &[count as u16]);
     }
     for list in actuals {
-        put_record(&mut file, 35, list);
+        put_record(&mut file, kinds::ACTUALS, list);
     }
     for (kind, fields) in records {
         put_record(&mut file, *kind, fields);
@@ -104,54 +105,68 @@ fn node(
         7 | 8 => number.saturating_sub(random.below(6)) as u16,
         _ => random.below(nodes) as u16,
     };
-    let tag = |random: &mut Random| match random.below(40) {
-        0 => random.bits() as u16,
-        1 => 65_535,
-        _ => random.below(3) as u16,
-    };
     match random.below(20) {
         0..=2 => {
             let bits = random.number() as u32;
-            (48, vec![bits as u16, (bits >> 16) as u16])
+            (kinds::NUMBER, vec![bits as u16, (bits >> 16) as u16])
         }
-        3 if readings > 0 => (49, vec![random.below(readings) as u16]),
-        4..=6 if formals > 0 => (50, vec![random.below(formals) as u16]),
+        3 if readings > 0 => (kinds::READING, vec![random.below(readings) as u16]),
+        4..=6 if formals > 0 => (kinds::FORMAL, vec![random.below(formals) as u16]),
         7 | 8 => {
             let index = random.pick(&[0, 1, 1, 1, 2, 2, 3, 4, 9, 65_535]);
-            (51, vec![any(random), index])
+            (kinds::SELECT, vec![any(random), index])
         }
-        9 | 10 => (52, vec![random.below(6) as u16, any(random), any(random)]),
-        11 => (53, vec![any(random), any(random), any(random)]),
+        9 | 10 => (
+            kinds::OPERATOR,
+            vec![random.below(6) as u16, any(random), any(random)],
+        ),
+        11 => (kinds::IF, vec![any(random), any(random), any(random)]),
         12..=14 => {
-            let label = if random.chance(3) {
-                random.bits() as u16
-            } else {
-                random.below(4) as u16
-            };
-            (54, vec![label, random.below(functions) as u16])
+            let label = label(random);
+            (kinds::CALL, vec![label, random.below(functions) as u16])
         }
-        15..=17 => {
-            let mut fields = vec![tag(random)];
-            let count = if random.chance(10) {
-                random.below(9)
-            } else {
-                random.below(4)
-            };
-            fields.extend((0..count).map(|_| any(random)));
-            (55, fields)
-        }
-        _ => {
-            let mut fields = vec![any(random)];
-            let count = if random.chance(2) {
-                random.between(1, 64)
-            } else {
-                random.between(1, 4)
-            };
-            for _ in 0..count {
-                fields.push(tag(random));
-                fields.push(any(random));
-            }
-            (56, fields)
-        }
+        15..=17 => tuple(random, any),
+        _ => case(random, any),
     }
+}
+
+fn label(random: &mut Random) -> u16 {
+    if random.chance(3) {
+        random.bits() as u16
+    } else {
+        random.below(4) as u16
+    }
+}
+
+fn tag(random: &mut Random) -> u16 {
+    match random.below(40) {
+        0 => random.bits() as u16,
+        1 => 65_535,
+        _ => random.below(3) as u16,
+    }
+}
+
+fn tuple(random: &mut Random, any: impl Fn(&mut Random) -> u16) -> (u16, Vec<u16>) {
+    let mut fields = vec![tag(random)];
+    let count = if random.chance(10) {
+        random.below(9)
+    } else {
+        random.below(4)
+    };
+    fields.extend((0..count).map(|_| any(random)));
+    (kinds::TUPLE, fields)
+}
+
+fn case(random: &mut Random, any: impl Fn(&mut Random) -> u16) -> (u16, Vec<u16>) {
+    let mut fields = vec![any(random)];
+    let count = if random.chance(2) {
+        random.between(1, 64)
+    } else {
+        random.between(1, 4)
+    };
+    for _ in 0..count {
+        fields.push(tag(random));
+        fields.push(any(random));
+    }
+    (kinds::CASE, fields)
 }

@@ -1,6 +1,7 @@
 //! Answers and their record of kind 64.
 
 use super::Refusal;
+use crate::kinds::ANSWER;
 
 /// The answer of a run, in the fields of its record.
 #[derive(Clone, Copy, Debug, PartialEq, Eq, Default)]
@@ -30,7 +31,7 @@ impl Answer {
     pub fn record(&self) -> [u8; RECORD] {
         let mut record = Vec::new();
         record.extend_from_slice(&(RECORD as u16).to_le_bytes());
-        record.extend_from_slice(&64u16.to_le_bytes());
+        record.extend_from_slice(&ANSWER.to_le_bytes());
         record.extend_from_slice(&self.outcome.to_le_bytes());
         record.extend_from_slice(&self.value.to_le_bytes());
         record.extend_from_slice(&self.steps.to_le_bytes());
@@ -44,7 +45,7 @@ impl Answer {
     pub fn from_record(record: &[u8]) -> Option<Answer> {
         let two = |at: usize| u16::from_le_bytes([record[at], record[at + 1]]);
         let four = |at: usize| two(at) as u32 | (two(at + 2) as u32) << 16;
-        if record.len() < RECORD || two(0) != 20 || two(2) != 64 {
+        if record.len() < RECORD || two(0) as usize != RECORD || two(2) != ANSWER {
             return None;
         }
         Some(Answer {

@@ -4,6 +4,7 @@ use super::answer::Answer;
 use super::fault::Fault;
 use super::{run, sheet, translate, translation, Model, Refusal};
 use crate::interface::Allowances;
+use crate::numbers::{is_refusal, SENSOR_COUNT, SHORT_TRAY};
 
 /// Translates a sheet into `out`; the translation's length.
 pub fn translate_into(model: &Model, file: &[u8], out: &mut [u8]) -> Result<usize, Refusal> {
@@ -14,7 +15,7 @@ pub fn translate_into(model: &Model, file: &[u8], out: &mut [u8]) -> Result<usiz
             let room = out.len();
             out.copy_from_slice(&written[..room]);
         }
-        return Err(Refusal::new(8, 0));
+        return Err(Refusal::new(SHORT_TRAY, 0));
     }
     out[..written.len()].copy_from_slice(&written);
     if model.has(Fault::PastLength) {
@@ -36,7 +37,7 @@ pub fn translate_and_run(
     if model.has(Fault::JoinedReadingsFirst) {
         let count = sheet::read(model, file).map(|sheet| sheet.readings as usize);
         if count.is_ok_and(|count| count != readings.len()) {
-            return Answer::refused(Refusal::new(9, 0));
+            return Answer::refused(Refusal::new(SENSOR_COUNT, 0));
         }
     }
     let mut written = out.to_vec();
@@ -45,8 +46,7 @@ pub fn translate_and_run(
         Err(refusal) => Answer::refused(refusal),
         Ok(length) => run::run(model, &written[..length], readings, allowances, cells),
     };
-    let refused = (1..=10).contains(&answer.outcome);
-    if !refused || model.has(Fault::RefusedStillWrites) {
+    if !is_refusal(answer.outcome) || model.has(Fault::RefusedStillWrites) {
         out.copy_from_slice(&written);
     }
     answer

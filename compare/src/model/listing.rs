@@ -2,46 +2,29 @@
 
 use super::fault::Fault;
 use super::{Model, Refusal};
+use crate::numbers::{DANGLING, SHORT_TRAY};
 
 /// Labels from cell `cell` on, newest first, written into `out`; their count.
-/// Bytes past the last whole cell are ignored.
-pub fn list(model: &Model, lent: &[u8], cell: u64, out: &mut [u8]) -> Result<u32, Refusal> {
-    let mut cells: Vec<(u16, u16)> = lent
-        .chunks_exact(4)
-        .map(|bytes| {
-            (
-                u16::from_le_bytes([bytes[0], bytes[1]]),
-                u16::from_le_bytes([bytes[2], bytes[3]]),
-            )
-        })
-        .collect();
-    if model.has(Fault::ListPartCell) && lent.len() % 4 >= 2 {
-        let at = lent.len() / 4 * 4;
-        cells.push((u16::from_le_bytes([lent[at], lent[at + 1]]), 0));
-    }
+pub fn list(model: &Model, lent: &[u8], cell: u32, out: &mut [u8]) -> Result<u32, Refusal> {
+    let cells = cells(model, lent);
     let mut labels = Vec::new();
     let mut number = cell;
     while number != 0 {
-        if number > cells.len() as u64 {
-            return Err(Refusal::new(5, number as u32));
+        if number as usize > cells.len() {
+            return Err(Refusal::new(DANGLING, number));
         }
         let (label, previous) = cells[number as usize - 1];
-        if previous as u64 >= number {
+        let previous = previous as u32;
+        if previous >= number {
             let wrong = model.has(Fault::ListPlace);
-            return Err(Refusal::new(
-                5,
-                if wrong {
-                    previous as u32
-                } else {
-                    number as u32
-                },
-            ));
+            let place = if wrong { previous } else { number };
+            return Err(Refusal::new(DANGLING, place));
         }
         labels.push(label);
-        number = previous as u64;
+        number = previous;
     }
     if out.len() < 2 * labels.len() {
-        return Err(Refusal::new(8, 0));
+        return Err(Refusal::new(SHORT_TRAY, 0));
     }
     if model.has(Fault::ListOldestFirst) {
         labels.reverse();
@@ -50,4 +33,17 @@ pub fn list(model: &Model, lent: &[u8], cell: u64, out: &mut [u8]) -> Result<u32
         bytes.copy_from_slice(&label.to_le_bytes());
     }
     Ok(labels.len() as u32)
+}
+
+/// The whole cells of lent bytes: label and number of the previous cell.
+fn cells(model: &Model, lent: &[u8]) -> Vec<(u16, u16)> {
+    let two = |at: usize| u16::from_le_bytes([lent[at], lent[at + 1]]);
+    let whole = lent.len() / 4;
+    let mut cells: Vec<(u16, u16)> = (0..whole)
+        .map(|at| (two(4 * at), two(4 * at + 2)))
+        .collect();
+    if model.has(Fault::ListPartCell) && lent.len() % 4 >= 2 {
+        cells.push((two(4 * whole), 0));
+    }
+    cells
 }

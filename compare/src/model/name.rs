@@ -5,6 +5,7 @@
 use super::operator;
 use super::sheet::{Node, Sheet};
 use super::Model;
+use crate::numbers::{CONSTRUCTOR, CONSTRUCTOR_WANTED, NO_CLAUSE, NUMBER, NUMBER_WANTED};
 
 /// The sheet's own answer.
 #[derive(Clone, Copy, Debug, PartialEq, Eq)]
@@ -20,8 +21,8 @@ impl Own {
     /// Outcome and value as a run's answer would have them.
     pub fn outcome(&self) -> Option<(u16, i32)> {
         match *self {
-            Own::Number(number) => Some((0, number)),
-            Own::Constructor(number) => Some((100, number as i32)),
+            Own::Number(number) => Some((NUMBER, number)),
+            Own::Constructor(number) => Some((CONSTRUCTOR, number as i32)),
             Own::Fault(number) => Some((number, 0)),
             Own::Unknown => None,
         }
@@ -42,6 +43,16 @@ struct Setting {
     call: Option<u16>,
     from: usize,
     held: Option<Built>,
+}
+
+impl Setting {
+    fn of_call(call: u16, from: usize) -> Setting {
+        Setting {
+            call: Some(call),
+            from,
+            held: None,
+        }
+    }
 }
 
 enum Value {
@@ -102,31 +113,11 @@ impl<'a> Meaning<'a> {
                 self.value(arguments[*position as usize], from, depth + 1)
             }
             Node::Call { function, .. } => {
-                let fresh = Setting {
-                    call: Some(node),
-                    from: setting,
-                    held: None,
-                };
-                let fresh = self.add(fresh);
+                let fresh = self.add(Setting::of_call(node, setting));
                 self.value(sheet.bodies[*function as usize], fresh, depth + 1)
             }
             Node::Build { .. } => Ok(Value::Built(Built { node, setting })),
-            Node::Case { scrutinee, clauses } => {
-                let built = match self.value(*scrutinee, setting, depth + 1)? {
-                    Value::Number(_) => return Err(End::Fault(15)),
-                    Value::Built(built) => built,
-                };
-                let (constructor, _) = self.built(built);
-                let Some(clause) = clauses.iter().find(|clause| clause.0 == constructor) else {
-                    return Err(End::Fault(16));
-                };
-                let holding = Setting {
-                    held: Some(built),
-                    ..self.settings[setting]
-                };
-                let holding = self.add(holding);
-                self.value(clause.1, holding, depth + 1)
-            }
+            Node::Case { scrutinee, clauses } => self.case(*scrutinee, clauses, setting, depth),
             Node::Pattern(position) => {
                 let built = self.settings[setting].held.expect("stands in a clause");
                 let field = self.built(built).1[*position as usize];
@@ -146,10 +137,33 @@ impl<'a> Meaning<'a> {
         }
     }
 
+    fn case(
+        &mut self,
+        scrutinee: u16,
+        clauses: &[(u16, u16)],
+        setting: usize,
+        depth: u32,
+    ) -> Result<Value, End> {
+        let built = match self.value(scrutinee, setting, depth + 1)? {
+            Value::Number(_) => return Err(End::Fault(CONSTRUCTOR_WANTED)),
+            Value::Built(built) => built,
+        };
+        let (constructor, _) = self.built(built);
+        let Some(clause) = clauses.iter().find(|clause| clause.0 == constructor) else {
+            return Err(End::Fault(NO_CLAUSE));
+        };
+        let holding = Setting {
+            held: Some(built),
+            ..self.settings[setting]
+        };
+        let holding = self.add(holding);
+        self.value(clause.1, holding, depth + 1)
+    }
+
     fn number(&mut self, node: u16, setting: usize, depth: u32) -> Result<i32, End> {
         match self.value(node, setting, depth)? {
             Value::Number(number) => Ok(number),
-            Value::Built(_) => Err(End::Fault(14)),
+            Value::Built(_) => Err(End::Fault(NUMBER_WANTED)),
         }
     }
 

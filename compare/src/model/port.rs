@@ -3,6 +3,7 @@
 use super::answer::RECORD;
 use super::{joined, listing, run, Model, Refusal};
 use crate::interface::{Allowances, Interface};
+use crate::numbers::SHORT_TRAY;
 
 fn packed(refusal: Refusal) -> u64 {
     (refusal.number as u64) << 32 | refusal.place as u64
@@ -25,7 +26,7 @@ impl Interface for Model {
         record: &mut [u8],
     ) -> u64 {
         if record.len() < RECORD {
-            return packed(Refusal::new(8, 0));
+            return packed(Refusal::new(SHORT_TRAY, 0));
         }
         let answer = run::run(self, file, readings, allowances, cells);
         record[..RECORD].copy_from_slice(&answer.record());
@@ -42,14 +43,14 @@ impl Interface for Model {
         record: &mut [u8],
     ) -> u64 {
         if record.len() < RECORD {
-            return packed(Refusal::new(8, 0));
+            return packed(Refusal::new(SHORT_TRAY, 0));
         }
         let answer = joined::translate_and_run(self, sheet, out, readings, allowances, cells);
         record[..RECORD].copy_from_slice(&answer.record());
         0
     }
 
-    fn list_context(&self, cells: &[u8], cell: u64, out: &mut [u8]) -> u64 {
+    fn list_context(&self, cells: &[u8], cell: u32, out: &mut [u8]) -> u64 {
         match listing::list(self, cells, cell, out) {
             Ok(count) => count as u64,
             Err(refusal) => packed(refusal),

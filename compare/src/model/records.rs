@@ -3,21 +3,24 @@
 
 use super::fault::Fault;
 use super::{Model, Refusal};
+use crate::kinds::{operators::EQUAL, sheet, translation};
+use crate::numbers::{BAD_RECORD, CUT};
 
 /// Lengths that a kind may have: least, step, greatest (step 0: fixed).
 fn lengths(kind: u16) -> Option<(usize, usize, usize)> {
     Some(match kind {
-        1 | 33 => (12, 0, 12),
-        2 | 34 => (6, 0, 6),
-        3 => (8, 0, 8),
-        35 => (4, 2, 2052),
-        16 | 48 => (8, 0, 8),
-        17 | 49 => (6, 0, 6),
-        18 | 19 | 50 => (6, 0, 6),
-        20 | 21 | 52 | 53 => (10, 0, 10),
-        22 | 23 | 55 => (6, 2, 22),
-        24 | 56 => (10, 4, 262),
-        51 | 54 => (8, 0, 8),
+        sheet::HEAD | translation::HEAD => (12, 0, 12),
+        sheet::CONSTRUCTOR | translation::FUNCTION => (6, 0, 6),
+        sheet::FUNCTION => (8, 0, 8),
+        translation::ACTUALS => (4, 2, 2052),
+        sheet::NUMBER | translation::NUMBER => (8, 0, 8),
+        sheet::READING | translation::READING => (6, 0, 6),
+        sheet::PARAMETER | sheet::PATTERN | translation::FORMAL => (6, 0, 6),
+        sheet::OPERATOR | translation::OPERATOR => (10, 0, 10),
+        sheet::IF | translation::IF => (10, 0, 10),
+        sheet::CALL | sheet::BUILD | translation::TUPLE => (6, 2, 22),
+        sheet::CASE | translation::CASE => (10, 4, 262),
+        translation::SELECT | translation::CALL => (8, 0, 8),
         _ => return None,
     })
 }
@@ -32,11 +35,38 @@ fn length_fits(kind: u16, length: usize) -> bool {
     }
 }
 
-/// One whole record, its fields as two-byte numbers.
-pub struct Record {
+/// One whole record; its fields are numbers of two bytes.
+pub struct Record<'a> {
     pub number: u32,
     pub kind: u16,
-    pub fields: Vec<u16>,
+    fields: &'a [u8],
+}
+
+impl Record<'_> {
+    pub fn field(&self, at: usize) -> u16 {
+        two_bytes(self.fields, 2 * at)
+    }
+
+    /// The fields from one on.
+    pub fn fields(&self, from: usize) -> Vec<u16> {
+        self.fields[2 * from..]
+            .chunks_exact(2)
+            .map(|field| two_bytes(field, 0))
+            .collect()
+    }
+
+    /// The signed 32-bit field of a number.
+    pub fn signed(&self) -> i32 {
+        (self.field(0) as u32 | (self.field(1) as u32) << 16) as i32
+    }
+
+    /// The clauses of a case: pairs of a constructor and a node.
+    pub fn clauses(&self) -> Vec<(u16, u16)> {
+        self.fields[2..]
+            .chunks_exact(4)
+            .map(|clause| (two_bytes(clause, 0), two_bytes(clause, 2)))
+            .collect()
+    }
 }
 
 /// Takes the records of a file one after another.
@@ -62,35 +92,32 @@ impl<'a> Records<'a> {
     }
 
     /// The next record, which has to be of one of the kinds due.
-    pub fn next(&mut self, due: &[u16]) -> Result<Record, Refusal> {
+    pub fn next(&mut self, due: &[u16]) -> Result<Record<'a>, Refusal> {
         let refuse = |number| Err(Refusal::new(number, self.number));
         let left = &self.file[self.at..];
         if left.len() < 4 {
-            return refuse(1);
+            return refuse(CUT);
         }
         let length = two_bytes(left, 0) as usize;
         let kind = two_bytes(left, 2);
         if self.model.has(Fault::CutBeforeKind) && left.len() < length {
-            return refuse(1);
+            return refuse(CUT);
         }
         if !due.contains(&kind) || !length_fits(kind, length) {
-            return refuse(3);
+            return refuse(BAD_RECORD);
         }
         if left.len() < length {
-            return refuse(1);
-        }
-        let fields: Vec<u16> = left[4..length]
-            .chunks_exact(2)
-            .map(|pair| u16::from_le_bytes([pair[0], pair[1]]))
-            .collect();
-        if (kind == 20 || kind == 52) && fields[0] > 5 {
-            return refuse(3);
+            return refuse(CUT);
         }
         let record = Record {
             number: self.number,
             kind,
-            fields,
+            fields: &left[4..length],
         };
+        let operator = kind == sheet::OPERATOR || kind == translation::OPERATOR;
+        if operator && record.field(0) > EQUAL {
+            return refuse(BAD_RECORD);
+        }
         self.at += length;
         self.number += 1;
         Ok(record)
@@ -102,7 +129,7 @@ impl<'a> Records<'a> {
             return Ok(());
         }
         let wrong = self.model.has(Fault::LeftOverPlace) as u32;
-        Err(Refusal::new(3, self.number - wrong))
+        Err(Refusal::new(BAD_RECORD, self.number - wrong))
     }
 }
 
@@ -124,18 +151,5 @@ pub fn bodies(counts: &[u16]) -> Vec<u16> {
             end += count;
             end - 1
         })
-        .collect()
-}
-
-/// The signed 32-bit field of a number record.
-pub fn signed(fields: &[u16]) -> i32 {
-    (fields[0] as u32 | (fields[1] as u32) << 16) as i32
-}
-
-/// Clauses: pairs of a constructor and a node.
-pub fn clauses(fields: &[u16]) -> Vec<(u16, u16)> {
-    fields
-        .chunks_exact(2)
-        .map(|pair| (pair[0], pair[1]))
         .collect()
 }

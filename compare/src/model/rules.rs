@@ -5,6 +5,7 @@
 use super::fault::Fault;
 use super::sheet::{children, Node, Sheet};
 use super::{Model, Refusal};
+use crate::numbers::{DANGLING, MISFIT, MISGROWN};
 
 fn place(model: &Model, sheet: &Sheet, node: usize) -> u32 {
     sheet.record_of(node) + model.has(Fault::PlaceOffByOne) as u32
@@ -13,19 +14,19 @@ fn place(model: &Model, sheet: &Sheet, node: usize) -> u32 {
 /// 5 and 7. Head and constructor records hold no reference.
 pub fn check_references(model: &Model, sheet: &Sheet) -> Result<(), Refusal> {
     if sheet.parameters[0] != 0 {
-        return Err(Refusal::new(7, 1 + sheet.arities.len() as u32));
+        return Err(Refusal::new(MISFIT, 1 + sheet.arities.len() as u32));
     }
     for (number, node) in sheet.nodes.iter().enumerate() {
         let at = place(model, sheet, number);
         let (dangling, misfit) = (dangles(sheet, number, node), misfits(sheet, node));
         if model.has(Fault::MisfitFirst) && misfit {
-            return Err(Refusal::new(7, at));
+            return Err(Refusal::new(MISFIT, at));
         }
         if dangling {
-            return Err(Refusal::new(5, at));
+            return Err(Refusal::new(DANGLING, at));
         }
         if misfit {
-            return Err(Refusal::new(7, at));
+            return Err(Refusal::new(MISFIT, at));
         }
     }
     Ok(())
@@ -44,9 +45,7 @@ fn dangles(sheet: &Sheet, number: usize, node: &Node) -> bool {
             .any(|clause| clause.0 as usize >= constructors),
         _ => false,
     };
-    own || children(node)
-        .iter()
-        .any(|&child| child as usize >= sheet.nodes.len())
+    own || children(node).any(|child| child as usize >= sheet.nodes.len())
 }
 
 /// The number of arguments is not that of the function or constructor.
@@ -71,7 +70,7 @@ pub fn check_growth(model: &Model, sheet: &Sheet) -> Result<(), Refusal> {
     for (number, node) in sheet.nodes.iter().enumerate() {
         let owner = sheet.owners[number];
         let body = sheet.bodies[owner as usize] as usize == number;
-        let bad_child = children(node).iter().any(|&child| {
+        let bad_child = children(node).any(|child| {
             let child = child as usize;
             child >= number || sheet.owners[child] != owner
         });
@@ -80,13 +79,13 @@ pub fn check_growth(model: &Model, sheet: &Sheet) -> Result<(), Refusal> {
         let late = model.has(Fault::ClauseOrderByPattern);
         let bad_order = !late && !rising(model, node);
         if bad_child || bad_use || bad_case || bad_order {
-            return Err(Refusal::new(6, place(model, sheet, number)));
+            return Err(Refusal::new(MISGROWN, place(model, sheet, number)));
         }
     }
     if model.has(Fault::ClauseOrderByPattern) {
         for (number, node) in sheet.nodes.iter().enumerate() {
             if !rising(model, node) {
-                return Err(Refusal::new(6, place(model, sheet, number)));
+                return Err(Refusal::new(MISGROWN, place(model, sheet, number)));
             }
         }
     }
@@ -97,13 +96,13 @@ pub fn check_growth(model: &Model, sheet: &Sheet) -> Result<(), Refusal> {
 fn count_uses(model: &Model, sheet: &Sheet) -> Vec<u32> {
     let mut uses = vec![0; sheet.nodes.len()];
     for (number, node) in sheet.nodes.iter().enumerate() {
-        for child in children(node) {
+        children(node).for_each(|child| {
             let child = child as usize;
-            if model.has(Fault::OwnFunctionCount) && sheet.owners[child] != sheet.owners[number] {
-                continue;
+            let foreign = sheet.owners[child] != sheet.owners[number];
+            if !(foreign && model.has(Fault::OwnFunctionCount)) {
+                uses[child] += 1;
             }
-            uses[child] += 1;
-        }
+        });
     }
     uses
 }
@@ -133,7 +132,7 @@ pub fn check_patterns(model: &Model, sheet: &Sheet) -> Result<(), Refusal> {
             }
         };
         if !fits {
-            return Err(Refusal::new(6, place(model, sheet, number)));
+            return Err(Refusal::new(MISGROWN, place(model, sheet, number)));
         }
     }
     Ok(())
@@ -143,9 +142,7 @@ pub fn check_patterns(model: &Model, sheet: &Sheet) -> Result<(), Refusal> {
 fn parents(sheet: &Sheet) -> Vec<Option<usize>> {
     let mut parents = vec![None; sheet.nodes.len()];
     for (number, node) in sheet.nodes.iter().enumerate() {
-        for child in children(node) {
-            parents[child as usize] = Some(number);
-        }
+        children(node).for_each(|child| parents[child as usize] = Some(number));
     }
     parents
 }

@@ -6,6 +6,7 @@ use super::operator;
 use super::translation::{self, Node, Translation};
 use super::{Model, Refusal};
 use crate::interface::Allowances;
+use crate::numbers;
 
 /// What a visit ends with when it is no stop and no fault.
 #[derive(Clone, Copy, Debug)]
@@ -59,6 +60,11 @@ pub fn run(
     if model.has(Fault::CellsCleared) {
         lent[4 * run.cells.len()..].fill(0);
     }
+    answer(&run, end)
+}
+
+/// The answer of a run that ended so.
+fn answer(run: &Run, end: Result<Value, u16>) -> Answer {
     let mut answer = Answer {
         steps: run.steps,
         cells: run.cells.len() as u16,
@@ -67,11 +73,8 @@ pub fn run(
     match end {
         Ok(Value::Number(number)) => answer.value = number,
         Ok(Value::Tuple { node, context }) => {
-            let Node::Tuple { tag, .. } = &translation.nodes[node as usize] else {
-                unreachable!("a tuple value names a tuple node")
-            };
-            answer.outcome = 100;
-            answer.value = *tag as i32;
+            answer.outcome = numbers::CONSTRUCTOR;
+            answer.value = run.tuple(node).0 as i32;
             answer.node = node;
             answer.context = context;
         }
@@ -80,7 +83,7 @@ pub fn run(
     answer
 }
 
-/// The file's own checks, then 9, then 10.
+/// The file's own checks, then the count of readings, then the allowances.
 fn accept(
     model: &Model,
     file: &[u8],
@@ -92,13 +95,13 @@ fn accept(
     let wrong_count = readings.len() != translation.readings as usize;
     let bad = bad_allowance(allowances, lent);
     if bad && model.has(Fault::AllowanceFirst) {
-        return Err(Refusal::new(10, 0));
+        return Err(Refusal::new(numbers::BAD_ALLOWANCE, 0));
     }
     if wrong_count {
-        return Err(Refusal::new(9, 0));
+        return Err(Refusal::new(numbers::SENSOR_COUNT, 0));
     }
     if bad {
-        return Err(Refusal::new(10, 0));
+        return Err(Refusal::new(numbers::BAD_ALLOWANCE, 0));
     }
     Ok(translation)
 }
@@ -112,21 +115,7 @@ fn bad_allowance(allowances: Allowances, lent: usize) -> bool {
 impl Run<'_> {
     /// Visits a node; `open` counts the open visits, this one included.
     fn visit(&mut self, node: u16, context: u16, open: u32) -> Result<Value, u16> {
-        let no_step = self.steps == self.allowances.steps;
-        let loose = self.model.has(Fault::NestingLimit) as u32;
-        let too_deep = open > self.allowances.nesting + loose;
-        if no_step || too_deep {
-            if self.model.has(Fault::StoppedCounted) {
-                self.steps = self.steps.wrapping_add(1);
-            }
-            let nesting_first = self.model.has(Fault::NestingFirst);
-            return Err(if !no_step || too_deep && nesting_first {
-                12
-            } else {
-                11
-            });
-        }
-        self.steps += 1;
+        self.count(open)?;
         let translation = self.translation;
         match &translation.nodes[node as usize] {
             Node::Number(number) => Ok(Value::Number(*number)),
@@ -141,18 +130,7 @@ impl Run<'_> {
                 let taken = if condition != 0 { *yes } else { *no };
                 self.visit(taken, context, open + 1)
             }
-            Node::Call { label, function } => {
-                let loose = self.model.has(Fault::CellLimit) as usize;
-                if self.cells.len() == self.allowances.cells as usize + loose {
-                    return Err(13);
-                }
-                self.cells.push(Cell {
-                    label: *label,
-                    previous: context,
-                });
-                let cell = self.cells.len() as u16;
-                self.visit(translation.bodies[*function as usize], cell, open + 1)
-            }
+            Node::Call { label, function } => self.call(*label, *function, context, open),
             Node::Tuple { fields, .. } => {
                 if self.model.has(Fault::FieldsBuilt) {
                     for &field in fields {
@@ -165,18 +143,53 @@ impl Run<'_> {
         }
     }
 
+    /// The two stops of a visit, and its step.
+    fn count(&mut self, open: u32) -> Result<(), u16> {
+        let no_step = self.steps == self.allowances.steps;
+        let loose = self.model.has(Fault::NestingLimit) as u32;
+        let too_deep = open > self.allowances.nesting + loose;
+        if !no_step && !too_deep {
+            self.steps += 1;
+            return Ok(());
+        }
+        if self.model.has(Fault::StoppedCounted) {
+            self.steps = self.steps.wrapping_add(1);
+        }
+        let nesting_first = self.model.has(Fault::NestingFirst);
+        Err(if !no_step || too_deep && nesting_first {
+            numbers::NESTING
+        } else {
+            numbers::STEPS
+        })
+    }
+
+    /// One cell more, and the body under it.
+    fn call(&mut self, label: u16, function: u16, context: u16, open: u32) -> Result<Value, u16> {
+        let loose = self.model.has(Fault::CellLimit) as usize;
+        if self.cells.len() == self.allowances.cells as usize + loose {
+            return Err(numbers::CELLS);
+        }
+        self.cells.push(Cell {
+            label,
+            previous: context,
+        });
+        let cell = self.cells.len() as u16;
+        let body = self.translation.bodies[function as usize];
+        self.visit(body, cell, open + 1)
+    }
+
     /// Visits a node that has to give a number.
     fn number(&mut self, node: u16, context: u16, open: u32) -> Result<i32, u16> {
         match self.visit(node, context, open + 1)? {
             Value::Number(number) => Ok(number),
-            Value::Tuple { .. } => Err(14),
+            Value::Tuple { .. } => Err(numbers::NUMBER_WANTED),
         }
     }
 
     /// Visits a node that has to give a constructor: node and context.
     fn constructor(&mut self, node: u16, context: u16, open: u32) -> Result<(u16, u16), u16> {
         match self.visit(node, context, open + 1)? {
-            Value::Number(_) => Err(15),
+            Value::Number(_) => Err(numbers::CONSTRUCTOR_WANTED),
             Value::Tuple { node, context } => Ok((node, context)),
         }
     }
@@ -200,7 +213,7 @@ impl Run<'_> {
             let left = self.visit(left, context, open + 1)?;
             let right = self.visit(right, context, open + 1)?;
             let (Value::Number(left), Value::Number(right)) = (left, right) else {
-                return Err(14);
+                return Err(numbers::NUMBER_WANTED);
             };
             return operator::apply(self.model, code, left, right).map(Value::Number);
         }
@@ -212,9 +225,9 @@ impl Run<'_> {
     /// The actual that the head label names, under the tail.
     fn formal(&mut self, formal: u16, context: u16, open: u32) -> Result<Value, u16> {
         let missing = if self.model.has(Fault::NoActualNoField) {
-            19
+            numbers::NO_FIELD
         } else {
-            18
+            numbers::NO_ACTUAL
         };
         if context == 0 {
             return Err(missing);
@@ -238,9 +251,9 @@ impl Run<'_> {
         }
         let Some(&field) = fields.get(index as usize - 1) else {
             return Err(if self.model.has(Fault::NoActualNoField) {
-                18
+                numbers::NO_ACTUAL
             } else {
-                19
+                numbers::NO_FIELD
             });
         };
         let selecting = self.model.has(Fault::SelectingContext);
@@ -265,7 +278,7 @@ impl Run<'_> {
             found = clauses.iter().rfind(|clause| clause.0 == tag);
         }
         let Some(&(_, clause)) = found else {
-            return Err(16);
+            return Err(numbers::NO_CLAUSE);
         };
         self.visit(clause, context, open + 1)
     }

@@ -2,8 +2,10 @@
 //! sheet or a refusal before number 8.
 
 use super::fault::Fault;
-use super::records::{bodies, clauses, owners, signed, Record, Records};
+use super::records::{bodies, owners, Record, Records};
 use super::{rules, Model, Refusal};
+use crate::kinds::sheet as kinds;
+use crate::numbers::{BAD_COUNT, OVERSIZE};
 
 #[derive(Clone, Debug, PartialEq, Eq)]
 pub enum Node {
@@ -69,115 +71,122 @@ pub fn read(model: &Model, file: &[u8]) -> Result<Sheet, Refusal> {
     Ok(sheet)
 }
 
-/// Record by record: 2, then 1, 3 and 4.
+/// The ranges of a sheet's counts.
+const READINGS: u16 = 32;
+const CONSTRUCTORS: u16 = 64;
+const FUNCTIONS: u16 = 64;
+const NODES: u16 = 1024;
+const ARITY: u16 = 8;
+
+/// Record by record: oversize, then cut, bad records and bad counts.
 fn read_records(model: &Model, file: &[u8]) -> Result<Sheet, Refusal> {
     let greatest = GREATEST - model.has(Fault::SizeLimit) as usize;
     if file.len() > greatest {
-        return Err(Refusal::new(2, 0));
+        return Err(Refusal::new(OVERSIZE, 0));
     }
     let mut records = Records::new(model, file);
-    let head = records.next(&[1])?;
-    let (readings, constructors) = (head.fields[0], head.fields[1]);
-    let (functions, nodes_due) = (head.fields[2], head.fields[3]);
-    if readings > 32
-        || constructors > 64
-        || !(1..=64).contains(&functions)
-        || !(1..=1024).contains(&nodes_due)
-    {
-        return Err(Refusal::new(4, 0));
+    let head = records.next(&[kinds::HEAD])?;
+    let [readings, constructors, functions, nodes_due] = [0, 1, 2, 3].map(|at| head.field(at));
+    let ranges = readings <= READINGS && constructors <= CONSTRUCTORS;
+    if !ranges || !(1..=FUNCTIONS).contains(&functions) || !(1..=NODES).contains(&nodes_due) {
+        return Err(Refusal::new(BAD_COUNT, 0));
     }
-
     let mut arities = Vec::new();
     for _ in 0..constructors {
-        let record = records.next(&[2])?;
-        if record.fields[0] > 8 {
-            return Err(Refusal::new(4, record.number));
+        let record = records.next(&[kinds::CONSTRUCTOR])?;
+        if record.field(0) > ARITY {
+            return Err(Refusal::new(BAD_COUNT, record.number));
         }
-        arities.push(record.fields[0]);
+        arities.push(record.field(0));
     }
-
-    let (mut parameters, mut counts) = (Vec::new(), Vec::new());
-    let mut sum: u64 = 0;
-    for function in 1..=functions {
-        let record = records.next(&[3])?;
-        if record.fields[0] > 8 || record.fields[1] < 1 {
-            return Err(Refusal::new(4, record.number));
-        }
-        parameters.push(record.fields[0]);
-        counts.push(record.fields[1]);
-        sum += record.fields[1] as u64;
-        if function == functions && sum != nodes_due as u64 {
-            let place = if model.has(Fault::SumPlace) {
-                0
-            } else {
-                record.number
-            };
-            return Err(Refusal::new(4, place));
-        }
-    }
-
-    let mut nodes = Vec::new();
+    let (parameters, counts) = read_functions(model, &mut records, functions, nodes_due)?;
+    let mut nodes = Vec::with_capacity(nodes_due as usize);
     for _ in 0..nodes_due {
-        nodes.push(node(records.next(&[16, 17, 18, 19, 20, 21, 22, 23, 24])?));
+        nodes.push(node(records.next(&kinds::NODES)?));
     }
     records.finish()?;
-
-    let (owners, bodies) = (owners(&counts), bodies(&counts));
     Ok(Sheet {
         readings,
         arities,
         parameters,
-        counts,
         nodes,
-        owners,
-        bodies,
+        owners: owners(&counts),
+        bodies: bodies(&counts),
+        counts,
     })
 }
 
+/// Parameter and node counts of the functions.
+fn read_functions(
+    model: &Model,
+    records: &mut Records,
+    functions: u16,
+    nodes_due: u16,
+) -> Result<(Vec<u16>, Vec<u16>), Refusal> {
+    let (mut parameters, mut counts) = (Vec::new(), Vec::new());
+    let mut sum: u64 = 0;
+    for function in 1..=functions {
+        let record = records.next(&[kinds::FUNCTION])?;
+        if record.field(0) > ARITY || record.field(1) < 1 {
+            return Err(Refusal::new(BAD_COUNT, record.number));
+        }
+        parameters.push(record.field(0));
+        counts.push(record.field(1));
+        sum += record.field(1) as u64;
+        if function == functions && sum != nodes_due as u64 {
+            let wrong = model.has(Fault::SumPlace);
+            let place = if wrong { 0 } else { record.number };
+            return Err(Refusal::new(BAD_COUNT, place));
+        }
+    }
+    Ok((parameters, counts))
+}
+
 fn node(record: Record) -> Node {
-    let fields = record.fields;
+    let field = |at: usize| record.field(at);
     match record.kind {
-        16 => Node::Number(signed(&fields)),
-        17 => Node::Reading(fields[0]),
-        18 => Node::Parameter(fields[0]),
-        19 => Node::Pattern(fields[0]),
-        20 => Node::Operator {
-            code: fields[0],
-            left: fields[1],
-            right: fields[2],
+        kinds::NUMBER => Node::Number(record.signed()),
+        kinds::READING => Node::Reading(field(0)),
+        kinds::PARAMETER => Node::Parameter(field(0)),
+        kinds::PATTERN => Node::Pattern(field(0)),
+        kinds::OPERATOR => Node::Operator {
+            code: field(0),
+            left: field(1),
+            right: field(2),
         },
-        21 => Node::If {
-            condition: fields[0],
-            yes: fields[1],
-            no: fields[2],
+        kinds::IF => Node::If {
+            condition: field(0),
+            yes: field(1),
+            no: field(2),
         },
-        22 => Node::Call {
-            function: fields[0],
-            arguments: fields[1..].to_vec(),
+        kinds::CALL => Node::Call {
+            function: field(0),
+            arguments: record.fields(1),
         },
-        23 => Node::Build {
-            constructor: fields[0],
-            arguments: fields[1..].to_vec(),
+        kinds::BUILD => Node::Build {
+            constructor: field(0),
+            arguments: record.fields(1),
         },
-        24 => Node::Case {
-            scrutinee: fields[0],
-            clauses: clauses(&fields[1..]),
+        kinds::CASE => Node::Case {
+            scrutinee: field(0),
+            clauses: record.clauses(),
         },
         kind => unreachable!("kind {kind} was not due"),
     }
 }
 
 /// The children of a node, in the order of its fields.
-pub fn children(node: &Node) -> Vec<u16> {
-    match node {
-        Node::Number(_) | Node::Reading(_) | Node::Parameter(_) | Node::Pattern(_) => vec![],
-        Node::Operator { left, right, .. } => vec![*left, *right],
-        Node::If { condition, yes, no } => vec![*condition, *yes, *no],
-        Node::Call { arguments, .. } | Node::Build { arguments, .. } => arguments.clone(),
-        Node::Case { scrutinee, clauses } => {
-            let mut all = vec![*scrutinee];
-            all.extend(clauses.iter().map(|clause| clause.1));
-            all
+pub fn children(node: &Node) -> impl Iterator<Item = u16> + '_ {
+    let (own, list, clauses): ([Option<u16>; 3], &[u16], &[(u16, u16)]) = match node {
+        Node::Number(_) | Node::Reading(_) | Node::Parameter(_) | Node::Pattern(_) => {
+            ([None; 3], &[], &[])
         }
-    }
+        Node::Operator { left, right, .. } => ([Some(*left), Some(*right), None], &[], &[]),
+        Node::If { condition, yes, no } => ([Some(*condition), Some(*yes), Some(*no)], &[], &[]),
+        Node::Call { arguments, .. } | Node::Build { arguments, .. } => ([None; 3], arguments, &[]),
+        Node::Case { scrutinee, clauses } => ([Some(*scrutinee), None, None], &[], clauses),
+    };
+    let listed = list.iter().copied();
+    let chosen = clauses.iter().map(|clause| clause.1);
+    own.into_iter().flatten().chain(listed).chain(chosen)
 }

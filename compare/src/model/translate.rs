@@ -7,78 +7,93 @@ use super::Model;
 
 /// The translation of an accepted sheet.
 pub fn translate(model: &Model, sheet: &Sheet) -> Translation {
-    // First formal of each function: formals go by function, then position.
-    let mut first_formal = Vec::new();
-    let mut formal_count = 0;
-    for &parameters in &sheet.parameters {
-        first_formal.push(formal_count);
-        formal_count += parameters;
-    }
-    let mut formals: Vec<Vec<u16>> = vec![Vec::new(); formal_count as usize];
-    let mut next_label = vec![0u16; sheet.parameters.len()];
-    let mut nodes = Vec::new();
-
+    let mut calls = Calls::new(sheet);
+    let mut nodes = Vec::with_capacity(sheet.nodes.len());
     for (number, node) in sheet.nodes.iter().enumerate() {
         let owner = sheet.owners[number] as usize;
         let first_of_function = number == 0 || sheet.owners[number - 1] as usize != owner;
         if model.has(Fault::LabelsRestart) && first_of_function {
-            next_label.fill(0);
+            calls.next_label.fill(0);
         }
-        nodes.push(match node {
-            sheet::Node::Number(number) => Node::Number(*number),
-            sheet::Node::Reading(reading) => Node::Reading(*reading),
-            sheet::Node::Parameter(position) => Node::Formal(first_formal[owner] + position),
-            sheet::Node::Pattern(position) => {
-                let raised = !model.has(Fault::IndexNotRaised) as u16;
-                Node::Select {
-                    node: scrutinee(sheet, owner),
-                    index: position + raised,
-                }
-            }
-            sheet::Node::Operator { code, left, right } => Node::Operator {
-                code: *code,
-                left: *left,
-                right: *right,
-            },
-            sheet::Node::If { condition, yes, no } => Node::If {
-                condition: *condition,
-                yes: *yes,
-                no: *no,
-            },
-            sheet::Node::Call {
-                function,
-                arguments,
-            } => {
-                let callee = *function as usize;
-                let label = next_label[callee];
-                next_label[callee] += 1;
-                for (position, &argument) in arguments.iter().enumerate() {
-                    formals[first_formal[callee] as usize + position].push(argument);
-                }
-                Node::Call {
-                    label,
-                    function: *function,
-                }
-            }
-            sheet::Node::Build {
-                constructor,
-                arguments,
-            } => Node::Tuple {
-                tag: *constructor,
-                fields: arguments.clone(),
-            },
-            sheet::Node::Case { scrutinee, clauses } => Node::Case {
-                scrutinee: *scrutinee,
-                clauses: clauses.clone(),
-            },
-        });
+        nodes.push(translate_node(model, sheet, owner, node, &mut calls));
     }
     Translation {
         readings: sheet.readings,
         counts: sheet.counts.clone(),
-        formals,
+        formals: calls.formals,
         nodes,
         bodies: sheet.bodies.clone(),
+    }
+}
+
+/// Labels and actuals, as the calls are met.
+struct Calls {
+    /// First formal of each function: formals go by function, then position.
+    first_formal: Vec<u16>,
+    formals: Vec<Vec<u16>>,
+    next_label: Vec<u16>,
+}
+
+impl Calls {
+    fn new(sheet: &Sheet) -> Calls {
+        let mut first_formal = Vec::new();
+        let mut count = 0;
+        for &parameters in &sheet.parameters {
+            first_formal.push(count);
+            count += parameters;
+        }
+        Calls {
+            first_formal,
+            formals: vec![Vec::new(); count as usize],
+            next_label: vec![0; sheet.parameters.len()],
+        }
+    }
+
+    /// Labels a call and notes its arguments.
+    fn add(&mut self, function: u16, arguments: &[u16]) -> Node {
+        let callee = function as usize;
+        let label = self.next_label[callee];
+        self.next_label[callee] += 1;
+        let first = self.first_formal[callee] as usize;
+        for (formal, &argument) in self.formals[first..].iter_mut().zip(arguments) {
+            formal.push(argument);
+        }
+        Node::Call { label, function }
+    }
+}
+
+fn translate_node(
+    model: &Model,
+    sheet: &Sheet,
+    owner: usize,
+    node: &sheet::Node,
+    calls: &mut Calls,
+) -> Node {
+    match node {
+        &sheet::Node::Number(number) => Node::Number(number),
+        &sheet::Node::Reading(reading) => Node::Reading(reading),
+        &sheet::Node::Parameter(position) => Node::Formal(calls.first_formal[owner] + position),
+        &sheet::Node::Pattern(position) => Node::Select {
+            node: scrutinee(sheet, owner),
+            index: position + !model.has(Fault::IndexNotRaised) as u16,
+        },
+        &sheet::Node::Operator { code, left, right } => Node::Operator { code, left, right },
+        &sheet::Node::If { condition, yes, no } => Node::If { condition, yes, no },
+        sheet::Node::Call {
+            function,
+            arguments,
+        } => calls.add(*function, arguments),
+        sheet::Node::Build {
+            constructor,
+            arguments,
+        } => Node::Tuple {
+            tag: *constructor,
+            fields: arguments.clone(),
+        },
+        sheet::Node::Case { scrutinee, clauses } => Node::Case {
+            scrutinee: *scrutinee,
+            clauses: clauses.clone(),
+        },
     }
 }
 

@@ -1,7 +1,9 @@
 //! Translations: their form in memory, the reader and the writer.
 
-use super::records::{bodies, clauses, signed, Record, Records};
+use super::records::{bodies, Record, Records};
 use super::{Model, Refusal};
+use crate::kinds::translation as kinds;
+use crate::numbers::{BAD_COUNT, DANGLING, OVERSIZE};
 
 #[derive(Clone, Debug, PartialEq, Eq)]
 pub enum Node {
@@ -50,100 +52,109 @@ pub struct Translation {
 
 const GREATEST: usize = 40_960;
 
+/// The ranges of a translation's counts.
+const READINGS: u16 = 32;
+const FORMALS: u16 = 512;
+const FUNCTIONS: u16 = 64;
+const NODES: u16 = 1024;
+
 /// Reads a translation: accepted, or the first refusal.
 pub fn read(model: &Model, file: &[u8]) -> Result<Translation, Refusal> {
     if file.len() > GREATEST {
-        return Err(Refusal::new(2, 0));
+        return Err(Refusal::new(OVERSIZE, 0));
     }
     let mut records = Records::new(model, file);
-    let head = records.next(&[33])?;
-    let (readings, formals_due) = (head.fields[0], head.fields[1]);
-    let (functions, nodes_due) = (head.fields[2], head.fields[3]);
-    if readings > 32
-        || formals_due > 512
-        || !(1..=64).contains(&functions)
-        || !(1..=1024).contains(&nodes_due)
-    {
-        return Err(Refusal::new(4, 0));
+    let head = records.next(&[kinds::HEAD])?;
+    let [readings, formals_due, functions, nodes_due] = [0, 1, 2, 3].map(|at| head.field(at));
+    let ranges = readings <= READINGS && formals_due <= FORMALS;
+    if !ranges || !(1..=FUNCTIONS).contains(&functions) || !(1..=NODES).contains(&nodes_due) {
+        return Err(Refusal::new(BAD_COUNT, 0));
     }
-    let mut counts = Vec::new();
-    let mut sum: u64 = 0;
-    for function in 1..=functions {
-        let record = records.next(&[34])?;
-        if record.fields[0] < 1 {
-            return Err(Refusal::new(4, record.number));
-        }
-        counts.push(record.fields[0]);
-        sum += record.fields[0] as u64;
-        if function == functions && sum != nodes_due as u64 {
-            return Err(Refusal::new(4, record.number));
-        }
-    }
+    let counts = read_functions(&mut records, functions, nodes_due)?;
     let mut formals = Vec::new();
     for _ in 0..formals_due {
-        formals.push(records.next(&[35])?.fields);
+        formals.push(records.next(&[kinds::ACTUALS])?.fields(0));
     }
-    let mut nodes = Vec::new();
+    let mut nodes = Vec::with_capacity(nodes_due as usize);
     for _ in 0..nodes_due {
-        nodes.push(node(records.next(&[48, 49, 50, 51, 52, 53, 54, 55, 56])?));
+        nodes.push(node(records.next(&kinds::NODES)?));
     }
     records.finish()?;
-    let bodies = bodies(&counts);
     let translation = Translation {
         readings,
-        counts,
         formals,
         nodes,
-        bodies,
+        bodies: bodies(&counts),
+        counts,
     };
     check_references(&translation)?;
     Ok(translation)
 }
 
+/// Node counts of the functions.
+fn read_functions(
+    records: &mut Records,
+    functions: u16,
+    nodes_due: u16,
+) -> Result<Vec<u16>, Refusal> {
+    let mut counts = Vec::new();
+    let mut sum: u64 = 0;
+    for function in 1..=functions {
+        let record = records.next(&[kinds::FUNCTION])?;
+        let count = record.field(0);
+        counts.push(count);
+        sum += count as u64;
+        if count < 1 || function == functions && sum != nodes_due as u64 {
+            return Err(Refusal::new(BAD_COUNT, record.number));
+        }
+    }
+    Ok(counts)
+}
+
 fn node(record: Record) -> Node {
-    let fields = record.fields;
+    let field = |at: usize| record.field(at);
     match record.kind {
-        48 => Node::Number(signed(&fields)),
-        49 => Node::Reading(fields[0]),
-        50 => Node::Formal(fields[0]),
-        51 => Node::Select {
-            node: fields[0],
-            index: fields[1],
+        kinds::NUMBER => Node::Number(record.signed()),
+        kinds::READING => Node::Reading(field(0)),
+        kinds::FORMAL => Node::Formal(field(0)),
+        kinds::SELECT => Node::Select {
+            node: field(0),
+            index: field(1),
         },
-        52 => Node::Operator {
-            code: fields[0],
-            left: fields[1],
-            right: fields[2],
+        kinds::OPERATOR => Node::Operator {
+            code: field(0),
+            left: field(1),
+            right: field(2),
         },
-        53 => Node::If {
-            condition: fields[0],
-            yes: fields[1],
-            no: fields[2],
+        kinds::IF => Node::If {
+            condition: field(0),
+            yes: field(1),
+            no: field(2),
         },
-        54 => Node::Call {
-            label: fields[0],
-            function: fields[1],
+        kinds::CALL => Node::Call {
+            label: field(0),
+            function: field(1),
         },
-        55 => Node::Tuple {
-            tag: fields[0],
-            fields: fields[1..].to_vec(),
+        kinds::TUPLE => Node::Tuple {
+            tag: field(0),
+            fields: record.fields(1),
         },
-        56 => Node::Case {
-            scrutinee: fields[0],
-            clauses: clauses(&fields[1..]),
+        kinds::CASE => Node::Case {
+            scrutinee: field(0),
+            clauses: record.clauses(),
         },
         kind => unreachable!("kind {kind} was not due"),
     }
 }
 
-/// 5, record by record. Labels, tags and indices are free.
+/// References, record by record. Labels, tags and indices are free.
 fn check_references(translation: &Translation) -> Result<(), Refusal> {
     let nodes = translation.nodes.len();
     let far = |node: &u16| *node as usize >= nodes;
     let first_formal = 1 + translation.counts.len();
     for (number, actuals) in translation.formals.iter().enumerate() {
         if actuals.iter().any(far) {
-            return Err(Refusal::new(5, (first_formal + number) as u32));
+            return Err(Refusal::new(DANGLING, (first_formal + number) as u32));
         }
     }
     let first_node = first_formal + translation.formals.len();
@@ -162,36 +173,43 @@ fn check_references(translation: &Translation) -> Result<(), Refusal> {
             }
         };
         if dangling {
-            return Err(Refusal::new(5, (first_node + number) as u32));
+            return Err(Refusal::new(DANGLING, (first_node + number) as u32));
         }
     }
     Ok(())
 }
 
-fn put_record(file: &mut Vec<u8>, kind: u16, fields: &[u16]) {
-    let length = (4 + 2 * fields.len()) as u16;
-    file.extend_from_slice(&length.to_le_bytes());
-    file.extend_from_slice(&kind.to_le_bytes());
+fn put(file: &mut Vec<u8>, fields: &[u16]) {
     for field in fields {
         file.extend_from_slice(&field.to_le_bytes());
     }
 }
 
+/// Length and kind of a record with so many fields.
+fn put_start(file: &mut Vec<u8>, kind: u16, fields: usize) {
+    put(file, &[(4 + 2 * fields) as u16, kind]);
+}
+
+fn put_record(file: &mut Vec<u8>, kind: u16, fields: &[u16]) {
+    put_start(file, kind, fields.len());
+    put(file, fields);
+}
+
 /// The file of a translation.
 pub fn write(translation: &Translation) -> Vec<u8> {
-    let mut file = Vec::new();
+    let mut file = Vec::with_capacity(GREATEST);
     let head = [
         translation.readings,
         translation.formals.len() as u16,
         translation.counts.len() as u16,
         translation.nodes.len() as u16,
     ];
-    put_record(&mut file, 33, &head);
+    put_record(&mut file, kinds::HEAD, &head);
     for &count in &translation.counts {
-        put_record(&mut file, 34, &[count]);
+        put_record(&mut file, kinds::FUNCTION, &[count]);
     }
     for actuals in &translation.formals {
-        put_record(&mut file, 35, actuals);
+        put_record(&mut file, kinds::ACTUALS, actuals);
     }
     for node in &translation.nodes {
         write_node(&mut file, node);
@@ -203,25 +221,27 @@ fn write_node(file: &mut Vec<u8>, node: &Node) {
     match node {
         Node::Number(number) => {
             let bits = *number as u32;
-            put_record(file, 48, &[bits as u16, (bits >> 16) as u16]);
+            put_record(file, kinds::NUMBER, &[bits as u16, (bits >> 16) as u16]);
         }
-        Node::Reading(reading) => put_record(file, 49, &[*reading]),
-        Node::Formal(formal) => put_record(file, 50, &[*formal]),
-        Node::Select { node, index } => put_record(file, 51, &[*node, *index]),
-        Node::Operator { code, left, right } => put_record(file, 52, &[*code, *left, *right]),
-        Node::If { condition, yes, no } => put_record(file, 53, &[*condition, *yes, *no]),
-        Node::Call { label, function } => put_record(file, 54, &[*label, *function]),
+        Node::Reading(reading) => put_record(file, kinds::READING, &[*reading]),
+        Node::Formal(formal) => put_record(file, kinds::FORMAL, &[*formal]),
+        Node::Select { node, index } => put_record(file, kinds::SELECT, &[*node, *index]),
+        Node::Operator { code, left, right } => {
+            put_record(file, kinds::OPERATOR, &[*code, *left, *right])
+        }
+        Node::If { condition, yes, no } => put_record(file, kinds::IF, &[*condition, *yes, *no]),
+        Node::Call { label, function } => put_record(file, kinds::CALL, &[*label, *function]),
         Node::Tuple { tag, fields } => {
-            let mut all = vec![*tag];
-            all.extend_from_slice(fields);
-            put_record(file, 55, &all);
+            put_start(file, kinds::TUPLE, 1 + fields.len());
+            put(file, &[*tag]);
+            put(file, fields);
         }
         Node::Case { scrutinee, clauses } => {
-            let mut all = vec![*scrutinee];
-            for clause in clauses {
-                all.extend_from_slice(&[clause.0, clause.1]);
+            put_start(file, kinds::CASE, 1 + 2 * clauses.len());
+            put(file, &[*scrutinee]);
+            for &(tag, clause) in clauses {
+                put(file, &[tag, clause]);
             }
-            put_record(file, 56, &all);
         }
     }
 }

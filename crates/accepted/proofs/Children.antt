@@ -5,6 +5,7 @@ use mathlib.Core.List.{List}
 use mathlib.Core.Option.{some}
 use native.Mathlib.Omega.{arith}
 use lib.ListN.{getElem?}
+use Rattle.definitions.specs.SheetKinds
 use Rattle.definitions.specs.Records.{kindOf, field, fieldCount}
 use Rattle.definitions.specs.References.{fromFirst, fromSecond, everyOther, childCount, childField, children, child, clauses, clauseConstructor}
 use Rattle.definitions.specs.NodeFields.{Clause, fieldsFrom, clauseList}
@@ -15,59 +16,59 @@ use Rattle.accepted.proofs.SheetRecords.{SheetRecord, is-number, is-rea
 
 -- how many there are, and which field holds each, by kind
 module _ (rec : List ℕ) where
-  pub number-children : kindOf rec ≡ 16 → children rec ≡ 0
+  pub number-children : kindOf rec ≡ SheetKinds.number → children rec ≡ 0
   unfolding children childCount everyOther fromFirst fromSecond
   number-children e = rw e refl
 
-  pub reading-children : kindOf rec ≡ 17 → children rec ≡ 0
+  pub reading-children : kindOf rec ≡ SheetKinds.reading → children rec ≡ 0
   unfolding children childCount everyOther fromFirst fromSecond
   reading-children e = rw e refl
 
-  pub parameter-children : kindOf rec ≡ 18 → children rec ≡ 0
+  pub parameter-children : kindOf rec ≡ SheetKinds.parameter → children rec ≡ 0
   unfolding children childCount everyOther fromFirst fromSecond
   parameter-children e = rw e refl
 
-  pub patternVariable-children : kindOf rec ≡ 19 → children rec ≡ 0
+  pub patternVariable-children : kindOf rec ≡ SheetKinds.patternVariable → children rec ≡ 0
   unfolding children childCount everyOther fromFirst fromSecond
   patternVariable-children e = rw e refl
 
-  pub operator-children : kindOf rec ≡ 20 → fieldCount rec ≡ 3 → children rec ≡ 2
+  pub operator-children : kindOf rec ≡ SheetKinds.operator → fieldCount rec ≡ 3 → children rec ≡ 2
   unfolding children childCount everyOther fromFirst fromSecond
   operator-children e c = rw (e, c) refl
 
-  pub operator-child : kindOf rec ≡ 20 → (j : ℕ) → child rec j ≡ field rec (1 + j)
+  pub operator-child : kindOf rec ≡ SheetKinds.operator → (j : ℕ) → child rec j ≡ field rec (1 + j)
   unfolding child childField everyOther fromFirst
   operator-child e j = rw e refl
 
-  pub conditional-children : kindOf rec ≡ 21 → fieldCount rec ≡ 3 → children rec ≡ 3
+  pub conditional-children : kindOf rec ≡ SheetKinds.conditional → fieldCount rec ≡ 3 → children rec ≡ 3
   unfolding children childCount everyOther fromFirst fromSecond
   conditional-children e c = rw (e, c) refl
 
-  pub conditional-child : kindOf rec ≡ 21 → (j : ℕ) → child rec j ≡ field rec j
+  pub conditional-child : kindOf rec ≡ SheetKinds.conditional → (j : ℕ) → child rec j ≡ field rec j
   unfolding child childField everyOther fromFirst
   conditional-child e j = rw e refl
 
-  pub call-children : kindOf rec ≡ 22 → children rec ≡ fieldCount rec - 1
+  pub call-children : kindOf rec ≡ SheetKinds.call → children rec ≡ fieldCount rec - 1
   unfolding children childCount everyOther fromFirst fromSecond
   call-children e = rw e refl
 
-  pub call-child : kindOf rec ≡ 22 → (j : ℕ) → child rec j ≡ field rec (1 + j)
+  pub call-child : kindOf rec ≡ SheetKinds.call → (j : ℕ) → child rec j ≡ field rec (1 + j)
   unfolding child childField everyOther fromFirst
   call-child e j = rw e refl
 
-  pub build-children : kindOf rec ≡ 23 → children rec ≡ fieldCount rec - 1
+  pub build-children : kindOf rec ≡ SheetKinds.build → children rec ≡ fieldCount rec - 1
   unfolding children childCount everyOther fromFirst fromSecond
   build-children e = rw e refl
 
-  pub build-child : kindOf rec ≡ 23 → (j : ℕ) → child rec j ≡ field rec (1 + j)
+  pub build-child : kindOf rec ≡ SheetKinds.build → (j : ℕ) → child rec j ≡ field rec (1 + j)
   unfolding child childField everyOther fromFirst
   build-child e j = rw e refl
 
-  pub case-children : kindOf rec ≡ 24 → fieldCount rec ≡ 1 + 2 * clauses rec → children rec ≡ suc (clauses rec)
+  pub case-children : kindOf rec ≡ SheetKinds.caseOf → fieldCount rec ≡ 1 + 2 * clauses rec → children rec ≡ suc (clauses rec)
   unfolding children childCount everyOther fromFirst fromSecond
   case-children e c = rw (e, c) (omega arith)
 
-  pub case-child : kindOf rec ≡ 24 → (j : ℕ) → child rec j ≡ field rec (2 * j)
+  pub case-child : kindOf rec ≡ SheetKinds.caseOf → (j : ℕ) → child rec j ≡ field rec (2 * j)
   unfolding child childField everyOther fromFirst
   case-child e j = rw e refl
 

@@ -2,29 +2,17 @@
 use mathlib.Core.Path.{_≡_}
 use Prim.Native.Nat.{ℕ, _+_, _≤_}
 use mathlib.Core.List.{List}
-use mathlib.Core.Bool.{true, and-eq-true-iff}
 use native.Mathlib.Omega.{arith}
-use lib.Dec.{leb}
-use borrow.Author.Tests.{leb-true, eqb-true}
+use borrow.Author.Tests.{eqb-true}
 use Rattle.definitions.specs.Records.{recordOf, kindOf}
 use Rattle.definitions.specs.Layouts.{readings, items, functions, nodes, due, headKind, isDue}
-use Rattle.definitions.specs.Shape.{itemLimit, within, fileShape}
+use Rattle.definitions.specs.Shape.{itemLimit, fileShape}
+use Rattle.definitions.specs.Sizes.{mostReadings, mostFunctions, mostNodes, mostRecords}
 use Rattle.definitions.specs.declared.Layout.{Layout}
 use Rattle.definitions.specs.declared.Layout.the-variants.{Sheet, Translation}
 use Rattle.definitions.specs.declared.Verdict.the-variants.{Accepted}
 use Rattle.laws.proofs.Walk.{HeadRanges, head-ranges}
 use Rattle.accepted.proofs.Records.{kind-due, counts-right}
-
--- a number in a range
-pub record Within (l g n : ℕ) : Type 0 where
-  pub least : l ≤ n
-  pub greatest : n ≤ g
-
-pub within-by : (l g n : ℕ) → within l g n ≡ true → Within l g n
-unfolding within
-within-by l g n e =
-    let p = and-eq-true-iff (leb l n) (leb n g) .0 e in
-    record { least = leb-true l n (p .0); greatest = leb-true n g (p .1) }
 
 module _ (y : Layout) (b : List ℕ) (accepted : fileShape y b ≡ Accepted) where
   -- the head is the first record
@@ -36,7 +24,7 @@ module _ (y : Layout) (b : List ℕ) (accepted : fileShape y b ≡ Accepted) whe
   ranges = head-ranges y b (recordOf b 0) (counts-right y b accepted 0 (omega arith))
 
   -- "readings I 0..32"
-  pub readings-limit : readings b ≤ 32
+  pub readings-limit : readings b ≤ mostReadings
   readings-limit = ranges .readings
 
   -- "constructors K 0..64", "formals P 0..512"
@@ -47,14 +35,14 @@ module _ (y : Layout) (b : List ℕ) (accepted : fileShape y b ≡ Accepted) whe
   pub functions-least : 1 ≤ functions b
   functions-least = ranges .function
 
-  pub functions-limit : functions b ≤ 64
+  pub functions-limit : functions b ≤ mostFunctions
   functions-limit = ranges .functions
 
   -- "nodes N 1..1,024"
   pub nodes-least : 1 ≤ nodes b
   nodes-least = ranges .node
 
-  pub nodes-limit : nodes b ≤ 1024
+  pub nodes-limit : nodes b ≤ mostNodes
   nodes-limit = ranges .nodes
 
   pub due-limit : due b ≤ 1089 + itemLimit y
@@ -64,5 +52,5 @@ module _ (y : Layout) (b : List ℕ) (accepted : fileShape y b ≡ Accepted) whe
 pub sheet-due : (b : List ℕ) → fileShape Sheet b ≡ Accepted → due b ≤ 1153
 sheet-due b e = due-limit Sheet b e
 
-pub translation-due : (b : List ℕ) → fileShape Translation b ≡ Accepted → due b ≤ 1601
+pub translation-due : (b : List ℕ) → fileShape Translation b ≡ Accepted → due b ≤ mostRecords
 translation-due b e = due-limit Translation b e

@@ -21,7 +21,8 @@ use Rattle.definitions.specs.Checks.{argumentsMatch, sheetVerdict}
 use Rattle.definitions.specs.declared.Layout.the-variants.{Sheet}
 use Rattle.definitions.specs.declared.Verdict.the-variants.{Accepted}
 use Rattle.laws.proofs.Lists.{listed-length}
-use Rattle.accepted.proofs.Head.{within-by, functions-least}
+use Rattle.laws.proofs.Ranges.{within-by}
+use Rattle.accepted.proofs.Head.{functions-least}
 use Rattle.accepted.proofs.Records.{code-right}
 use Rattle.accepted.proofs.SheetRecords.{SheetRecord, is-reading, is-parameter, is-operator, is-call, is-build, node-is}
 use Rattle.accepted.proofs.Checks.{sheet-shape, sheet-in-range, arguments-match}

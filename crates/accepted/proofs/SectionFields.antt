@@ -5,6 +5,7 @@ use mathlib.Core.List.{List}
 use mathlib.Core.Bool.{true}
 use native.Mathlib.Omega.{arith}
 use lib.ListN.{length}
+use Rattle.definitions.specs.Sizes.{mostNodes}
 use Rattle.definitions.specs.Records.{recordOf, kindOf, fieldCount}
 use Rattle.definitions.specs.SheetKinds
 use Rattle.definitions.specs.TranslationKinds
@@ -56,8 +57,8 @@ module _ (b : List ℕ) (accepted : fileShape Translation b ≡ Accepted) where
       (allowed-as Translation b accepted (1 + f) TranslationKinds.function (omega arith) (translation-function-kind b accepted f h)) 1 refl refl
 
   -- a formal lists at most 1,024 actuals
-  pub formal-fields : (p : ℕ) → p < items b → fieldCount (itemRecord Translation b p) ≤ 1024
+  pub formal-fields : (p : ℕ) → p < items b → fieldCount (itemRecord Translation b p) ≤ mostNodes
   unfolding rowOf rows rowIn row
   formal-fields p h =
       fields-greatest (itemRecord Translation b p) TranslationKinds.formalList
-      (allowed-as Translation b accepted (1 + functions b + p) TranslationKinds.formalList (omega arith) (formal-kind b accepted p h)) 1024 refl
+      (allowed-as Translation b accepted (1 + functions b + p) TranslationKinds.formalList (omega arith) (formal-kind b accepted p h)) mostNodes refl

@@ -13,12 +13,14 @@ use Rattle.definitions.specs.TranslationKinds
 use Rattle.definitions.specs.Lists.{sumOf}
 use Rattle.definitions.specs.Layouts.{items, functions, nodes, firstFunction, firstNode, sectionKind, nodeKind, isDue, itemRecord, functionRecord, nodeRecord, nodeCount}
 use Rattle.definitions.specs.References.{parameters, arity}
-use Rattle.definitions.specs.Shape.{within, runCounts, counts, fileShape}
+use Rattle.definitions.specs.Shape.{runCounts, counts, fileShape}
+use Rattle.definitions.specs.Ranges.{within}
 use Rattle.definitions.specs.declared.Layout.{Layout}
 use Rattle.definitions.specs.declared.Layout.the-variants.{Sheet, Translation}
 use Rattle.definitions.specs.declared.Verdict.the-variants.{Accepted}
 use Rattle.accepted.proofs.Records.{kind-due, counts-right}
-use Rattle.accepted.proofs.Head.{within-by, functions-least}
+use Rattle.laws.proofs.Ranges.{within-by}
+use Rattle.accepted.proofs.Head.{functions-least}
 
 -- a record between the head and the nodes has its section's kind
 section-kind : (y : Layout) (b : List ℕ) (r k : ℕ) → 0 < r → r < firstNode b → isDue y b r k ≡ true → k ≡ sectionKind y b r

@@ -43,26 +43,26 @@ pub data SheetRecord (rec : List ℕ) : SheetNode → Type 0 where
       → SheetRecord rec (caseOf (field rec 0) (clauseList rec))
 
 module _ (rec : List ℕ) (allowed : allows (rowOf (kindOf rec)) (length rec) ≡ true) where
-  case-record : kindOf rec ≡ 24 → SheetRecord rec (caseOf (field rec 0) (clauseList rec))
+  case-record : kindOf rec ≡ SheetKinds.caseOf → SheetRecord rec (caseOf (field rec 0) (clauseList rec))
   unfolding rowOf rows rowIn row
   case-record e =
-      let a : allows (rowOf 24) (length rec) ≡ true = rw e at allowed in
-      let c = fields-clauses rec 24 a refl refl in
-      is-case e c (omega (arith, c, fields-least rec 24 a 3 refl)) (omega (arith, c, fields-greatest rec 24 a 129 refl))
+      let a : allows (rowOf SheetKinds.caseOf) (length rec) ≡ true = rw e at allowed in
+      let c = fields-clauses rec SheetKinds.caseOf a refl refl in
+      is-case e c (omega (arith, c, fields-least rec SheetKinds.caseOf a 3 refl)) (omega (arith, c, fields-greatest rec SheetKinds.caseOf a 129 refl))
 
   pub sheet-record : NodeKind Sheet (kindOf rec) → SheetRecord rec (sheetNode rec)
   unfolding sheetNode rowOf rows rowIn row
   sheet-record d =
       let k = kindOf rec in
       let P = SheetRecord rec in
-      either P k 16 _ _ (d .least) (λ e. is-number e (fields-fixed rec 16 (rw e at allowed) 2 refl refl))
-      (λ h. either P k 17 _ _ h (λ e. is-reading e (fields-fixed rec 17 (rw e at allowed) 1 refl refl))
-      (λ h. either P k 18 _ _ h (λ e. is-parameter e (fields-fixed rec 18 (rw e at allowed) 1 refl refl))
-      (λ h. either P k 19 _ _ h (λ e. is-patternVariable e (fields-fixed rec 19 (rw e at allowed) 1 refl refl))
-      (λ h. either P k 20 _ _ h (λ e. is-operator e (fields-fixed rec 20 (rw e at allowed) 3 refl refl))
-      (λ h. either P k 21 _ _ h (λ e. is-conditional e (fields-fixed rec 21 (rw e at allowed) 3 refl refl))
-      (λ h. either P k 22 _ _ h (λ e. is-call e (fields-least rec 22 (rw e at allowed) 1 refl) (fields-greatest rec 22 (rw e at allowed) 9 refl))
-      (λ h. either P k 23 _ _ h (λ e. is-build e (fields-least rec 23 (rw e at allowed) 1 refl) (fields-greatest rec 23 (rw e at allowed) 9 refl))
+      either P k SheetKinds.number _ _ (d .least) (λ e. is-number e (fields-fixed rec SheetKinds.number (rw e at allowed) 2 refl refl))
+      (λ h. either P k SheetKinds.reading _ _ h (λ e. is-reading e (fields-fixed rec SheetKinds.reading (rw e at allowed) 1 refl refl))
+      (λ h. either P k SheetKinds.parameter _ _ h (λ e. is-parameter e (fields-fixed rec SheetKinds.parameter (rw e at allowed) 1 refl refl))
+      (λ h. either P k SheetKinds.patternVariable _ _ h (λ e. is-patternVariable e (fields-fixed rec SheetKinds.patternVariable (rw e at allowed) 1 refl refl))
+      (λ h. either P k SheetKinds.operator _ _ h (λ e. is-operator e (fields-fixed rec SheetKinds.operator (rw e at allowed) 3 refl refl))
+      (λ h. either P k SheetKinds.conditional _ _ h (λ e. is-conditional e (fields-fixed rec SheetKinds.conditional (rw e at allowed) 3 refl refl))
+      (λ h. either P k SheetKinds.call _ _ h (λ e. is-call e (fields-least rec SheetKinds.call (rw e at allowed) 1 refl) (fields-greatest rec SheetKinds.call (rw e at allowed) 9 refl))
+      (λ h. either P k SheetKinds.build _ _ h (λ e. is-build e (fields-least rec SheetKinds.build (rw e at allowed) 1 refl) (fields-greatest rec SheetKinds.build (rw e at allowed) 9 refl))
       (λ h. case-record (omega (arith, h, d .greatest))))))))))
 
 pub node-record : (b : List ℕ) → fileShape Sheet b ≡ Accepted → (k : ℕ) → k < nodes b

@@ -8,6 +8,7 @@ use native.Mathlib.Omega.{arith}
 use native.Mathlib.Nat.{zero-add}
 use lib.Dec.{ltb}
 use borrow.Author.Tests.{ltb-true}
+use Rattle.definitions.specs.TranslationKinds
 use Rattle.definitions.specs.Records.{recordOf, kindOf, field, fieldCount}
 use Rattle.definitions.specs.Lists.{allOf}
 use Rattle.definitions.specs.Layouts.{readings, items, functions, nodes, firstNode, due, itemRecord, nodeRecord}
@@ -20,7 +21,7 @@ use Rattle.definitions.specs.declared.Layout.the-variants.{Translation}
 use Rattle.definitions.specs.declared.Verdict.the-variants.{Accepted}
 use Rattle.laws.proofs.Lists.{all-each}
 use Rattle.accepted.specs.Mention.{Mention, selected, left, right, condition, ifNonzero, ifZero, component, scrutinee, clause}
-use Rattle.accepted.proofs.Head.{within-by}
+use Rattle.laws.proofs.Ranges.{within-by}
 use Rattle.accepted.proofs.Elements.{listed-found}
 use Rattle.accepted.proofs.Records.{code-right}
 use Rattle.accepted.proofs.Sections.{formal-kind}
@@ -30,51 +31,51 @@ use Rattle.accepted.proofs.Checks.{translation-shape, translation-in-ra
 
 -- how many nodes a record names, and which field names each, by kind
 module _ (rec : List ℕ) where
-  pub select-mentions : kindOf rec ≡ 51 → fieldCount rec ≡ 2 → children rec ≡ 1
+  pub select-mentions : kindOf rec ≡ TranslationKinds.select → fieldCount rec ≡ 2 → children rec ≡ 1
   unfolding children childCount everyOther fromFirst fromSecond
   select-mentions e c = rw (e, c) refl
 
-  pub select-mention : kindOf rec ≡ 51 → (j : ℕ) → child rec j ≡ field rec (2 * j)
+  pub select-mention : kindOf rec ≡ TranslationKinds.select → (j : ℕ) → child rec j ≡ field rec (2 * j)
   unfolding child childField everyOther fromFirst
   select-mention e j = rw e refl
 
-  pub operator-mentions : kindOf rec ≡ 52 → fieldCount rec ≡ 3 → children rec ≡ 2
+  pub operator-mentions : kindOf rec ≡ TranslationKinds.operator → fieldCount rec ≡ 3 → children rec ≡ 2
   unfolding children childCount everyOther fromFirst fromSecond
   operator-mentions e c = rw (e, c) refl
 
-  pub operator-mention : kindOf rec ≡ 52 → (j : ℕ) → child rec j ≡ field rec (1 + j)
+  pub operator-mention : kindOf rec ≡ TranslationKinds.operator → (j : ℕ) → child rec j ≡ field rec (1 + j)
   unfolding child childField everyOther fromFirst
   operator-mention e j = rw e refl
 
-  pub conditional-mentions : kindOf rec ≡ 53 → fieldCount rec ≡ 3 → children rec ≡ 3
+  pub conditional-mentions : kindOf rec ≡ TranslationKinds.conditional → fieldCount rec ≡ 3 → children rec ≡ 3
   unfolding children childCount everyOther fromFirst fromSecond
   conditional-mentions e c = rw (e, c) refl
 
-  pub conditional-mention : kindOf rec ≡ 53 → (j : ℕ) → child rec j ≡ field rec j
+  pub conditional-mention : kindOf rec ≡ TranslationKinds.conditional → (j : ℕ) → child rec j ≡ field rec j
   unfolding child childField everyOther fromFirst
   conditional-mention e j = rw e refl
 
-  pub tuple-mentions : kindOf rec ≡ 55 → children rec ≡ fieldCount rec - 1
+  pub tuple-mentions : kindOf rec ≡ TranslationKinds.tuple → children rec ≡ fieldCount rec - 1
   unfolding children childCount everyOther fromFirst fromSecond
   tuple-mentions e = rw e refl
 
-  pub tuple-mention : kindOf rec ≡ 55 → (j : ℕ) → child rec j ≡ field rec (1 + j)
+  pub tuple-mention : kindOf rec ≡ TranslationKinds.tuple → (j : ℕ) → child rec j ≡ field rec (1 + j)
   unfolding child childField everyOther fromFirst
   tuple-mention e j = rw e refl
 
-  pub case-mentions : kindOf rec ≡ 56 → fieldCount rec ≡ 1 + 2 * clauses rec → children rec ≡ suc (clauses rec)
+  pub case-mentions : kindOf rec ≡ TranslationKinds.caseOf → fieldCount rec ≡ 1 + 2 * clauses rec → children rec ≡ suc (clauses rec)
   unfolding children childCount everyOther fromFirst fromSecond
   case-mentions e c = rw (e, c) (omega arith)
 
-  pub case-mention : kindOf rec ≡ 56 → (j : ℕ) → child rec j ≡ field rec (2 * j)
+  pub case-mention : kindOf rec ≡ TranslationKinds.caseOf → (j : ℕ) → child rec j ≡ field rec (2 * j)
   unfolding child childField everyOther fromFirst
   case-mention e j = rw e refl
 
-  pub list-mentions : kindOf rec ≡ 35 → children rec ≡ fieldCount rec
+  pub list-mentions : kindOf rec ≡ TranslationKinds.formalList → children rec ≡ fieldCount rec
   unfolding children childCount everyOther fromFirst fromSecond
   list-mentions e = rw e refl
 
-  pub list-mention : kindOf rec ≡ 35 → (j : ℕ) → child rec j ≡ field rec j
+  pub list-mention : kindOf rec ≡ TranslationKinds.formalList → (j : ℕ) → child rec j ≡ field rec j
   unfolding child childField everyOther fromFirst
   list-mention e j = rw e refl
 

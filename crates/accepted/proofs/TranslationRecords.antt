@@ -41,26 +41,27 @@ pub data TranslationRecord (rec : List ℕ) : TranslationNode → Type 0 where
       → TranslationRecord rec (caseOf (field rec 0) (clauseList rec))
 
 module _ (rec : List ℕ) (allowed : allows (rowOf (kindOf rec)) (length rec) ≡ true) where
-  case-record : kindOf rec ≡ 56 → TranslationRecord rec (caseOf (field rec 0) (clauseList rec))
+  case-record : kindOf rec ≡ TranslationKinds.caseOf → TranslationRecord rec (caseOf (field rec 0) (clauseList rec))
   unfolding rowOf rows rowIn row
   case-record e =
-      let a : allows (rowOf 56) (length rec) ≡ true = rw e at allowed in
-      let c = fields-clauses rec 56 a refl refl in
-      is-case e c (omega (arith, c, fields-least rec 56 a 3 refl)) (omega (arith, c, fields-greatest rec 56 a 129 refl))
+      let a : allows (rowOf TranslationKinds.caseOf) (length rec) ≡ true = rw e at allowed in
+      let c = fields-clauses rec TranslationKinds.caseOf a refl refl in
+      is-case e c (omega (arith, c, fields-least rec TranslationKinds.caseOf a 3 refl)) (omega (arith, c, fields-greatest rec TranslationKinds.caseOf a 129 refl))
 
   pub translation-record : NodeKind Translation (kindOf rec) → TranslationRecord rec (translationNode rec)
   unfolding translationNode rowOf rows rowIn row
   translation-record d =
       let k = kindOf rec in
       let P = TranslationRecord rec in
-      either P k 48 _ _ (d .least) (λ e. is-number e (fields-fixed rec 48 (rw e at allowed) 2 refl refl))
-      (λ h. either P k 49 _ _ h (λ e. is-reading e (fields-fixed rec 49 (rw e at allowed) 1 refl refl))
-      (λ h. either P k 50 _ _ h (λ e. is-formal e (fields-fixed rec 50 (rw e at allowed) 1 refl refl))
-      (λ h. either P k 51 _ _ h (λ e. is-select e (fields-fixed rec 51 (rw e at allowed) 2 refl refl))
-      (λ h. either P k 52 _ _ h (λ e. is-operator e (fields-fixed rec 52 (rw e at allowed) 3 refl refl))
-      (λ h. either P k 53 _ _ h (λ e. is-conditional e (fields-fixed rec 53 (rw e at allowed) 3 refl refl))
-      (λ h. either P k 54 _ _ h (λ e. is-call e (fields-fixed rec 54 (rw e at allowed) 2 refl refl))
-      (λ h. either P k 55 _ _ h (λ e. is-tuple e (fields-least rec 55 (rw e at allowed) 1 refl) (fields-greatest rec 55 (rw e at allowed) 9 refl))
+      either P k TranslationKinds.number _ _ (d .least) (λ e. is-number e (fields-fixed rec TranslationKinds.number (rw e at allowed) 2 refl refl))
+      (λ h. either P k TranslationKinds.reading _ _ h (λ e. is-reading e (fields-fixed rec TranslationKinds.reading (rw e at allowed) 1 refl refl))
+      (λ h. either P k TranslationKinds.formal _ _ h (λ e. is-formal e (fields-fixed rec TranslationKinds.formal (rw e at allowed) 1 refl refl))
+      (λ h. either P k TranslationKinds.select _ _ h (λ e. is-select e (fields-fixed rec TranslationKinds.select (rw e at allowed) 2 refl refl))
+      (λ h. either P k TranslationKinds.operator _ _ h (λ e. is-operator e (fields-fixed rec TranslationKinds.operator (rw e at allowed) 3 refl refl))
+      (λ h. either P k TranslationKinds.conditional _ _ h (λ e. is-conditional e (fields-fixed rec TranslationKinds.conditional (rw e at allowed) 3 refl refl))
+      (λ h. either P k TranslationKinds.call _ _ h (λ e. is-call e (fields-fixed rec TranslationKinds.call (rw e at allowed) 2 refl refl))
+      (λ h. either P k TranslationKinds.tuple _ _ h (λ e. is-tuple e (fields-least rec TranslationKinds.tuple (rw e at allowed) 1 refl) (fields-greatest rec
+      TranslationKinds.tuple (rw e at allowed) 9 refl))
       (λ h. case-record (omega (arith, h, d .greatest))))))))))
 
 pub translation-node-record : (b : List ℕ) → fileShape Translation b ≡ Accepted → (k : ℕ) → k < nodes b

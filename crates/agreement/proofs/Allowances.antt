@@ -7,7 +7,7 @@ use mathlib.Core.Bool.{true, false}
 use native.Mathlib.Omega.{arith}
 use lib.IntN.{ℤ}
 use lib.ListN.{length}
-use Rattle.definitions.specs.Numbers.{noActual, noField}
+use Rattle.definitions.specs.Numbers.{noActual, noField, isStop, isAnswer}
 use Rattle.definitions.specs.Layouts.{bodyOf}
 use Rattle.definitions.specs.SheetNodes.{sheetNodeOf}
 use Rattle.definitions.specs.Outcomes.{Outcome}
@@ -15,25 +15,30 @@ use Rattle.definitions.specs.Checks.{sheetVerdict}
 use Rattle.definitions.specs.Translate.{translation}
 use Rattle.definitions.specs.Rule.{Reached, visited}
 use Rattle.definitions.specs.Cells.{Cell, byCells, evaluation}
-use Rattle.definitions.specs.Run.{endingOutcome}
+use Rattle.definitions.specs.Ranges.{within}
+use Rattle.definitions.specs.Run.{endingOutcome, ruleEnd}
 use Rattle.agreement.specs.Meaning.{Setting, End, Means, outcomeOf, OwnAnswer}
 use Rattle.definitions.specs.declared.Layout.the-variants.{Sheet, Translation}
 use Rattle.definitions.specs.declared.Verdict.the-variants.{Accepted}
 use Rattle.accepted.proofs.Head.{functions-least}
 use Rattle.accepted.proofs.Checks.{sheet-shape}
 use Rattle.readback.proofs.Nodes.{body-read}
-use Rattle.agreement.specs.Answers.{isStop, isAnswer, stopped, ruleOutcome, RuleGives}
-use Rattle.agreement.specs.Visits.{depthOf, stepsOf, cellsOf}
+use Rattle.rule_laws.specs.Reads.{stateOf}
+use Rattle.rule_laws.specs.Found.{stopped}
+use Rattle.rule_laws.specs.Reached.{Allowed}
+use Rattle.agreement.specs.Answers.{ruleOutcome, RuleGives}
+use Rattle.rule_laws.specs.Visits.{depthOf, stepsOf, cellsOf}
 use Rattle.agreement.specs.Contexts.{Stands, outermost}
 use Rattle.agreement.specs.Corresponds.{At, Visited}
-use Rattle.agreement.proofs.Arrivals.{stateOf, Allowed}
+use Rattle.agreement.proofs.CellReads.{cellReads}
 use Rattle.agreement.proofs.LabelsToCells.{follows}
 use Rattle.agreement.proofs.CellsToLabels.{finds-all}
 use Rattle.agreement.proofs.Corresponds.{start-at}
 use Rattle.agreement.proofs.Becomes.{becomes}
 use Rattle.agreement.proofs.Sound.{sound}
 use Rattle.agreement.proofs.Complete.{complete}
-use Rattle.agreement.proofs.Outcomes.{same-shown, same-meant, stop-shown, answer-no-stop, own-answer, own-listed}
+use Rattle.laws.proofs.Classes.{answer-no-stop}
+use Rattle.agreement.proofs.Outcomes.{same-shown, same-meant, stop-shown, own-answer, own-listed}
 
 -- the visit of node k under cell w, at a nesting and a cell allowance, from so many steps left and these cells
 abbrev pub visitOf : List ℕ → List ℤ → ℕ → ℕ → ℕ → List Cell → ℕ → ℕ → Reached ℕ (List Cell)
@@ -46,18 +51,18 @@ module _ (t : List ℕ) (rs : List ℤ) where
       → stopped (visitOf t rs nesting most left store k w .ending) ≡ false
       → endingOutcome t (visitOf t rs nesting′ most′ left′ store k w .ending) ≡ endingOutcome t (visitOf t rs nesting most left store k w .ending)
   visit-stays left nesting most left′ nesting′ most′ k w {store} s fits a b c h =
-      let f = finds-all t rs most nesting .finds k w (stateOf left store) s fits h .comes in
-      let p = f .allowed in
+      let f = finds-all t rs most nesting .finds k w (stateOf left store) (record { stands = s; room = fits }) h .comes in
+      let p = f .arrives .went in
       let g = follows t rs most′ nesting′ left′ k w (f .visits) s (record { depth = omega arith; steps = omega arith; cells = omega arith }) in
       same-shown t (g .shows) (f .arrives .shows)
 
   pub rule-stays : (steps nesting most steps′ nesting′ most′ : ℕ) → steps ≤ steps′ → nesting ≤ nesting′ → most ≤ most′
       → isStop (ruleOutcome t rs steps nesting most .outcome) ≡ false
       → ruleOutcome t rs steps′ nesting′ most′ ≡ ruleOutcome t rs steps nesting most
-  unfolding ruleOutcome evaluation
+  unfolding ruleOutcome ruleEnd evaluation
   rule-stays steps nesting most steps′ nesting′ most′ a b c h =
       visit-stays steps nesting most steps′ nesting′ most′ (bodyOf Translation t 0) 0 outermost (omega arith) a b c
-      (sym (stop-shown t (evaluation t rs steps nesting most .ending)) ∙ h)
+      (sym (stop-shown t (ruleEnd t rs steps nesting most .ending)) ∙ h)
 
 -- a node's meaning with this outcome
 pub record MeansOutcome (b : List ℕ) (rs : List ℤ) (k : ℕ) (s : Setting) (a : Outcome) : Type 0 where
@@ -80,7 +85,7 @@ module _ (b : List ℕ) (accepted : sheetVerdict b ≡ Accepted) (rs : List ℤ)
       → stopped (visitOf (translation b) rs nesting most left store k w .ending) ≡ false
       → MeansOutcome b rs k s (endingOutcome (translation b) (visitOf (translation b) rs nesting most left store k w .ending))
   visit-sound left nesting most k w {store} s fits a h =
-      let f = finds-all (translation b) rs most nesting .finds k w (stateOf left store) s fits h .comes in
+      let f = finds-all (translation b) rs most nesting .finds k w (stateOf left store) (record { stands = s; room = fits }) h .comes in
       let m = sound b accepted (f .visits) (becomes b accepted k (a .below)) refl a in
       record { end = m .end; means = m .means; agrees = sym (same-meant accepted (f .arrives .shows) (m .agrees)) }
 
@@ -91,7 +96,7 @@ module _ (b : List ℕ) (accepted : sheetVerdict b ≡ Accepted) (rs : List ℤ)
   -- the whole evaluation as a visit of the sheet's own body
   rule-start : (steps nesting most : ℕ)
       → ruleOutcome (translation b) rs steps nesting most ≡ endingOutcome (translation b) (visitOf (translation b) rs nesting most steps [] (bodyOf Sheet b 0) 0 .ending)
-  unfolding ruleOutcome evaluation
+  unfolding ruleOutcome ruleEnd evaluation
   rule-start steps nesting most = rw start-read refl
 
   pub rule-sound : (steps nesting most : ℕ) → isStop (ruleOutcome (translation b) rs steps nesting most .outcome) ≡ false
@@ -105,7 +110,7 @@ module _ (b : List ℕ) (accepted : sheetVerdict b ≡ Accepted) (rs : List ℤ)
 
   -- the sheet's own outcome is reached, and had from there on
   pub visit-complete : (left nesting most k w : ℕ) {store : List Cell} {ws : List ℕ} {d : End} (v : Visited b rs k ws d) → Stands store w ws
-      → Allowed (v .trace) nesting left store most
+      → Allowed (cellReads (translation b) most) most (v .trace) nesting (stateOf left store)
       → endingOutcome (translation b) (visitOf (translation b) rs nesting most left store k w .ending) ≡ outcomeOf d
   visit-complete left nesting most k w v s p =
       same-meant accepted (follows (translation b) rs most nesting left k w (v .visits) s p .shows) (v .agrees)
@@ -145,6 +150,6 @@ module _ (b : List ℕ) (accepted : sheetVerdict b ≡ Accepted) (rs : List ℤ)
   pub rule-listed : (steps nesting most : ℕ)
       → (ruleOutcome (translation b) rs steps nesting most .outcome ≡ noActual → ⊥)
       × (ruleOutcome (translation b) rs steps nesting most .outcome ≡ noField → ⊥)
-  unfolding isStop
+  unfolding isStop within
   rule-listed steps nesting most =
       (λ e. own-listed (rule-sound steps nesting most (rw e refl)) .0 e, λ e. own-listed (rule-sound steps nesting most (rw e refl)) .1 e)

@@ -15,13 +15,15 @@ use Rattle.definitions.specs.Translate.{formalOf, translation}
 use Rattle.definitions.specs.Rule.{Ending, constructor, ended}
 use Rattle.definitions.specs.Rule
 use Rattle.agreement.specs.Meaning.{Setting, Closure, argumentOf, heldField, End, value, fault, integer, built}
-use Rattle.agreement.specs.Meaning.{Means, number-itself, reading-value, parameter-argument, call-body, build-itself, case-chosen, case-unmatched, case-number, case-fault, pattern-field, if-nonzero, if-zero, if-constructor, if-fault, operator-numbers, left-constructor, left-fault, right-constructor, right-fault}
+use Rattle.agreement.specs.Meaning.{Means, number-itself, reading-value, parameter-argument, call-body, build-itself, case-chosen, case-unmatched, case-number, case-fault}
+use Rattle.agreement.specs.Meaning.{pattern-field, if-nonzero, if-zero, if-constructor, if-fault, operator-numbers, left-constructor, left-fault, right-constructor, right-fault}
 use Rattle.definitions.specs.declared.Layout.the-variants.{Sheet, Translation}
 use Rattle.definitions.specs.declared.Verdict.the-variants.{Accepted}
 use Rattle.accepted.specs.Child.{left, right, condition, ifNonzero, ifZero}
 use Rattle.accepted.proofs.Names.{parameter-below, call-below}
-use Rattle.readback.proofs.Nodes.{number-becomes, reading-becomes, parameter-becomes, pattern-becomes, operator-becomes, conditional-becomes, call-becomes, build-becomes, case-becomes, body-read, tag-read}
-use Rattle.agreement.specs.Visits.{Trace, constructor-came, ended-before, number-came, ended-first, Visits}
+use Rattle.readback.proofs.Nodes.{number-becomes, reading-becomes, parameter-becomes, pattern-becomes, operator-becomes, conditional-becomes, call-becomes, build-becomes}
+use Rattle.readback.proofs.Nodes.{case-becomes, body-read, tag-read}
+use Rattle.rule_laws.specs.Visits.{Trace, constructor-came, ended-before, number-came, ended-first, Visits}
 use Rattle.agreement.specs.Corresponds.{At, Agrees, integers, constructors, ends, Visited}
 use Rattle.agreement.proofs.Corresponds.{ArgumentAt, argument-at, FieldAt, child-at, body-at, scrutinee-at, clause-at, argument-of, field-at, scrutinee-same}
 use Rattle.agreement.proofs.Meant.{result-agrees}

@@ -5,10 +5,9 @@ use Prim.Native.Nat.{ℕ, suc, _+_}
 use mathlib.Core.List.{List, [], _∷_, _++_}
 use native.Mathlib.Omega.{arith}
 use lib.ListN.{length}
-use Rattle.definitions.specs.Rule.{Ending, value, constructor}
 use Rattle.definitions.specs.Cells.{Cell}
 use Rattle.accepted.proofs.Elements.{element-below, element-front, element-back}
-use Rattle.agreement.specs.Contexts.{Stands, outermost, within, Kept, Shows, an-integer, a-constructor, an-end}
+use Rattle.agreement.specs.Contexts.{Stands, outermost, within, Kept}
 
 -- cells stay where they are
 pub kept-all : (cs : List Cell) → Kept cs cs
@@ -49,7 +48,7 @@ standing (l ∷ ws) =
       stands = stands-added l (s .stands);
     }
 
--- a cell stands for one list of labels, and an ending over cells is one over labels
+-- a cell stands for one list of labels
 pub stands-one : {cs : List Cell} {w : ℕ} {ws vs : List ℕ} → Stands cs w ws → Stands cs w vs → ws ≡ vs
 stands-one outermost outermost = refl
 stands-one {cs} (within {l} {p} {ws} e s) (within {l = m} {p = q} {ws = vs} d r) =
@@ -58,8 +57,3 @@ stands-one {cs} (within {l} {p} {ws} e s) (within {l = m} {p = q} {ws = vs} d r)
     let y : q ≡ p = sym (ap (λ (a : Cell). a .previous) c) in
     let z : ws ≡ vs = stands-one s (subst (λ (a : ℕ). Stands cs a vs) y r) in
     cc
-
-pub shows-one : {cs : List Cell} {d : Ending ℕ} {e e′ : Ending (List ℕ)} → Shows cs d e → Shows cs d e′ → e ≡ e′
-shows-one an-integer an-integer = refl
-shows-one (a-constructor {k} s) (a-constructor s′) = ap (λ (ws : List ℕ). value (constructor k ws)) (stands-one s s′)
-shows-one an-end an-end = refl

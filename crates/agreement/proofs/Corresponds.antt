@@ -30,7 +30,7 @@ use Rattle.accepted.proofs.Clauses.{chosen-found}
 use Rattle.accepted.proofs.Places.{body-place, same-place, scrutinee-place, chosen-place}
 use Rattle.accepted.proofs.Patterns.{scrutinee-is, pattern-held}
 use Rattle.readback.proofs.Nodes.{actual-argument, tuple-fields-read}
-use Rattle.agreement.specs.Visits.{Trace, Visits}
+use Rattle.rule_laws.specs.Visits.{Trace, Visits}
 use Rattle.agreement.specs.Corresponds.{Corresponds, outset, called, held, At}
 
 -- the argument of a function's parameter i: the actual that the head label names, under the tail

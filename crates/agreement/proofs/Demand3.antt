@@ -13,8 +13,9 @@ use Rattle.definitions.specs.Checks.{sheetVerdict}
 use Rattle.definitions.specs.Translate.{translation}
 use Rattle.agreement.specs.Meaning.{OwnAnswer}
 use Rattle.definitions.specs.declared.Verdict.the-variants.{Accepted}
-use Rattle.agreement.specs.Answers.{isAnswer, ruleOutcome, RuleGives, answerOutcome, sheetRun, Unanswered}
-use Rattle.agreement.proofs.Outcomes.{answer-no-stop}
+use Rattle.agreement.specs.Answers.{ruleOutcome, RuleGives, answerOutcome, sheetRun, Unanswered}
+use Rattle.definitions.specs.Numbers.{isAnswer}
+use Rattle.laws.proofs.Classes.{answer-no-stop}
 use Rattle.agreement.proofs.Allowances.{rule-stays, rule-gives-own, own-rule-gives}
 use Rattle.agreement.proofs.Runs.{run-own-answer, run-unanswered}
 

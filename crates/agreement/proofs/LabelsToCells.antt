@@ -1,91 +1,73 @@
 -- The rule over cells follows the relation over labels: where a visit of labels ends, the visit of a cell that stands for them
 -- ends alike and at the same cost, at all allowances that have room for it.
-use Prim.Native.Nat.{ℕ, zero, suc}
-use mathlib.Core.List.{List}
+use mathlib.Core.Path.{_≡_}
+use Prim.Native.Nat.{ℕ, suc, _≤_}
+use mathlib.Core.List.{List, [], _∷_, _++_}
+use mathlib.Core.Option.{none, some}
 use native.Mathlib.Omega.{arith}
 use lib.IntN.{ℤ}
-use lib.ListN.{length}
+use lib.ListN.{length, length-append}
 use borrow.Author.Tests.{lt-ltb}
-use Rattle.definitions.specs.Operators.{computed}
-use Rattle.definitions.specs.TranslationNodes.{TranslationNode, translationNodeOf}
-use Rattle.definitions.specs.Rule.{Ending, withStep, nodeDue, selected, evaluated, visited}
+use Rattle.definitions.specs.Numbers.{noActual}
+use Rattle.definitions.specs.Layouts.{bodyOf}
+use Rattle.definitions.specs.TranslationNodes.{translationNodeOf, actual}
+use Rattle.definitions.specs.Rule.{Ending, ended, Visit, nodeDue, visited}
 use Rattle.definitions.specs.Cells.{Cell, cellOf, underTail, formalByCells, withCell, whereCell, callByCells, byCells}
-use Rattle.agreement.specs.Visits.{Trace, Visits, number-itself, reading-value, tuple-itself, formal-actual, formal-beyond, formal-outside, call-body, select-tag, select-field, select-beyond, select-fails, case-chosen, case-unmatched, case-fails, if-chosen, if-fails, operator-numbers, left-fails, right-fails}
-use Rattle.agreement.specs.Contexts.{Stands, outermost, within, an-integer, a-constructor, an-end, Arrives}
-use Rattle.agreement.proofs.Contexts.{stands-kept, stands-added}
-use Rattle.agreement.proofs.Arrivals.{stateOf, arrives-alone, arrives-after, arrives-both, arrives-call, arrives-changed, arrives-result, number-goes, number-fails, constructor-goes, constructor-fails, depth-least, steps-least, Allowed, allows-one, allows-first, allows-second, allows-call}
+use Rattle.definitions.specs.declared.Layout.the-variants.{Translation}
+use Rattle.rule_laws.specs.Visits.{Trace, alone, after, afterCall, Visits}
+use Rattle.rule_laws.specs.Reads.{stateOf, an-end, Arrives}
+use Rattle.rule_laws.specs.Reached.{Allowed, Reaching, ReachingHooks}
+use Rattle.rule_laws.proofs.Arrivals.{arrives-alone, arrives-after}
+use Rattle.rule_laws.proofs.Reached.{visits-reached}
+use Rattle.agreement.specs.Contexts.{Stands, outermost, within}
+use Rattle.agreement.proofs.Contexts.{stands-added}
+use Rattle.agreement.proofs.CellReads.{takes-call, cellReads}
 
 module _ (t : List ℕ) (rs : List ℤ) (most : ℕ) where
-  -- where there is room for a visit its step is counted, and the node is evaluated
-  opened : (nesting left k w : ℕ) {store : List Cell} {a : Trace} {e : Ending (List ℕ)} → Allowed a nesting left store most
-      → ((n m : ℕ) → Allowed a (suc n) (suc m) store most
-      → Arrives (suc m) store a e (evaluated (byCells t most) t rs (visited (byCells t most) t rs n) (translationNodeOf t k) k w (stateOf m store)))
-      → Arrives left store a e (visited (byCells t most) t rs nesting k w (stateOf left store))
-  unfolding visited withStep
-  opened zero left k w {a} q f = absurd (omega (arith, depth-least a))
-  opened (suc n) zero k w {a} q f = absurd (omega (arith, steps-least a))
-  opened (suc n) (suc m) k w q f = f n m q
+  module _ (n : ℕ) (visit : Visit ℕ (List Cell)) (k left : ℕ) (m : List Cell) (room : length m ≤ most) where
+    actual-reached : (p : ℕ) {l j w : ℕ} {ws : List ℕ} {a : Trace} {e : Ending (List ℕ)} → Stands m w (l ∷ ws) → actual t p l ≡ some j
+        → Reaching (cellReads t most) rs most n visit j ws a e → Allowed (cellReads t most) most a n (stateOf left m)
+        → Arrives (cellReads t most) (suc n) (stateOf (suc left) m) (after a) e (formalByCells t visit p w (stateOf left m))
+    unfolding formalByCells underTail cellOf nodeDue
+    actual-reached p (within c s) h g q = rw (c, h) (arrives-after _ (g .reaches _ (stateOf left m) (record { stands = s; room = room }) q))
 
-  -- evaluating it, by the rule with which the visit of labels ends
-  evaluates : (n m k w : ℕ) {nd : TranslationNode} {ws : List ℕ} {store : List Cell} {a : Trace} {e : Ending (List ℕ)}
-      → Visits t rs nd k ws a e → Stands store w ws → Allowed a (suc n) (suc m) store most
-      → Arrives (suc m) store a e (evaluated (byCells t most) t rs (visited (byCells t most) t rs n) nd k w (stateOf m store))
-  unfolding evaluated byCells formalByCells underTail cellOf callByCells whereCell withCell selected nodeDue
-  evaluates n m k w number-itself s r = arrives-alone an-integer
-  evaluates n m k w reading-value s r = arrives-alone an-integer
-  evaluates n m k w tuple-itself s r = arrives-alone (a-constructor s)
-  evaluates n m k w formal-outside outermost r = arrives-alone an-end
-  evaluates n m k w (formal-beyond h) (within c s) r = rw (c, h) (arrives-alone an-end)
-  evaluates n m k w (formal-actual h v) (within c s) r =
-      rw (c, h) (arrives-after (opened n m _ _ (allows-one r) (λ i j x. evaluates i j _ _ v s x)))
-  evaluates n m k w {store} (call-body {l} v) s r =
-      let c : Cell = record { label = l; previous = w } in
-      rw (lt-ltb (length store) most (omega arith))
-      (arrives-call c (opened n m _ _ (allows-call c r) (λ i j x. evaluates i j _ _ v (stands-added l s) x)))
-  evaluates n m k w (select-tag v) s r =
-      let f = opened n m _ _ (allows-one r) (λ i j x. evaluates i j _ _ v s x) in
-      constructor-goes _ f (λ c x. arrives-after (arrives-changed f an-integer))
-  evaluates n m k w (select-field v h u) s r =
-      let f = opened n m _ _ (allows-first r) (λ i j x. evaluates i j _ _ v s x) in
-      constructor-goes _ f
-      (λ c x. rw h (arrives-both f (opened n _ _ c (allows-second r f) (λ i j y. evaluates i j _ c u x y))))
-  evaluates n m k w (select-beyond v h) s r =
-      let f = opened n m _ _ (allows-one r) (λ i j x. evaluates i j _ _ v s x) in
-      constructor-goes _ f (λ c x. rw h (arrives-after (arrives-changed f an-end)))
-  evaluates n m k w (select-fails v x) s r =
-      let f = opened n m _ _ (allows-one r) (λ i j x. evaluates i j _ _ v s x) in
-      arrives-after (constructor-fails _ f x)
-  evaluates n m k w (case-chosen v h u) s r =
-      let f = opened n m _ _ (allows-first r) (λ i j x. evaluates i j _ _ v s x) in
-      let g = opened n _ _ w (allows-second r f) (λ i j z. evaluates i j _ w u (stands-kept (f .kept) s) z) in
-      constructor-goes _ f (λ c x. rw h (arrives-both f g))
-  evaluates n m k w (case-unmatched v h) s r =
-      let f = opened n m _ _ (allows-one r) (λ i j x. evaluates i j _ _ v s x) in
-      constructor-goes _ f (λ c x. rw h (arrives-after (arrives-changed f an-end)))
-  evaluates n m k w (case-fails v x) s r =
-      let f = opened n m _ _ (allows-one r) (λ i j x. evaluates i j _ _ v s x) in
-      arrives-after (constructor-fails _ f x)
-  evaluates n m k w (if-chosen v u) s r =
-      let f = opened n m _ _ (allows-first r) (λ i j x. evaluates i j _ _ v s x) in
-      let g = opened n _ _ w (allows-second r f) (λ i j z. evaluates i j _ w u (stands-kept (f .kept) s) z) in
-      number-goes _ f (arrives-both f g)
-  evaluates n m k w (if-fails v x) s r =
-      let f = opened n m _ _ (allows-one r) (λ i j x. evaluates i j _ _ v s x) in
-      arrives-after (number-fails _ f x)
-  evaluates n m k w (operator-numbers {o} {x} {y} v u) s r =
-      let f = opened n m _ _ (allows-first r) (λ i j x. evaluates i j _ _ v s x) in
-      let g = opened n _ _ w (allows-second r f) (λ i j z. evaluates i j _ w u (stands-kept (f .kept) s) z) in
-      number-goes _ f (number-goes _ g (arrives-both f (arrives-result (computed o x y) g)))
-  evaluates n m k w (left-fails v x) s r =
-      let f = opened n m _ _ (allows-one r) (λ i j x. evaluates i j _ _ v s x) in
-      arrives-after (number-fails _ f x)
-  evaluates n m k w (right-fails v u x) s r =
-      let f = opened n m _ _ (allows-first r) (λ i j x. evaluates i j _ _ v s x) in
-      let g = opened n _ _ w (allows-second r f) (λ i j z. evaluates i j _ w u (stands-kept (f .kept) s) z) in
-      number-goes _ f (arrives-both f (number-fails _ g x))
+    beyond-reached : (p : ℕ) {l w : ℕ} {ws : List ℕ} → Stands m w (l ∷ ws) → actual t p l ≡ none
+        → Arrives (cellReads t most) (suc n) (stateOf (suc left) m) alone (ended noActual) (formalByCells t visit p w (stateOf left m))
+    unfolding formalByCells underTail cellOf nodeDue
+    beyond-reached p (within c s) h = rw (c, h) (arrives-alone _ k (record { stands = s; room = room }) an-end)
+
+    outside-reached : (p : ℕ) {w : ℕ} → Stands m w []
+        → Arrives (cellReads t most) (suc n) (stateOf (suc left) m) alone (ended noActual) (formalByCells t visit p w (stateOf left m))
+    unfolding formalByCells underTail cellOf
+    outside-reached p outermost = arrives-alone _ k (record { stands = outermost; room = room }) an-end
+
+    call-reached : (l f w : ℕ) {ws : List ℕ} {a : Trace} {e : Ending (List ℕ)} → Stands m w ws
+        → Reaching (cellReads t most) rs most n visit (bodyOf Translation t f) (l ∷ ws) a e
+        → Allowed (cellReads t most) most (afterCall a) (suc n) (stateOf (suc left) m)
+        → Arrives (cellReads t most) (suc n) (stateOf (suc left) m) (afterCall a) e (callByCells t most visit l f w (stateOf left m))
+    unfolding callByCells whereCell withCell
+    call-reached l f w s g q =
+        let c : Cell = record { label = l; previous = w } in
+        let size = length-append m (c ∷ []) in
+        let more : length (m ++ (c ∷ [])) ≤ most = omega (arith, size, q .cells) in
+        let r = g .reaches (suc (length m)) (stateOf left (m ++ (c ∷ []))) (record { stands = stands-added l s; room = more })
+        (record { depth = omega (arith, q .depth); steps = omega (arith, q .steps); cells = omega (arith, size, q .cells) }) in
+        rw (lt-ltb (length m) most (omega (arith, q .cells))) (record { went = takes-call c (r .went); shows = r .shows })
+
+  hooks : ReachingHooks (cellReads t most) rs most (byCells t most)
+  unfolding byCells
+  hooks =
+      record {
+        formal-actual = λ n {k = k} {p = p} left w m e s h v g q. actual-reached n (visited (byCells t most) t rs n) k left m (s .room) p (s .stands) h g q;
+        formal-beyond = λ n {k = k} {p = p} left w m e s h. beyond-reached n (visited (byCells t most) t rs n) k left m (s .room) p (s .stands) h;
+        formal-outside = λ n {k = k} {p = p} left w m e s. outside-reached n (visited (byCells t most) t rs n) k left m (s .room) p (s .stands);
+        call-body = λ n {k = k} {l = l} {f = f} left w m e s g q. call-reached n (visited (byCells t most) t rs n) k left m (s .room) l f w (s .stands) g q;
+      }
 
   -- a visit, at allowances that have room for its trace
   pub follows : (nesting left k w : ℕ) {ws : List ℕ} {store : List Cell} {a : Trace} {e : Ending (List ℕ)}
-      → Visits t rs (translationNodeOf t k) k ws a e → Stands store w ws → Allowed a nesting left store most
-      → Arrives left store a e (visited (byCells t most) t rs nesting k w (stateOf left store))
-  follows nesting left k w v s q = opened nesting left k w q (λ n m r. evaluates n m k w v s r)
+      → Visits t rs (translationNodeOf t k) k ws a e → Stands store w ws → Allowed (cellReads t most) most a nesting (stateOf left store)
+      → Arrives (cellReads t most) nesting (stateOf left store) a e (visited (byCells t most) t rs nesting k w (stateOf left store))
+  follows nesting left k w {store} v s q =
+      visits-reached (cellReads t most) rs most (byCells t most) hooks nesting v .reaches w (stateOf left store)
+      (record { stands = s; room = omega (arith, q .cells) }) q

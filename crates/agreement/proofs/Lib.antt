@@ -9,7 +9,7 @@ pub mod Becomes
 pub mod Corresponds
 pub mod Unique
 pub mod CellsToLabels
-pub mod FoundVisits
 pub mod LabelsToCells
-pub mod Arrivals
+pub mod CellReads
 pub mod Contexts
+pub mod KnownEnds

@@ -18,7 +18,7 @@ use Rattle.definitions.specs.Rule.{Ending, value, ended, integer, constructor}
 use Rattle.agreement.specs.Meaning.{Setting, End, endOf, Means}
 use Rattle.agreement.specs.Meaning
 use Rattle.definitions.specs.declared.Layout.the-variants.{Sheet}
-use Rattle.agreement.specs.Visits.{Trace, NotNumber, constructor-came, ended-before, NotConstructor, number-came, ended-first, endingOf, Visits}
+use Rattle.rule_laws.specs.Visits.{Trace, NotNumber, constructor-came, ended-before, NotConstructor, number-came, ended-first, endingOf, Visits}
 use Rattle.agreement.specs.Corresponds.{At, Agrees, integers, constructors, ends, Meant}
 use Rattle.agreement.proofs.Unique.{visits-one}
 use Rattle.agreement.proofs.Corresponds.{ArgumentAt, argument-at, FieldAt}

@@ -1,34 +1,34 @@
 -- Laws of outcomes: those of endings that show and mean the same are equal, and a sheet's own answer is a number, a
--- constructor or one of the run faults 14 to 17.
-use mathlib.Core.Path.{_≡_, refl, sym, _∙_}
+-- constructor or one of the run faults that the meaning has.
+use mathlib.Core.Path.{_≡_, refl}
 use Prim.Native.Nat.{ℕ, _≤_}
 use mathlib.Core.List.{List}
-use mathlib.Core.Bool.{Bool, true, false, cond, _||_, true≢false}
+use mathlib.Core.Bool.{true}
 use native.Mathlib.Omega.{arith}
 use lib.IntN.{ℤ}
-use lib.Dec.{eqb}
-use borrow.Author.Tests.{eqb-true, ne-eqb, le-leb}
-use Rattle.definitions.specs.Numbers.{numberWanted, constructorWanted, noClause, zeroDivisor, noActual, noField}
-use Rattle.definitions.specs.Shape.{within}
-use Rattle.definitions.specs.Operators.{Computed, gives, faults, computed, quotient, isZero}
+use Rattle.definitions.specs.Numbers.{numberWanted, constructorWanted, noClause, zeroDivisor, noActual, noField, isStop, isAnswer}
+use Rattle.definitions.specs.Ranges.{within}
+use Rattle.definitions.specs.Operators.{Computed}
 use Rattle.definitions.specs.SheetNodes.{SheetNode}
 use Rattle.definitions.specs.Outcomes.{Outcome, numberOutcome, constructorOutcome, endOutcome}
 use Rattle.definitions.specs.Checks.{sheetVerdict}
 use Rattle.definitions.specs.Translate.{translation}
 use Rattle.definitions.specs.Rule.{Ending, value, ended, integer, constructor}
-use Rattle.definitions.specs.Cells.{Cell}
 use Rattle.definitions.specs.Run.{endingOutcome}
+use Rattle.laws.proofs.Classes.{fault-answer}
 use Rattle.agreement.specs.Meaning.{Setting, End, endOf, outcomeOf, OwnAnswer}
 use Rattle.agreement.specs.Meaning
-use Rattle.agreement.specs.Meaning.{Means, number-itself, reading-value, parameter-argument, call-body, build-itself, case-chosen, case-unmatched, case-number, case-fault, pattern-field, if-nonzero, if-zero, if-constructor, if-fault, operator-numbers, left-constructor, left-fault, right-constructor, right-fault}
+use Rattle.agreement.specs.Meaning.{Means, number-itself, reading-value, parameter-argument, call-body, build-itself, case-chosen, case-unmatched, case-number, case-fault}
+use Rattle.agreement.specs.Meaning.{pattern-field, if-nonzero, if-zero, if-constructor, if-fault, operator-numbers, left-constructor, left-fault, right-constructor, right-fault}
 use Rattle.definitions.specs.declared.Verdict.the-variants.{Accepted}
 use Rattle.readback.proofs.Nodes.{tag-read}
-use Rattle.agreement.specs.Answers.{isStop, isAnswer, stopped}
-use Rattle.agreement.specs.Contexts.{Shows, an-integer, a-constructor, an-end}
+use Rattle.rule_laws.specs.Reads.{Shows, an-integer, a-constructor, an-end}
+use Rattle.rule_laws.specs.Found.{stopped}
+use Rattle.rule_laws.proofs.Computing.{Result, a-number, no-divisor, computed-result}
 use Rattle.agreement.specs.Corresponds.{Agrees, integers, constructors, ends}
 
 -- two endings over cells that are one over labels
-pub same-shown : (t : List ℕ) {cs ds : List Cell} {x y : Ending ℕ} {e : Ending (List ℕ)} → Shows cs x e → Shows ds y e
+pub same-shown : (t : List ℕ) {A B : ℕ → ℕ → List ℕ → Type 0} {x y : Ending ℕ} {e : Ending (List ℕ)} → Shows A x e → Shows B y e
     → endingOutcome t x ≡ endingOutcome t y
 unfolding endingOutcome
 same-shown t an-integer an-integer = refl
@@ -36,8 +36,8 @@ same-shown t (a-constructor s) (a-constructor r) = refl
 same-shown t an-end an-end = refl
 
 -- an ending over cells and the end that the sheet's node means
-pub same-meant : {b : List ℕ} {rs : List ℤ} {cs : List Cell} {x : Ending ℕ} {e : Ending (List ℕ)} {d : End} → sheetVerdict b ≡ Accepted
-    → Shows cs x e → Agrees b rs e d
+pub same-meant : {b : List ℕ} {rs : List ℤ} {A : ℕ → ℕ → List ℕ → Type 0} {x : Ending ℕ} {e : Ending (List ℕ)} {d : End} → sheetVerdict b ≡ Accepted
+    → Shows A x e → Agrees b rs e d
     → endingOutcome (translation b) x ≡ outcomeOf d
 unfolding endingOutcome outcomeOf
 same-meant accepted an-integer integers = refl
@@ -46,59 +46,20 @@ same-meant accepted an-end ends = refl
 
 -- an ending is stopped when its outcome is a stop's
 pub stop-shown : (t : List ℕ) (x : Ending ℕ) → isStop (endingOutcome t x .outcome) ≡ stopped x
-unfolding endingOutcome numberOutcome constructorOutcome endOutcome isStop
+unfolding endingOutcome numberOutcome constructorOutcome endOutcome isStop within
 stop-shown t (value (integer z)) = refl
 stop-shown t (value (constructor k w)) = refl
 stop-shown t (ended n) = refl
 
--- an answer is no stop
-stop-no-answer : (n : ℕ) → isStop n ≡ true → isAnswer n ≡ false
-unfolding isStop isAnswer within
-stop-no-answer n h = first (eqb n 11) refl h
-  where
-    third : eqb n 13 ≡ true → isAnswer n ≡ false
-    third e = rw (eqb-true n 13 e) refl
-
-    second : (x : Bool) → eqb n 12 ≡ x → (x || eqb n 13) ≡ true → isAnswer n ≡ false
-    second true e g = rw (eqb-true n 12 e) refl
-    second false e g = third g
-
-    first : (x : Bool) → eqb n 11 ≡ x → (x || eqb n 12 || eqb n 13) ≡ true → isAnswer n ≡ false
-    first true e g = rw (eqb-true n 11 e) refl
-    first false e g = second (eqb n 12) refl g
-
-pub answer-no-stop : (n : ℕ) → isAnswer n ≡ true → isStop n ≡ false
-answer-no-stop n h = from (isStop n) refl
-  where
-    from : (x : Bool) → isStop n ≡ x → x ≡ false
-    from true e = absurd (true≢false (sym h ∙ stop-no-answer n e))
-    from false e = refl
-
--- an end that is a value, or a run fault from 14 to 17
+-- an end that is a value, or one of the run faults that the meaning has
 data Own : End → Type 0 where
   a-value : {v : Meaning.Value} → Own (Meaning.value v)
-  a-fault : {n : ℕ} → 14 ≤ n → n ≤ 17 → Own (Meaning.fault n)
+  a-fault : {n : ℕ} → numberWanted ≤ n → n ≤ zeroDivisor → Own (Meaning.fault n)
 
-own-number : (z : ℤ) → Own (endOf (gives z))
+own-result : {c : Computed} → Result c → Own (endOf c)
 unfolding endOf
-own-number z = a-value
-
-own-zero-divisor : Own (endOf (faults zeroDivisor))
-unfolding endOf
-own-zero-divisor = a-fault {n = zeroDivisor} (omega arith) (omega arith)
-
-own-either : (t : Bool) (x y : Computed) → Own (endOf x) → Own (endOf y) → Own (endOf (cond t x y))
-own-either true x y p q = p
-own-either false x y p q = q
-
-own-computed : (o : ℕ) (x y : ℤ) → Own (endOf (computed o x y))
-unfolding computed quotient
-own-computed o x y =
-    own-either (eqb o 0) _ _ (own-number _)
-    (own-either (eqb o 1) _ _ (own-number _)
-    (own-either (eqb o 2) _ _ (own-number _)
-    (own-either (eqb o 3) _ _ (own-either (isZero y) _ _ own-zero-divisor (own-number _))
-    (own-either (eqb o 4) _ _ (own-number _) (own-number _)))))
+own-result a-number = a-value
+own-result no-divisor = a-fault {n = zeroDivisor} (omega arith) (omega arith)
 
 -- what a node means is such an end
 own-meant : {b : List ℕ} {rs : List ℤ} {nd : SheetNode} {s : Setting} {d : End} → Means b rs nd s d → Own d
@@ -116,7 +77,7 @@ own-meant (if-nonzero m p m′) = own-meant m′
 own-meant (if-zero m p m′) = own-meant m′
 own-meant (if-constructor m) = a-fault {n = numberWanted} (omega arith) (omega arith)
 own-meant (if-fault m) = own-meant m
-own-meant (operator-numbers {o} {x} {y} m m′) = own-computed o x y
+own-meant (operator-numbers {o} {x} {y} m m′) = own-result (computed-result o x y)
 own-meant (left-constructor m) = a-fault {n = numberWanted} (omega arith) (omega arith)
 own-meant (left-fault m) = own-meant m
 own-meant (right-constructor m m′) = a-fault {n = numberWanted} (omega arith) (omega arith)
@@ -124,11 +85,10 @@ own-meant (right-fault m m′) = own-meant m′
 
 -- so a sheet's own answer is an answer, and never the fault 18 or 19
 answer-end : (d : End) → Own d → isAnswer (outcomeOf d .outcome) ≡ true
-unfolding outcomeOf numberOutcome constructorOutcome endOutcome isAnswer within
+unfolding outcomeOf numberOutcome constructorOutcome endOutcome isAnswer
 answer-end (Meaning.value (Meaning.integer z)) a-value = refl
 answer-end (Meaning.value (Meaning.built c ns s)) a-value = refl
-answer-end (Meaning.fault n) (a-fault l g) =
-    rw (ne-eqb n 0 (λ e. omega arith), ne-eqb n 100 (λ e. omega arith), le-leb 14 n l, le-leb n 19 (omega arith)) refl
+answer-end (Meaning.fault n) (a-fault l g) = fault-answer n l (omega arith)
 
 pub own-answer : {b : List ℕ} {rs : List ℤ} {a : Outcome} → OwnAnswer b rs a → isAnswer (a .outcome) ≡ true
 own-answer o = rw (o .agrees) at (answer-end (o .end) (own-meant (o .means)))

@@ -1,34 +1,32 @@
 -- Runs of an accepted sheet's translation: what they are refused for, that they have the rule's answer otherwise, and that this
 -- is a stop or the sheet's own.
 use mathlib.Core.Path.{_≡_, refl, sym, ap, _∙_}
-use Prim.Native.Nat.{ℕ, _*_}
+use Prim.Native.Nat.{ℕ}
 use mathlib.Core.List.{List}
-use mathlib.Core.Bool.{Bool, true, false, _&&_, true≢false}
+use mathlib.Core.Bool.{Bool, true, false, true≢false}
 use lib.IntN.{ℤ}
 use lib.ListN.{length}
-use lib.Dec.{leb}
 use borrow.Author.Tests.{eq-eqb}
-use Rattle.definitions.specs.Numbers.{badAllowance}
+use Rattle.definitions.specs.Numbers.{badAllowance, isRefusal, isStop, isAnswer}
+use Rattle.definitions.specs.Ranges.{within}
 use Rattle.definitions.specs.Verdicts.{_andThen_, require}
 use Rattle.definitions.specs.Layouts.{readings}
-use Rattle.definitions.specs.Shape.{within}
 use Rattle.definitions.specs.Checks.{sheetVerdict}
 use Rattle.definitions.specs.Outcomes.{Outcome}
 use Rattle.definitions.specs.Translate.{translation}
-use Rattle.definitions.specs.Cells.{evaluation}
-use Rattle.definitions.specs.Run.{Answer, answerOf, refusal, runVerdict, answerAfter, runAnswer}
+use Rattle.definitions.specs.Run.{Answer, endingOutcome, answerOf, ruleAnswer, allowancesFit, refusal, runVerdict, answerAfter, runAnswer}
 use Rattle.agreement.specs.Meaning.{OwnAnswer}
 use Rattle.definitions.specs.declared.Verdict.{Verdict}
 use Rattle.definitions.specs.declared.Verdict.the-variants.{Accepted, Refused}
 use Rattle.readback.proofs.Records.{translation-readings}
 use Rattle.readback.proofs.Accepted.{translation-accepted}
-use Rattle.agreement.specs.Answers.{isStop, isAnswer, ruleOutcome, answerOutcome, sheetRun, Unanswered, is-refused, is-stopped, RunEnds, without-answer, with-own}
-use Rattle.agreement.proofs.Outcomes.{answer-no-stop}
+use Rattle.agreement.specs.Answers.{ruleOutcome, answerOutcome, sheetRun, Unanswered, is-refused, is-stopped, RunEnds, without-answer, with-own}
+use Rattle.laws.proofs.Classes.{refusal-no-answer, answer-no-stop}
 use Rattle.agreement.proofs.Allowances.{rule-sound}
 
 -- a run that is not refused has the rule's answer at its own allowances, and a run that is refused has the refusal
 pub run-rule : (t : List ℕ) (rs : List ℤ) (steps nesting most lent : ℕ) → runVerdict t rs nesting most lent ≡ Accepted
-    → runAnswer t rs steps nesting most lent ≡ answerOf t steps (evaluation t rs steps nesting most)
+    → runAnswer t rs steps nesting most lent ≡ ruleAnswer t rs steps nesting most
 unfolding runAnswer answerAfter
 run-rule t rs steps nesting most lent v = rw v refl
 
@@ -39,8 +37,8 @@ run-refusal t rs steps nesting most lent v = rw v refl
 
 -- the outcome and value of the rule's answer
 rule-answer : (t : List ℕ) (rs : List ℤ) (steps nesting most : ℕ)
-    → answerOutcome (answerOf t steps (evaluation t rs steps nesting most)) ≡ ruleOutcome t rs steps nesting most
-unfolding answerOutcome answerOf ruleOutcome
+    → answerOutcome (ruleAnswer t rs steps nesting most) ≡ ruleOutcome t rs steps nesting most
+unfolding answerOutcome ruleAnswer answerOf ruleOutcome endingOutcome
 rule-answer t rs steps nesting most = refl
 
 outcome-of : (a : Answer) → answerOutcome a .outcome ≡ a .outcome
@@ -50,7 +48,7 @@ outcome-of a = refl
 -- of a sheet that is accepted, with as many readings as it asks for, a run is refused for its allowances only
 pub run-verdict : (b : List ℕ) → sheetVerdict b ≡ Accepted → (rs : List ℤ) → length rs ≡ readings b → (nesting most lent : ℕ)
     → runVerdict (translation b) rs nesting most lent
-    ≡ require (within 1 1024 nesting && leb most 8192 && leb (4 * most) lent) badAllowance 0
+    ≡ require (allowancesFit nesting most lent) badAllowance 0
 unfolding runVerdict require _andThen_
 run-verdict b accepted rs asked nesting most lent =
     rw (translation-accepted b accepted, translation-readings b accepted, eq-eqb (length rs) (readings b) asked) refl
@@ -89,11 +87,10 @@ module _ (b : List ℕ) (accepted : sheetVerdict b ≡ Accepted) (rs : List ℤ)
   -- a number, constructor or run fault is the sheet's own
   own-by : length rs ≡ readings b → isAnswer (sheetRun b rs steps nesting most before .outcome) ≡ true → RunEnds b rs steps nesting most before
       → OwnAnswer b rs (answerOutcome (sheetRun b rs steps nesting most before))
-  unfolding refusal isAnswer within
+  unfolding refusal isRefusal within
   own-by asked h (without-answer (is-refused v e)) =
-      let n = refused-for (within 1 1024 nesting && leb most 8192 && leb (4 * most) (length before))
-      (sym (run-verdict b accepted rs asked nesting most (length before)) ∙ v) in
-      absurd (true≢false (sym h ∙ rw (e, n) refl))
+      let n = refused-for (allowancesFit nesting most (length before)) (sym (run-verdict b accepted rs asked nesting most (length before)) ∙ v) in
+      absurd (true≢false (sym h ∙ rw (e, n) (refusal-no-answer badAllowance refl)))
   own-by asked h (without-answer (is-stopped v s)) =
       absurd (true≢false (sym s ∙ answer-no-stop (sheetRun b rs steps nesting most before .outcome) h))
   own-by asked h (with-own v o) = o

@@ -19,11 +19,14 @@ use Rattle.definitions.specs.declared.Verdict.the-variants.{Accepted}
 use Rattle.accepted.specs.Child.{left, right, condition}
 use Rattle.accepted.proofs.Names.{parameter-below, call-below}
 use Rattle.readback.proofs.Nodes.{body-read, tag-read}
-use Rattle.agreement.specs.Visits.{Trace, Visits, number-itself, reading-value, tuple-itself, formal-actual, formal-beyond, formal-outside, call-body, select-field, select-beyond, select-fails, case-chosen, case-unmatched, case-fails, if-chosen, if-fails, operator-numbers, left-fails, right-fails}
+use Rattle.rule_laws.specs.Visits.{Trace, Visits, number-itself, reading-value, tuple-itself, formal-actual, formal-beyond, formal-outside, call-body, select-field, select-beyond}
+use Rattle.rule_laws.specs.Visits.{select-fails, case-chosen, case-unmatched, case-fails, if-chosen, if-fails, operator-numbers, left-fails, right-fails}
 use Rattle.agreement.specs.Corresponds.{At, integers, constructors, Meant}
 use Rattle.agreement.proofs.Corresponds.{child-at, branch-at, body-at, scrutinee-at, clause-at, argument-of, field-at, scrutinee-same}
-use Rattle.agreement.proofs.Becomes.{Becomes, becomes-number, becomes-reading, becomes-formal, becomes-select, becomes-operator, becomes-conditional, becomes-call, becomes-tuple, becomes-case, becomes}
-use Rattle.agreement.proofs.Meant.{result-agrees, not-constructor, integer-meant, built-meant, left-meant, right-meant, if-meant, case-meant, branch-meant, fault-meant, call-meant, parameter-meant, parameter-listed, parameter-inside, scrutinee-ends, pattern-meant, pattern-listed}
+use Rattle.agreement.proofs.Becomes.{Becomes, becomes-number, becomes-reading, becomes-formal, becomes-select, becomes-operator, becomes-conditional, becomes-call}
+use Rattle.agreement.proofs.Becomes.{becomes-tuple, becomes-case, becomes}
+use Rattle.agreement.proofs.Meant.{result-agrees, not-constructor, integer-meant, built-meant, left-meant, right-meant, if-meant, case-meant, branch-meant, fault-meant}
+use Rattle.agreement.proofs.Meant.{call-meant, parameter-meant, parameter-listed, parameter-inside, scrutinee-ends, pattern-meant, pattern-listed}
 
 module _ (b : List ℕ) (accepted : sheetVerdict b ≡ Accepted) {rs : List ℤ} where
   -- by the rule with which the visit ends

@@ -8,8 +8,9 @@ use lib.IntN.{ℤ}
 use lib.ListN.{length}
 use Rattle.definitions.specs.TranslationNodes.{translationNodeOf}
 use Rattle.definitions.specs.Rule.{Ending}
-use Rattle.agreement.specs.Visits.{Trace, depthOf, stepsOf, cellsOf, Visits}
-use Rattle.agreement.proofs.Contexts.{standing, shows-one}
+use Rattle.rule_laws.specs.Visits.{Trace, depthOf, stepsOf, cellsOf, Visits}
+use Rattle.agreement.proofs.Contexts.{standing}
+use Rattle.agreement.proofs.CellReads.{shows-one}
 use Rattle.agreement.proofs.LabelsToCells.{follows}
 
 -- two endings of one visit are equal

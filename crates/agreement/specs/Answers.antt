@@ -3,36 +3,19 @@
 use mathlib.Core.Path.{_≡_}
 use Prim.Native.Nat.{ℕ}
 use mathlib.Core.List.{List}
-use mathlib.Core.Bool.{Bool, true, false, _||_}
+use mathlib.Core.Bool.{true}
 use lib.IntN.{ℤ}
 use lib.ListN.{length}
-use lib.Dec.{eqb}
-use Rattle.definitions.specs.Numbers.{noStep, noNesting, noCell, numberWanted, noField, isNumber, isConstructor}
-use Rattle.definitions.specs.Shape.{within}
+use Rattle.definitions.specs.Numbers.{isStop}
 use Rattle.definitions.specs.Outcomes.{Outcome}
 use Rattle.definitions.specs.Translate.{translation}
-use Rattle.definitions.specs.Rule.{Ending, value, ended}
-use Rattle.definitions.specs.Cells.{evaluation}
-use Rattle.definitions.specs.Run.{Answer, endingOutcome, refusal, runVerdict, runAnswer}
+use Rattle.definitions.specs.Run.{Answer, endingOutcome, ruleEnd, refusal, runVerdict, runAnswer}
 use Rattle.agreement.specs.Meaning.{OwnAnswer}
 use Rattle.definitions.specs.declared.Verdict.the-variants.{Accepted, Refused}
 
--- whether an outcome's number is a stop's: 11, 12, 13
-unfoldable pub isStop : ℕ → Bool
-isStop n = eqb n noStep || eqb n noNesting || eqb n noCell
-
--- whether it is a number's, a constructor's or a run fault's: 0, 100, 14 to 19
-unfoldable pub isAnswer : ℕ → Bool
-isAnswer n = eqb n isNumber || eqb n isConstructor || within numberWanted noField n
-
--- whether a visit was stopped
-abbrev pub stopped : {C : Type 0} → Ending C → Bool
-stopped (value v) = false
-stopped (ended n) = isStop n
-
 -- the outcome and value of the evaluation rule at a step, a nesting and a cell allowance, taken without ceilings
 unfoldable pub ruleOutcome : List ℕ → List ℤ → ℕ → ℕ → ℕ → Outcome
-ruleOutcome t rs steps nesting most = endingOutcome t (evaluation t rs steps nesting most .ending)
+ruleOutcome t rs steps nesting most = endingOutcome t (ruleEnd t rs steps nesting most .ending)
 
 -- the rule gives this outcome and value at some allowances
 pub record RuleGives (t : List ℕ) (rs : List ℤ) (a : Outcome) : Type 0 where

@@ -15,7 +15,7 @@ use Rattle.definitions.specs.Rule.{Ending, value, ended, integer, constructor}
 use Rattle.agreement.specs.Meaning.{Setting, empty, entered, holding, End, Means}
 use Rattle.agreement.specs.Meaning
 use Rattle.definitions.specs.declared.Layout.the-variants.{Sheet}
-use Rattle.agreement.specs.Visits.{Trace, Visits}
+use Rattle.rule_laws.specs.Visits.{Trace, Visits}
 
 -- in function f, in the clause of this constructor or in none, these labels and this setting
 pub data Corresponds (b : List ℕ) (rs : List ℤ) : ℕ → Option ℕ → List ℕ → Setting → Type 0 where

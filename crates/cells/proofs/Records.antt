@@ -10,6 +10,8 @@ use borrow.Author.Tests.{le-leb, lt-leb}
 use mir.Syntax.{w32}
 use mir.Val.{toZ, ofZ, SFits}
 use mir.ValLaws.{toZ-ofZ}
+use Rattle.definitions.specs.Sizes.{answerSize}
+use Rattle.definitions.specs.Numbers.{shortOutput}
 use Rattle.definitions.specs.Bytes.{wordBytes, words32, bytesOf}
 use Rattle.definitions.specs.Operators.{residue}
 use Rattle.definitions.specs.Run.{refusal}
@@ -44,28 +46,28 @@ pub place-bits : (o : Outcome) (n p : ℕ) → o ≡ Out.Refused n p → p % 429
 unfolding valueOf residue
 place-bits o n p e = sym (ap (λ (u : Outcome). residue w32 (valueOf u)) e)
 
-pub record-short : (a : Answer) (out : List ℕ) → length out < 20 → Writes a out out (Refused 8 0)
+pub record-short : (a : Answer) (out : List ℕ) → length out < answerSize → Writes a out out (Refused shortOutput 0)
 unfolding require
-record-short a out h = record { verdict = rw (lt-leb 20 (length out) h) refl; bytes = rw (lt-leb 20 (length out) h) refl }
+record-short a out h = record { verdict = rw (lt-leb answerSize (length out) h) refl; bytes = rw (lt-leb answerSize (length out) h) refl }
 
 module _ (a : Answer) (l m n o p q r s t : List ℕ) (outcome value node context : ℕ) where
   pub record-bytes : outcome ≡ outcomeOf (a .outcome) → value ≡ residue w32 (valueOf (a .outcome)) → node ≡ nodeOf (a .outcome) → context ≡ contextOf (a .outcome)
-      → m ≡ sets l 0 (wordBytes 20) → n ≡ sets m 2 (wordBytes 64) → o ≡ sets n 4 (wordBytes outcome) → p ≡ sets o 6 (bytesOf (words32 value))
+      → m ≡ sets l 0 (wordBytes answerSize) → n ≡ sets m 2 (wordBytes 64) → o ≡ sets n 4 (wordBytes outcome) → p ≡ sets o 6 (bytesOf (words32 value))
       → q ≡ sets p 10 (bytesOf (words32 (a .steps))) → r ≡ sets q 14 (wordBytes node) → s ≡ sets r 16 (wordBytes context) → t ≡ sets s 18 (wordBytes (a .cells))
       → t ≡ sets l 0 (answerBytes (answerOf a))
   unfolding wordBytes words32 bytesOf answerWords answerBytes answerOf
   record-bytes eo ev en ec e1 e2 e3 e4 e5 e6 e7 e8 = rw (e8, e7, e6, e5, e4, e3, e2, e1, eo, ev, en, ec) refl
 
-answer-length : (a : Answer) → length (answerBytes (answerOf a)) ≡ 20
+answer-length : (a : Answer) → length (answerBytes (answerOf a)) ≡ answerSize
 unfolding wordBytes words32 bytesOf answerWords answerBytes answerOf
 answer-length a = refl
 
-pub record-written : (a : Answer) (l t : List ℕ) → 20 ≤ length l → t ≡ sets l 0 (answerBytes (answerOf a)) → Writes a l t Accepted
+pub record-written : (a : Answer) (l t : List ℕ) → answerSize ≤ length l → t ≡ sets l 0 (answerBytes (answerOf a)) → Writes a l t Accepted
 unfolding require
 record-written a l t h e =
     record {
-      verdict = rw (le-leb 20 (length l) h) refl;
-      bytes = rw (le-leb 20 (length l) h) (e ∙ over-front (answerBytes (answerOf a)) l 20 (answer-length a) h);
+      verdict = rw (le-leb answerSize (length l) h) refl;
+      bytes = rw (le-leb answerSize (length l) h) (e ∙ over-front (answerBytes (answerOf a)) l answerSize (answer-length a) h);
     }
 
 -- the answer of a refusal

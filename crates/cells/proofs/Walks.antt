@@ -9,6 +9,8 @@ use lib.ListN.{length}
 use lib.Seq.{sets, length-sets}
 use lib.Dec.{ltb, leb, eqb}
 use borrow.Author.Tests.{lt-ltb, le-leb, lt-leb, le-ltb, leb-false, ne-eqb}
+use Rattle.definitions.specs.Sizes.{cellSize}
+use Rattle.definitions.specs.Numbers.{shortOutput, outOfRange}
 use Rattle.definitions.specs.Bytes.{wordBytes, bytesOf}
 use Rattle.definitions.specs.Listing.{Listing, labels, refused, labelAt, previousAt, withLabel, damaged, labelsWithin, fitting, listing}
 use Rattle.cells.specs.declared.listing.Listed.{Listed}
@@ -21,9 +23,9 @@ or-false false u e = (refl, e)
 or-false true u e = absurd (let z : _≡_ {A = Bool} true false = e in let y : _≡_ {A = ℕ} 0 1 = cc in omega arith)
 
 -- the two ways to be damaged
-pub beyond : (b : List ℕ) (c : ℕ) → length b / 4 < c → damaged b c ≡ true
+pub beyond : (b : List ℕ) (c : ℕ) → length b / cellSize < c → damaged b c ≡ true
 unfolding damaged
-beyond b c h = rw (lt-ltb (length b / 4) c h) refl
+beyond b c h = rw (lt-ltb (length b / cellSize) c h) refl
 
 or-right : (t : Bool) → (t || true) ≡ true
 or-right false = refl
@@ -33,20 +35,20 @@ pub not-before : (b : List ℕ) (c p : ℕ) → p ≡ previousAt b c → c ≤ p
 unfolding damaged
 not-before b c p e h =
     let l : c ≤ previousAt b c = omega arith in
-    ap (λ (t : Bool). ltb (length b / 4) c || t) (le-leb c (previousAt b c) l) ∙ or-right (ltb (length b / 4) c)
+    ap (λ (t : Bool). ltb (length b / cellSize) c || t) (le-leb c (previousAt b c) l) ∙ or-right (ltb (length b / cellSize) c)
 
-pub sound : (b : List ℕ) (c p : ℕ) → c ≤ length b / 4 → p ≡ previousAt b c → p < c → damaged b c ≡ false
+pub sound : (b : List ℕ) (c p : ℕ) → c ≤ length b / cellSize → p ≡ previousAt b c → p < c → damaged b c ≡ false
 unfolding damaged
-sound b c p h e k = let l : previousAt b c < c = omega arith in rw (le-ltb (length b / 4) c h, lt-leb c (previousAt b c) l) refl
+sound b c p h e k = let l : previousAt b c < c = omega arith in rw (le-ltb (length b / cellSize) c h, lt-leb c (previousAt b c) l) refl
 
 previous-below : (b : List ℕ) (c : ℕ) → damaged b c ≡ false → previousAt b c < c
 unfolding damaged
-previous-below b c e = leb-false c (previousAt b c) (or-false (ltb (length b / 4) c) (leb c (previousAt b c)) e .1)
+previous-below b c e = leb-false c (previousAt b c) (or-false (ltb (length b / cellSize) c) (leb c (previousAt b c)) e .1)
 
 -- a walk has cells enough when it may go over as many as its first cell's number
 enough-by : (b : List ℕ) (d e c : ℕ) → ((p : ℕ) → p < c → labelsWithin b d p ≡ labelsWithin b e p) → (t : Bool) → damaged b c ≡ t
-    → cond t (refused 5 c) (withLabel (labelAt b c) (labelsWithin b d (previousAt b c)))
-    ≡ cond t (refused 5 c) (withLabel (labelAt b c) (labelsWithin b e (previousAt b c)))
+    → cond t (refused outOfRange c) (withLabel (labelAt b c) (labelsWithin b d (previousAt b c)))
+    ≡ cond t (refused outOfRange c) (withLabel (labelAt b c) (labelsWithin b e (previousAt b c)))
 enough-by b d e c ih true f = refl
 enough-by b d e c ih false f = ap (withLabel (labelAt b c)) (ih (previousAt b c) (previous-below b c f))
 
@@ -60,7 +62,7 @@ enough b (suc d) (suc e) c h k =
     (enough-by b d e c (λ p q. enough b d e p (omega arith) (omega arith)) (damaged b c) refl)
 
 module _ (b : List ℕ) where
-  walk-damaged : (c : ℕ) → (c ≡ 0 → ⊥) → damaged b c ≡ true → labelsWithin b c c ≡ refused 5 c
+  walk-damaged : (c : ℕ) → (c ≡ 0 → ⊥) → damaged b c ≡ true → labelsWithin b c c ≡ refused outOfRange c
   unfolding labelsWithin
   walk-damaged zero h e = absurd (h refl)
   walk-damaged (suc c) h e = rw (ne-eqb (suc c) 0 h, e) refl
@@ -97,20 +99,20 @@ counted-label n l (refused m p) = refl
 pub record CountedSo (b : List ℕ) (c made at n : ℕ) : Type 0 where
   pub rest : counted (labelsWithin b c c) ≡ more n (counted (labelsWithin b at at))
   pub bound : n + at ≤ c
-  pub cells : made ≡ length b / 4
+  pub cells : made ≡ length b / cellSize
 
-pub count-none : (b : List ℕ) (c : ℕ) → CountedSo b c (length b / 4) c 0
+pub count-none : (b : List ℕ) (c : ℕ) → CountedSo b c (length b / cellSize) c 0
 count-none b c = record { rest = more-none (counted (labelsWithin b c c)); bound = omega arith; cells = refl }
 
 module _ (b : List ℕ) (c made at n : ℕ) (w : CountedSo b c made at n) where
-  damage-counted : (at ≡ 0 → ⊥) → damaged b at ≡ true → Refused 5 at ≡ counted (labelsWithin b c c)
+  damage-counted : (at ≡ 0 → ⊥) → damaged b at ≡ true → Refused outOfRange at ≡ counted (labelsWithin b c c)
   unfolding more counted
   damage-counted h e = sym (w .rest ∙ ap (λ (l : Listing). more n (counted l)) (walk-damaged b at h e))
 
-  pub counted-beyond : (at ≡ 0 → ⊥) → made < at → Refused 5 at ≡ counted (labelsWithin b c c)
+  pub counted-beyond : (at ≡ 0 → ⊥) → made < at → Refused outOfRange at ≡ counted (labelsWithin b c c)
   counted-beyond h k = let f = w .cells in damage-counted h (beyond b at (omega arith))
 
-  pub counted-back : (p q : ℕ) → (at ≡ 0 → ⊥) → p ≡ previousAt b at → q ≡ p → at ≤ q → Refused 5 at ≡ counted (labelsWithin b c c)
+  pub counted-back : (p q : ℕ) → (at ≡ 0 → ⊥) → p ≡ previousAt b at → q ≡ p → at ≤ q → Refused outOfRange at ≡ counted (labelsWithin b c c)
   counted-back p q h e g k = damage-counted h (not-before b at q (g ∙ e) k)
 
   pub count-more : (p q : ℕ) → (at ≡ 0 → ⊥) → at ≤ made → p ≡ previousAt b at → q ≡ p → q < at → CountedSo b c made q (n + 1)
@@ -172,7 +174,7 @@ module _ (b : List ℕ) (c count : ℕ) (before out : List ℕ) (at i : ℕ) (w 
   unfolding counted
   not-damaged false h e = e
   not-damaged true h e =
-      let f : Refused 5 at ≡ Count (count - i) = ap counted (sym (walk-damaged b at (not-first h) e)) ∙ w .left in
+      let f : Refused outOfRange at ≡ Count (count - i) = ap counted (sym (walk-damaged b at (not-first h) e)) ∙ w .left in
       absurd (let z : _≡_ {A = ℕ} 0 1 = cc in omega arith)
 
   pub write-more : (m : List ℕ) (l p q : ℕ) → i < count → l ≡ labelAt b at → p ≡ previousAt b at → q ≡ p → m ≡ sets out (2 * i) (wordBytes l)
@@ -215,7 +217,7 @@ walk-refused b c out r n p e f =
     let w = refused-by (labelsWithin b c c) r n p (length out) e f in
     record { answer = w .0; bytes = sym (ap (listedOver out) (w .1)) }
 
-short-by : (L : Listing) (r : Listed) (n room : ℕ) → r ≡ counted L → r ≡ Count n → room / 2 < n → fitting room L ≡ refused 8 0
+short-by : (L : Listing) (r : Listed) (n room : ℕ) → r ≡ counted L → r ≡ Count n → room / 2 < n → fitting room L ≡ refused shortOutput 0
 unfolding counted fitting
 short-by (labels ls) r n room e f h =
     let z : length ls ≡ n = cc in
@@ -224,7 +226,7 @@ short-by (labels ls) r n room e f h =
 short-by (refused m q) r n room e f h = absurd (let z : _≡_ {A = ℕ} 0 1 = cc in omega arith)
 
 pub output-short : (b : List ℕ) (c : ℕ) (out : List ℕ) (r : Listed) (n : ℕ) → r ≡ counted (labelsWithin b c c) → r ≡ Count n → length out / 2 < n
-    → Lists b c out out (Refused 8 0)
+    → Lists b c out out (Refused shortOutput 0)
 unfolding listing listedOver counted
 output-short b c out r n e f h =
     let w = short-by (labelsWithin b c c) r n (length out) e f h in

@@ -8,6 +8,7 @@ use native.Mathlib.Numerals.{add-one, add-two}
 use lib.ListN.{length, set, drop}
 use lib.Seq.{set-out, sets, sets-eq, length-sets}
 use borrow.Author.Tests.{lt-ltb, le-ltb}
+use Rattle.definitions.specs.Sizes.{cellSize}
 use Rattle.definitions.specs.Bytes.{wordBytes, words32, bytesOf}
 use Rattle.cells.specs.Added.{cellAdded}
 
@@ -43,14 +44,14 @@ word32-cut l m at n h e =
 pub word32-past : (l : List ℕ) (at n : ℕ) → length l ≤ at → l ≡ sets l at (bytesOf (words32 n))
 word32-past l at n h = sym (sets-past (bytesOf (words32 n)) l at h)
 
-pub cell-written : (l m r : List ℕ) (made x y : ℕ) → made < length l / 4 → m ≡ sets l (4 * made) (wordBytes x) → r ≡ sets m (4 * made + 2) (wordBytes y)
+pub cell-written : (l m r : List ℕ) (made x y : ℕ) → made < length l / cellSize → m ≡ sets l (cellSize * made) (wordBytes x) → r ≡ sets m (cellSize * made + 2) (wordBytes y)
     → r ≡ cellAdded l made x y
 unfolding cellAdded
-cell-written l m r made x y h e f = rw (lt-ltb made (length l / 4) h) (two-words l m r (4 * made) x y e f)
+cell-written l m r made x y h e f = rw (lt-ltb made (length l / cellSize) h) (two-words l m r (cellSize * made) x y e f)
 
-pub cell-past : (l : List ℕ) (made x y : ℕ) → length l / 4 ≤ made → l ≡ cellAdded l made x y
+pub cell-past : (l : List ℕ) (made x y : ℕ) → length l / cellSize ≤ made → l ≡ cellAdded l made x y
 unfolding cellAdded
-cell-past l made x y h = rw (le-ltb made (length l / 4) h) refl
+cell-past l made x y h = rw (le-ltb made (length l / cellSize) h) refl
 
 -- a list written over the front of another
 pub over-front : (vs l : List ℕ) (n : ℕ) → length vs ≡ n → n ≤ length l → sets l 0 vs ≡ vs ++ drop n l

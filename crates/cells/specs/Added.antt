@@ -5,8 +5,9 @@ use mathlib.Core.Bool.{cond}
 use lib.ListN.{length}
 use lib.Seq.{sets}
 use lib.Dec.{ltb}
+use Rattle.definitions.specs.Sizes.{cellSize}
 use Rattle.definitions.specs.Bytes.{bytesOf}
 
 -- the bytes with a cell added after those made; a cell that does not fit is not written
 unfoldable pub cellAdded : List ℕ → ℕ → ℕ → ℕ → List ℕ
-cellAdded b made label previous = cond (ltb made (length b / 4)) (sets b (4 * made) (bytesOf (label ∷ previous ∷ []))) b
+cellAdded b made label previous = cond (ltb made (length b / cellSize)) (sets b (cellSize * made) (bytesOf (label ∷ previous ∷ []))) b

@@ -6,6 +6,7 @@ use mathlib.Core.Bool.{cond}
 use lib.IntN.{ℤ, pos}
 use lib.ListN.{length, drop}
 use lib.Dec.{leb}
+use Rattle.definitions.specs.Sizes.{answerSize}
 use Rattle.definitions.specs.Numbers.{isNumber, isConstructor, shortOutput}
 use Rattle.definitions.specs.Verdicts.{require}
 use Rattle.definitions.specs.Run as Run
@@ -55,5 +56,5 @@ answerOf a =
 
 -- "writing it into lent bytes is a call of its own, 8 below 20 bytes"
 pub record Writes (a : Answer) (before after : List ℕ) (v : Verdict) : Type 0 where
-  pub verdict : v ≡ require (leb 20 (length before)) shortOutput 0
-  pub bytes : after ≡ cond (leb 20 (length before)) (answerBytes (answerOf a) ++ drop 20 before) before
+  pub verdict : v ≡ require (leb answerSize (length before)) shortOutput 0
+  pub bytes : after ≡ cond (leb answerSize (length before)) (answerBytes (answerOf a) ++ drop answerSize before) before

@@ -6,9 +6,15 @@ ghost use Rattle.definitions.specs.Run.{refusal};
 ghost use Rattle.cells.specs.Answers.{outcomeOf, valueOf, nodeOf, contextOf, answerOf, Writes};
 use crate::bytes::put_word;
 use crate::bytes::put_word32;
-use crate::numbers;
 use definitions::Verdict;
+use definitions::numbers;
+use definitions::sizes::ANSWER_BYTES;
 use operators::bits::bits_of;
+
+// "Record kind 64, 20 bytes".
+const RECORD_LENGTH: u16 = ANSWER_BYTES as u16;
+
+const RECORD_KIND: u16 = 64;
 
 // How a run ends: a number, a constructor with node and context, a stop or a fault, or a refusal.
 pub enum Outcome {
@@ -106,19 +112,19 @@ fn context_of(o: Outcome) -> u16
     }
 }
 
-// Writes the answer's record of 20 bytes.
+// Writes the answer's record.
 pub fn write_answer(a: Answer, out: &mut [u8]) -> Verdict
     ensures { λ v. ⌜ Writes a (now (out .entry)) (now (out .exit)) v ⌝ }
 {
-    if out.len() < 20 {
+    if out.len() < ANSWER_BYTES {
         return Verdict::Refused {
             number: numbers::SHORT_OUTPUT,
             place: 0,
         };
     }
     let o = a.outcome;
-    put_word(out, 0, 20);
-    put_word(out, 2, 64);
+    put_word(out, 0, RECORD_LENGTH);
+    put_word(out, 2, RECORD_KIND);
     put_word(out, 4, outcome_of(o));
     put_word32(out, 6, value_bits(o));
     put_word32(out, 10, a.steps);

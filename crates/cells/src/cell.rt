@@ -3,7 +3,8 @@ ghost use mathlib.Core.Path.{_≡_};
 ghost use Prim.Native.Nat.{_+_, _-_, _*_, _/_, _%_};
 ghost use Rattle.definitions.specs.Listing.{labelAt, previousAt};
 ghost use Rattle.cells.specs.Added.{cellAdded};
-use crate::bytes::put_word;
+use crate::bytes::set_word;
+use definitions::sizes::CELL_BYTES;
 use file_fields::bytes::field_of;
 use file_fields::bytes::word;
 use file_records::records::wide;
@@ -20,8 +21,8 @@ pub(crate) fn label_at(cells: &[u8], c: usize) -> u16
     ensures { λ r. ⌜ r ≡ labelAt (now (cells .entry)) c ⌝ }
 {
     let i = index(c);
-    if i <= cells.len() / 4 {
-        word(cells, 4 * i)
+    if i <= cells.len() / CELL_BYTES {
+        word(cells, CELL_BYTES * i)
     } else {
         0
     }
@@ -32,8 +33,8 @@ pub(crate) fn previous_at(cells: &[u8], c: usize) -> u16
     ensures { λ r. ⌜ r ≡ previousAt (now (cells .entry)) c ⌝ }
 {
     let i = index(c);
-    if i <= cells.len() / 4 {
-        let at = 4 * i;
+    if i <= cells.len() / CELL_BYTES {
+        let at = CELL_BYTES * i;
         if 1 < cells.len() - at {
             return word(cells, at + 2);
         }
@@ -42,7 +43,7 @@ pub(crate) fn previous_at(cells: &[u8], c: usize) -> u16
 }
 
 // Two fields in one number, the first below.
-fn pair_of(first: u16, second: u16) -> u32
+pub fn pair_of(first: u16, second: u16) -> u32
     ensures { λ r. ⌜ (r % 65536 ≡ first) × (r / 65536 ≡ second) ⌝ }
 {
     first as u32 + 0x1_0000 * second as u32
@@ -53,10 +54,10 @@ fn pair_of(first: u16, second: u16) -> u32
 pub fn cell_at(cells: &[u8], c: u16) -> u32
     ensures { λ r. ⌜ (r % 65536 ≡ labelAt (now (cells .entry)) c) × (r / 65536 ≡ previousAt (now (cells .entry)) c) ⌝ }
 {
-    let end = 4 * wide(c);
+    let end = CELL_BYTES * wide(c);
     if 0 < c {
         if end <= cells.len() {
-            let at = end - 4;
+            let at = end - CELL_BYTES;
             let label = field_of(cells[at], cells[at + 1]);
             let previous = field_of(cells[at + 2], cells[at + 3]);
             return pair_of(label, previous);
@@ -69,8 +70,8 @@ pub fn cell_at(cells: &[u8], c: u16) -> u32
 pub fn add_cell(cells: &mut [u8], made: usize, label: u16, previous: u16)
     ensures { λ _. ⌜ now (cells .exit) ≡ cellAdded (now (cells .entry)) made label previous ⌝ }
 {
-    if made < cells.len() / 4 {
-        put_word(cells, 4 * made, label);
-        put_word(cells, 4 * made + 2, previous);
+    if made < cells.len() / CELL_BYTES {
+        set_word(cells, CELL_BYTES * made, label);
+        set_word(cells, CELL_BYTES * made + 2, previous);
     }
 }

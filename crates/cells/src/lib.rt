@@ -4,4 +4,3 @@ pub mod answer;
 mod bytes;
 pub mod cell;
 pub mod listing;
-pub mod numbers;

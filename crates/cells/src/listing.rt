@@ -1,13 +1,14 @@
 // The context listing: the labels of a context, newest first, from lent cells.
 ghost use mathlib.Core.Path.{_≡_};
-ghost use Prim.Native.Nat.{_*_, _≤_};
+ghost use Prim.Native.Nat.{_*_};
 ghost use lib.ListN.{length};
 ghost use Rattle.definitions.specs.Listing.{labelsWithin};
 ghost use Rattle.cells.specs.Listings.{counted, written, Listable, Lists};
 use crate::bytes::put_word;
 use crate::cell::label_at;
 use crate::cell::previous_at;
-use crate::numbers;
+use definitions::numbers;
+use definitions::sizes::CELL_BYTES;
 use file_records::records::wide;
 
 // What a listing answers: how many labels it has, or the refusal's number and place.
@@ -20,7 +21,7 @@ pub enum Listed {
 fn count_labels(cells: &[u8], c: usize) -> Listed
     ensures { λ r. ⌜ r ≡ counted (labelsWithin (now (cells .entry)) c c) ⌝ }
 {
-    let made = cells.len() / 4;
+    let made = cells.len() / CELL_BYTES;
     let mut at = c;
     let mut n: usize = 0;
     while at != 0 {

@@ -4,12 +4,13 @@ use Prim.Native.Nat.{ℕ}
 use mathlib.Core.List.{List, [], _∷_, _++_}
 use mir.Syntax.{w32}
 use Rattle.definitions.specs.Bytes.{words32, bytesOf}
+use Rattle.definitions.specs.Sizes.{answerSize}
 use Rattle.definitions.specs.Operators.{residue}
 use Rattle.definitions.specs.Run.{Answer}
 
 unfoldable pub answerWords : Answer → List ℕ
 answerWords a =
-    20 ∷ 64 ∷ a .outcome ∷ words32 (residue w32 (a .value)) ++ words32 (a .steps) ++ (a .node ∷ a .context ∷ a .cells ∷ [])
+    answerSize ∷ 64 ∷ a .outcome ∷ words32 (residue w32 (a .value)) ++ words32 (a .steps) ++ (a .node ∷ a .context ∷ a .cells ∷ [])
 
 unfoldable pub answerBytes : Answer → List ℕ
 answerBytes a = bytesOf (answerWords a)

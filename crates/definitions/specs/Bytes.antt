@@ -1,9 +1,9 @@
 -- Little-endian fields (document 01, "Files"). A read is total: a byte past the end is 0.
-use Prim.Native.Nat.{ℕ, zero, suc, _+_, _*_, _/_, _%_}
+use Prim.Native.Nat.{ℕ, _+_, _*_, _/_, _%_}
 use mathlib.Core.List.{List, [], _∷_, _++_}
 use lib.ListN.{getD}
 use lib.IntN.{ℤ}
-use mir.Val.{toZ, ofZ}
+use mir.Val.{toZ}
 use mir.Syntax.{w32}
 
 -- the field of two bytes at a place

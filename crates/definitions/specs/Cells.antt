@@ -1,11 +1,11 @@
 -- Contexts kept as cells (document 01, "Run": "a context is a list of labels, kept as cells of 4 bytes: label, number of
 -- the previous cell (0 is the empty context; cells count from 1)"), and the evaluation rule over them.
-use Prim.Native.Nat.{ℕ, zero, suc, _+_, _*_, _-_}
+use Prim.Native.Nat.{ℕ, zero, suc}
 use mathlib.Core.List.{List, [], _∷_, _++_}
 use mathlib.Core.Option.{Option, none, some}
 use mathlib.Core.Bool.{Bool, true, false}
 use lib.IntN.{ℤ}
-use lib.ListN.{length, getElem?, drop}
+use lib.ListN.{length, getElem?}
 use lib.Dec.{ltb}
 use Rattle.definitions.specs.Bytes.{bytesOf}
 use Rattle.definitions.specs.Numbers.{noCell, noActual}

@@ -2,14 +2,14 @@
 use Prim.Native.Nat.{ℕ, zero, suc, _+_, _-_}
 use mathlib.Core.List.{List}
 use mathlib.Core.Option.{Option, none, some}
-use mathlib.Core.Bool.{Bool, true, false, cond, _&&_, _||_, not}
-use lib.Dec.{ltb, leb, eqb}
+use mathlib.Core.Bool.{Bool, true, false, cond, _&&_, not}
+use lib.Dec.{ltb, eqb}
 use Rattle.definitions.specs.Records.{recordOf, kindOf, field, fieldCount}
 use Rattle.definitions.specs.SheetKinds
 use Rattle.definitions.specs.Numbers.{badTree, badArguments}
 use Rattle.definitions.specs.Verdicts.{_andThen_, require, firstOf}
 use Rattle.definitions.specs.Lists.{sumOf, countOf, allOf, lastOf}
-use Rattle.definitions.specs.Layouts.{functions, nodes, firstFunction, firstNode, due, nodeRecord, bodyOf, ownerOf}
+use Rattle.definitions.specs.Layouts.{nodes, firstFunction, firstNode, due, nodeRecord, bodyOf, ownerOf}
 use Rattle.definitions.specs.Shape.{fileShape}
 use Rattle.definitions.specs.References.{parameters, arity, children, child, clauses, clauseConstructor, references}
 use Rattle.definitions.specs.declared.Layout.the-variants.{Sheet, Translation}

@@ -1,6 +1,6 @@
 -- The kinds with least, step and greatest length (document 01, "Each kind has a fixed length or a least, a step and a
 -- greatest"), in the paper's order. A fixed length is a least that is the greatest.
-use Prim.Native.Nat.{ℕ, zero, suc, _-_, _%_}
+use Prim.Native.Nat.{ℕ, _-_, _%_}
 use mathlib.Core.List.{List, [], _∷_}
 use mathlib.Core.Bool.{Bool, cond, _&&_}
 use lib.Dec.{leb, eqb}

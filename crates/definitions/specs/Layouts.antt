@@ -1,7 +1,7 @@
 -- What the two files have in common (document 01, "Files"): a head with four counts, two sections of records, then the
 -- nodes; functions own consecutive runs of nodes. `I`, `F` and `N` of the paper are `readings`, `functions` and `nodes`;
 -- `items` is `K` (constructors) in a sheet and `P` (formals) in a translation.
-use Prim.Native.Nat.{ℕ, zero, suc, pred, _+_}
+use Prim.Native.Nat.{ℕ, suc, pred, _+_}
 use mathlib.Core.List.{List}
 use mathlib.Core.Bool.{Bool, cond, _&&_}
 use lib.Dec.{leb, ltb, eqb}

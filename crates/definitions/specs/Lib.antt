@@ -4,6 +4,8 @@ pub mod Records
 pub mod SheetKinds
 pub mod TranslationKinds
 pub mod Kinds
+pub mod Ranges
+pub mod Sizes
 pub mod Numbers
 pub mod Verdicts
 pub mod Layouts

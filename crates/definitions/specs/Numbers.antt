@@ -1,6 +1,9 @@
--- The numbers of document 01's table "What the repeater reports", each with the paper's word, and the two outcomes that
--- are values.
+-- The numbers of document 01's table "What the repeater reports", each with the paper's word, the two outcomes that are
+-- values, and the classes of these numbers.
 use Prim.Native.Nat.{ℕ}
+use mathlib.Core.Bool.{Bool, _||_}
+use lib.Dec.{eqb}
+use Rattle.definitions.specs.Ranges.{within}
 
 -- "cut"
 abbrev pub truncated : ℕ
@@ -85,3 +88,19 @@ isNumber = 0
 -- the outcome of a constructor
 abbrev pub isConstructor : ℕ
 isConstructor = 100
+
+-- whether a number is a refusal's, "numbered refusal"
+unfoldable pub isRefusal : ℕ → Bool
+isRefusal n = within truncated badAllowance n
+
+-- whether it is a stop's
+unfoldable pub isStop : ℕ → Bool
+isStop n = within noStep noCell n
+
+-- whether it is a run fault's: "Run faults are 14 to 19"
+unfoldable pub isFault : ℕ → Bool
+isFault n = within numberWanted noField n
+
+-- whether it is a number's, a constructor's or a run fault's, as demand 3 speaks of an answer
+unfoldable pub isAnswer : ℕ → Bool
+isAnswer n = eqb n isNumber || eqb n isConstructor || isFault n

@@ -1,6 +1,6 @@
 -- The operators (document 01, "Operators on signed 32 bits").
-use Prim.Native.Nat.{ℕ, zero, suc, _-_, _%_, _^_}
-use mathlib.Core.Bool.{Bool, true, false, cond, not, _&&_}
+use Prim.Native.Nat.{ℕ, suc, _-_, _%_, _^_}
+use mathlib.Core.Bool.{Bool, false, cond, not, _&&_}
 use lib.IntN.{ℤ, pos, negsuc, _+ℤ_, _-ℤ_, _*ℤ_}
 use lib.Signed.{ltZ, quotZ}
 use lib.Dec.{eqb}

@@ -1,7 +1,7 @@
 -- Files as runs of records (document 01, "Files"), and the record of a number ("For record r, the reader shows that
 -- record's own bytes inside the lent file; when walking by lengths finds no whole record r, it shows an empty part").
 use Prim.Native.Nat.{ℕ, zero, suc, _+_, _*_, _-_, _/_}
-use mathlib.Core.List.{List, [], _∷_, _++_}
+use mathlib.Core.List.{List, []}
 use mathlib.Core.Bool.{Bool, cond, _&&_}
 use lib.ListN.{length, take, drop}
 use lib.Dec.{leb}

@@ -1,18 +1,17 @@
 -- Which fields of a record name what, and the check of references (document 01, "Files"; table, 5: "reference or
 -- parameter position out of range").
-use Prim.Native.Nat.{ℕ, zero, suc, _+_, _*_, _-_, _/_}
+use Prim.Native.Nat.{ℕ, _+_, _*_, _-_, _/_}
 use mathlib.Core.List.{List}
 use mathlib.Core.Bool.{Bool, true, cond, _&&_, _||_}
-use lib.Dec.{ltb, leb, eqb}
+use lib.Dec.{ltb, eqb}
 use Rattle.definitions.specs.Records.{recordOf, kindOf, field, fieldCount}
 use Rattle.definitions.specs.SheetKinds
 use Rattle.definitions.specs.TranslationKinds
 use Rattle.definitions.specs.Numbers.{outOfRange}
 use Rattle.definitions.specs.Verdicts.{require}
-use Rattle.definitions.specs.Lists.{listed, allOf}
+use Rattle.definitions.specs.Lists.{allOf}
 use Rattle.definitions.specs.Layouts.{readings, items, functions, nodes, firstNode, itemRecord, functionRecord, ownerOf}
-use Rattle.definitions.specs.declared.Layout.{Layout}
-use Rattle.definitions.specs.declared.Layout.the-variants.{Sheet, Translation}
+use Rattle.definitions.specs.declared.Layout.the-variants.{Sheet}
 use Rattle.definitions.specs.declared.Verdict.{Verdict}
 
 -- a function's parameter count and a constructor's arity, in a sheet

@@ -9,7 +9,7 @@ use lib.IntN.{ℤ, pos}
 use lib.ListN.{getD, getElem?}
 use Rattle.definitions.specs.Numbers.{noStep, noNesting, numberWanted, constructorWanted, noClause, noField}
 use Rattle.definitions.specs.Operators.{Computed, gives, faults, computed, isZero}
-use Rattle.definitions.specs.NodeFields.{Clause, chosen}
+use Rattle.definitions.specs.NodeFields.{chosen}
 use Rattle.definitions.specs.TranslationNodes.{TranslationNode, number, reading, formal, select, operator, conditional, call, tuple, caseOf, translationNodeOf, tagOf, tupleFields}
 
 -- a value: a number, or "a constructor with node and context". `C` is the type of contexts

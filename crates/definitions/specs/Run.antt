@@ -1,18 +1,19 @@
 -- A run (document 01, "Run", "Allowances", and table, 9 and 10): its answer, and the lent cells at its end.
-use Prim.Native.Nat.{ℕ, _+_, _*_, _-_}
+use Prim.Native.Nat.{ℕ, _*_, _-_}
 use mathlib.Core.List.{List, _++_}
 use mathlib.Core.Bool.{Bool, _&&_}
 use lib.IntN.{ℤ, pos}
 use lib.ListN.{length, drop}
 use lib.Dec.{leb, eqb}
+use Rattle.definitions.specs.Sizes.{mostNesting, mostCells, cellSize}
 use Rattle.definitions.specs.Numbers.{badReadings, badAllowance}
 use Rattle.definitions.specs.Verdicts.{_andThen_, require}
 use Rattle.definitions.specs.Layouts.{readings}
-use Rattle.definitions.specs.Shape.{within}
+use Rattle.definitions.specs.Ranges.{within}
 use Rattle.definitions.specs.Checks.{translationVerdict}
 use Rattle.definitions.specs.Outcomes.{Outcome, numberOutcome, constructorOutcome, endOutcome}
 use Rattle.definitions.specs.TranslationNodes.{tagOf}
-use Rattle.definitions.specs.Rule.{Value, integer, constructor, Ending, value, ended, Reached}
+use Rattle.definitions.specs.Rule.{integer, constructor, Ending, value, ended, Reached}
 use Rattle.definitions.specs.Cells.{Cell, evaluation, cellBytes}
 use Rattle.definitions.specs.declared.Verdict.{Verdict}
 use Rattle.definitions.specs.declared.Verdict.the-variants.{Accepted, Refused}
@@ -43,7 +44,7 @@ endingContext (value (integer z)) = 0
 endingContext (value (constructor k w)) = w
 endingContext (ended n) = 0
 
--- the answer of the rule at a step allowance
+-- the answer that an end of the rule is, at a step allowance
 unfoldable pub answerOf : List ℕ → ℕ → Reached ℕ (List Cell) → Answer
 answerOf b steps r =
     record {
@@ -55,38 +56,47 @@ answerOf b steps r =
       cells = length (r .state .store);
     }
 
+-- the lent cells at the end: "Stops and faults keep the cells made; bytes beyond them are untouched"
+unfoldable pub cellsOver : List ℕ → List Cell → List ℕ
+cellsOver before cs = cellBytes cs ++ drop (cellSize * length cs) before
+
+-- the rule that a run follows, with its three allowances: what it evaluates, the answer that this is, and the lent cells
+-- that it leaves. Whoever speaks of a run's rule cites these three
+unfoldable pub ruleEnd : List ℕ → List ℤ → ℕ → ℕ → ℕ → Reached ℕ (List Cell)
+ruleEnd b rs steps nesting cells = evaluation b rs steps nesting cells
+
+unfoldable pub ruleAnswer : List ℕ → List ℤ → ℕ → ℕ → ℕ → Answer
+ruleAnswer b rs steps nesting cells = answerOf b steps (ruleEnd b rs steps nesting cells)
+
+unfoldable pub ruleCells : List ℕ → List ℤ → ℕ → ℕ → ℕ → List ℕ → List ℕ
+ruleCells b rs steps nesting cells before = cellsOver before (ruleEnd b rs steps nesting cells .state .store)
+
 -- "a refusal has 0 steps and cells"
 unfoldable pub refusal : ℕ → ℕ → Answer
 refusal n p = record { outcome = n; value = pos p; steps = 0; node = 0; context = 0; cells = 0 }
 
 -- "nesting 1..1,024; cells 0..8,192, with 4 bytes lent for each"; `lent` is how many cell bytes are lent
 abbrev pub allowancesFit : ℕ → ℕ → ℕ → Bool
-allowancesFit nesting most lent = within 1 1024 nesting && leb most 8192 && leb (4 * most) lent
+allowancesFit nesting cells lent = within 1 mostNesting nesting && leb cells mostCells && leb (cellSize * cells) lent
 
 -- what a run is refused for: "the file's own checks", 9, then 10
 unfoldable pub runVerdict : List ℕ → List ℤ → ℕ → ℕ → ℕ → Verdict
-runVerdict b rs nesting most lent =
+runVerdict b rs nesting cells lent =
     translationVerdict b
     andThen require (eqb (length rs) (readings b)) badReadings 0
-    andThen require (allowancesFit nesting most lent) badAllowance 0
+    andThen require (allowancesFit nesting cells lent) badAllowance 0
 
 unfoldable pub answerAfter : Verdict → Answer → Answer
 answerAfter Accepted a = a
 answerAfter (Refused n p) a = refusal n p
 
 unfoldable pub runAnswer : List ℕ → List ℤ → ℕ → ℕ → ℕ → ℕ → Answer
-runAnswer b rs steps nesting most lent =
-    answerAfter (runVerdict b rs nesting most lent) (answerOf b steps (evaluation b rs steps nesting most))
-
--- the lent cells at the end: "Stops and faults keep the cells made; bytes beyond them are untouched"
-unfoldable pub cellsOver : List ℕ → List Cell → List ℕ
-cellsOver before cs = cellBytes cs ++ drop (4 * length cs) before
+runAnswer b rs steps nesting cells lent = answerAfter (runVerdict b rs nesting cells lent) (ruleAnswer b rs steps nesting cells)
 
 unfoldable pub bytesAfter : Verdict → List ℕ → List ℕ → List ℕ
 bytesAfter Accepted before after = after
 bytesAfter (Refused n p) before after = before
 
 unfoldable pub runCells : List ℕ → List ℤ → ℕ → ℕ → ℕ → List ℕ → List ℕ
-runCells b rs steps nesting most before =
-    bytesAfter (runVerdict b rs nesting most (length before)) before
-    (cellsOver before (evaluation b rs steps nesting most .state .store))
+runCells b rs steps nesting cells before =
+    bytesAfter (runVerdict b rs nesting cells (length before)) before (ruleCells b rs steps nesting cells before)

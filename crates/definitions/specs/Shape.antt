@@ -1,6 +1,6 @@
 -- The checks of both files up to the left-over bytes (document 01, "Order": 2; record by record 1, 3, 1, 3, 4; then 3 for
 -- bytes left over).
-use Prim.Native.Nat.{ℕ, zero, suc, _+_}
+use Prim.Native.Nat.{ℕ, suc, _+_}
 use mathlib.Core.List.{List}
 use mathlib.Core.Bool.{Bool, true, cond, _&&_, _||_}
 use lib.ListN.{length}
@@ -10,6 +10,8 @@ use Rattle.definitions.specs.Records.{startOf, recordAt, kindOf, field}
 use Rattle.definitions.specs.Kinds.{rowOf, allows}
 use Rattle.definitions.specs.SheetKinds
 use Rattle.definitions.specs.TranslationKinds
+use Rattle.definitions.specs.Ranges.{within}
+use Rattle.definitions.specs.Sizes.{sheetBytes, translationBytes, mostReadings, mostConstructors, mostFunctions, mostNodes, mostFormals, mostFields}
 use Rattle.definitions.specs.Numbers.{truncated, oversize, badRecord, badCount}
 use Rattle.definitions.specs.Verdicts.{_andThen_, require, firstOf}
 use Rattle.definitions.specs.Lists.{sumOf}
@@ -20,22 +22,18 @@ use Rattle.definitions.specs.declared.Verdict.{Verdict}
 
 -- "at most 32,768 bytes", "at most 40,960 bytes"
 abbrev pub fileLimit : Layout → ℕ
-fileLimit Sheet = 32768
-fileLimit Translation = 40960
+fileLimit Sheet = sheetBytes
+fileLimit Translation = translationBytes
 
 -- "constructors K 0..64", "formals P 0..512"
 abbrev pub itemLimit : Layout → ℕ
-itemLimit Sheet = 64
-itemLimit Translation = 512
-
--- a number between two others, both included
-unfoldable pub within : ℕ → ℕ → ℕ → Bool
-within least greatest n = leb least n && leb n greatest
+itemLimit Sheet = mostConstructors
+itemLimit Translation = mostFormals
 
 -- "readings I 0..32 .. functions F 1..64, nodes N 1..1,024"
 unfoldable pub headCounts : Layout → List ℕ → Bool
 headCounts y b =
-    within 0 32 (readings b) && within 0 (itemLimit y) (items b) && within 1 64 (functions b) && within 1 1024 (nodes b)
+    within 0 mostReadings (readings b) && within 0 (itemLimit y) (items b) && within 1 mostFunctions (functions b) && within 1 mostNodes (nodes b)
 
 -- "node count n from 1"; "sum not N (place: last function)"
 unfoldable pub runCounts : Layout → List ℕ → ℕ → List ℕ → Bool
@@ -47,8 +45,8 @@ runCounts y b r rec =
 unfoldable pub counts : Layout → List ℕ → ℕ → List ℕ → Bool
 counts y b r rec =
     cond (eqb r 0) (headCounts y b)
-    (cond (eqb (kindOf rec) SheetKinds.constructor) (within 0 8 (field rec 0))
-    (cond (eqb (kindOf rec) SheetKinds.function) (within 0 8 (field rec 0) && runCounts y b r rec)
+    (cond (eqb (kindOf rec) SheetKinds.constructor) (within 0 mostFields (field rec 0))
+    (cond (eqb (kindOf rec) SheetKinds.function) (within 0 mostFields (field rec 0) && runCounts y b r rec)
     (cond (eqb (kindOf rec) TranslationKinds.function) (runCounts y b r rec) true)))
 
 -- "operator code above 5"

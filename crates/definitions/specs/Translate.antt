@@ -1,10 +1,9 @@
 -- The translation of a sheet (document 01, "Translation"; document 002, figure 7 with section 2.1's labels): every byte of
 -- the file that results.
-use Prim.Native.Nat.{ℕ, zero, suc, _+_, _*_, _%_, _/_}
+use Prim.Native.Nat.{ℕ, suc, _+_, _*_}
 use mathlib.Core.List.{List, [], _∷_, _++_}
-use mathlib.Core.Bool.{Bool, true, false, cond, _&&_}
-use lib.IntN.{ℤ}
-use lib.ListN.{length, getD}
+use mathlib.Core.Bool.{Bool, cond, _&&_}
+use lib.ListN.{length}
 use lib.Dec.{eqb}
 use mir.Syntax.{w32}
 use Rattle.definitions.specs.Bytes.{words32, bytesOf}
@@ -15,7 +14,7 @@ use Rattle.definitions.specs.References.{parameters}
 use Rattle.definitions.specs.Operators.{residue}
 use Rattle.definitions.specs.SheetKinds
 use Rattle.definitions.specs.TranslationKinds
-use Rattle.definitions.specs.NodeFields.{Clause, fieldsFrom}
+use Rattle.definitions.specs.NodeFields.{Clause}
 use Rattle.definitions.specs.SheetNodes.{SheetNode, number, reading, parameter, patternVariable, operator, conditional, call, build, caseOf, sheetNodeOf}
 use Rattle.definitions.specs.declared.Layout.the-variants.{Sheet}
 

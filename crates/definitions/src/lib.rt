@@ -1,4 +1,6 @@
-// The types that the definitions in specs/ and the code share. The definitions are in specs/.
+// What the definitions in specs/ and the code share: types, numbers and sizes. The definitions are in specs/.
+pub mod numbers;
+pub mod sizes;
 
 // Which of the two files of document 01: a sheet or a translation.
 pub enum Layout {

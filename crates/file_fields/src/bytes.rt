@@ -1,7 +1,7 @@
 // Little-endian fields. A read is total: a byte past the end is 0.
 ghost use mathlib.Core.Path.{_≡_};
 ghost use Prim.Native.Nat.{_+_, _*_, _<_};
-ghost use lib.ListN.{getD};
+ghost use lib.ListN.{getD, length};
 ghost use Rattle.definitions.specs.Bytes.{word, word32, signed};
 
 // The byte at a place.
@@ -18,15 +18,27 @@ pub fn field_of(low: u8, high: u8) -> u16
     low as u16 + 256 * high as u16
 }
 
+// The field of two bytes at a place, both of them inside the file.
+pub fn word_inside(b: &[u8], at: usize) -> u16
+    requires { ⌜ at + 1 < length (now b) ⌝ }
+    ensures { λ r. ⌜ r ≡ word (now (b .entry)) at ⌝ }
+{
+    let low = b[at];
+    let high = b[at + 1];
+    field_of(low, high)
+}
+
 // The field of two bytes at a place.
 pub fn word(b: &[u8], at: usize) -> u16
     ensures { λ r. ⌜ r ≡ word (now (b .entry)) at ⌝ }
 {
     if at < b.len() {
-        byte(b, at) + 256 * byte(b, at + 1)
-    } else {
-        0
+        if 1 < b.len() - at {
+            return word_inside(b, at);
+        }
+        return byte(b, at);
     }
+    0
 }
 
 // The field of four bytes at a place.

@@ -6,6 +6,10 @@ ghost use Rattle.definitions.specs.Shape.{fileLimit, itemLimit};
 use crate::sheet_kinds;
 use crate::translation_kinds;
 use definitions::Layout;
+use definitions::sizes::MOST_CONSTRUCTORS;
+use definitions::sizes::MOST_FORMALS;
+use definitions::sizes::SHEET_BYTES;
+use definitions::sizes::TRANSLATION_BYTES;
 use file_fields::bytes::word;
 
 // The head's counts.
@@ -78,8 +82,20 @@ fn section_kind(y: Layout, b: &[u8], r: usize) -> u16
     ensures { λ k. ⌜ k ≡ sectionKind y (now (b .entry)) r ⌝ }
 {
     match y {
-        Layout::Sheet => { if r <= items(b) as usize { 2 } else { 3 } }
-        Layout::Translation => { if r <= functions(b) as usize { 34 } else { 35 } }
+        Layout::Sheet => {
+            if r <= items(b) as usize {
+                sheet_kinds::CONSTRUCTOR
+            } else {
+                sheet_kinds::FUNCTION
+            }
+        }
+        Layout::Translation => {
+            if r <= functions(b) as usize {
+                translation_kinds::FUNCTION
+            } else {
+                translation_kinds::FORMAL_LIST
+            }
+        }
     }
 }
 
@@ -92,14 +108,15 @@ fn node_kind(y: Layout) -> u16
     }
 }
 
-// Whether a kind is due at record `r`.
-pub fn is_due(y: Layout, b: &[u8], r: usize, kind: u16) -> bool
+// Whether a kind is due at record `r`, where the nodes start at record `first`.
+pub fn is_due(y: Layout, b: &[u8], first: usize, r: usize, kind: u16) -> bool
+    requires { ⌜ first ≡ firstNode (now b) ⌝ }
     ensures { λ t. ⌜ t ≡ isDue y (now (b .entry)) r kind ⌝ }
 {
     if r == 0 {
         return kind == head_kind(y);
     }
-    if r < first_node(b) {
+    if r < first {
         return kind == section_kind(y, b, r);
     }
     let low = node_kind(y);
@@ -124,17 +141,17 @@ pub fn file_limit(y: Layout) -> usize
     ensures { λ r. ⌜ r ≡ fileLimit y ⌝ }
 {
     match y {
-        Layout::Sheet => 32768,
-        Layout::Translation => 40960,
+        Layout::Sheet => SHEET_BYTES,
+        Layout::Translation => TRANSLATION_BYTES,
     }
 }
 
 // The greatest count of items: "constructors K 0..64", "formals P 0..512".
-pub fn item_limit(y: Layout) -> u16
+pub fn item_limit(y: Layout) -> usize
     ensures { λ r. ⌜ r ≡ itemLimit y ⌝ }
 {
     match y {
-        Layout::Sheet => 64,
-        Layout::Translation => 512,
+        Layout::Sheet => MOST_CONSTRUCTORS,
+        Layout::Translation => MOST_FORMALS,
     }
 }

@@ -1,12 +1,13 @@
 -- Laws of an index: it shows the same records as walking, and it grows by the place of the next record.
 use mathlib.Core.Path.{_≡_, refl, sym, ap, _∙_}
-use Prim.Native.Nat.{ℕ, zero, suc, _+_, _≤_, _<_}
+use Prim.Native.Nat.{ℕ, _+_, _≤_, _<_}
 use mathlib.Core.List.{List}
 use native.Mathlib.Omega.{arith}
-use native.Mathlib.Numerals.{add-one}
-use lib.ListN.{getD, set, length}
-use lib.Seq.{getD-set-same, getD-set-other}
-use Rattle.definitions.specs.Records.{startOf, recordAt, recordOf, kindOf, field}
+use lib.ListN.{getD}
+use Rattle.definitions.specs.Sizes.{mostRecords}
+use Rattle.definitions.specs.SheetKinds
+use Rattle.definitions.specs.TranslationKinds
+use Rattle.definitions.specs.Records.{recordAt, recordOf, kindOf, field}
 use Rattle.definitions.specs.Layouts.{due}
 use Rattle.definitions.specs.declared.Layout.{Layout}
 use Rattle.definitions.specs.declared.Layout.the-variants.{Sheet, Translation}
@@ -14,19 +15,18 @@ use Rattle.laws.proofs.Names.{sheet-kind, translation-kind}
 use Rattle.accepted.proofs.Records.{kind-due}
 use Rattle.file_records.specs.Index.{Indexed, Opened, startIn}
 use borrow.Author.Tests.{lt-ltb, le-ltb}
-use Rattle.laws.proofs.Lists.{below-suc}
 
 -- an entry, and past the end
-pub start-inside : (starts : List ℕ) (r x : ℕ) → r < 1601 → x ≡ getD starts r 0 → x ≡ startIn starts r
+pub start-inside : (starts : List ℕ) (r x : ℕ) → r < mostRecords → x ≡ getD starts r 0 → x ≡ startIn starts r
 unfolding startIn
-start-inside starts r x h e = rw (lt-ltb r 1601 h) e
+start-inside starts r x h e = rw (lt-ltb r mostRecords h) e
 
-pub start-past : (starts : List ℕ) (r : ℕ) → 1601 ≤ r → 0 ≡ startIn starts r
+pub start-past : (starts : List ℕ) (r : ℕ) → mostRecords ≤ r → 0 ≡ startIn starts r
 unfolding startIn
-start-past starts r h = rw (le-ltb r 1601 h) refl
+start-past starts r h = rw (le-ltb r mostRecords h) refl
 
 -- past the end, the record at place 0
-pub record-past : (b starts rec : List ℕ) (r : ℕ) → 1601 ≤ r → rec ≡ recordAt b 0 → rec ≡ recordAt b (startIn starts r)
+pub record-past : (b starts rec : List ℕ) (r : ℕ) → mostRecords ≤ r → rec ≡ recordAt b 0 → rec ≡ recordAt b (startIn starts r)
 record-past b starts rec r h e = e ∙ ap (recordAt b) (start-past starts r h)
 
 -- a field of the record that an index shows a number of records after a first one
@@ -59,15 +59,10 @@ fewer b starts n m h i = record { entry = λ r k. i .entry r (omega arith); room
 pub opened-record : (y : Layout) (b starts : List ℕ) (r : ℕ) (rec : List ℕ) → Opened y b starts → r < due b → rec ≡ recordAt b (startIn starts r) → rec ≡ recordOf b r
 opened-record y b starts r rec o h e = indexed-record b starts (due b) r rec (o .index) h e
 
-pub opened-translation-kind : (b starts : List ℕ) (r : ℕ) (rec : List ℕ) → Opened Translation b starts → r < due b → rec ≡ recordAt b (startIn starts r) → 33 ≤ kindOf rec
+pub opened-translation-kind : (b starts : List ℕ) (r : ℕ) (rec : List ℕ) → Opened Translation b starts → r < due b → rec ≡ recordAt b (startIn starts r) → TranslationKinds.head ≤ kindOf rec
 opened-translation-kind b starts r rec o h e =
     rw (opened-record Translation b starts r rec o h e)
     (translation-kind b r (kindOf (recordOf b r)) (kind-due Translation b (o .accepted) r h))
 
-pub opened-sheet-kind : (b starts : List ℕ) (r : ℕ) (rec : List ℕ) → Opened Sheet b starts → r < due b → rec ≡ recordAt b (startIn starts r) → kindOf rec ≤ 24
-opened-sheet-kind b starts r rec o h e =
-    rw (opened-record Sheet b starts r rec o h e)
-    (sheet-kind b r (kindOf (recordOf b r)) (kind-due Sheet b (o .accepted) r h))
-
-pub numbered-sheet-kind : (b starts : List ℕ) (r : ℕ) (rec : List ℕ) → Opened Sheet b starts → r < due b → rec ≡ recordOf b r → kindOf rec ≤ 24
+pub numbered-sheet-kind : (b starts : List ℕ) (r : ℕ) (rec : List ℕ) → Opened Sheet b starts → r < due b → rec ≡ recordOf b r → kindOf rec ≤ SheetKinds.caseOf
 numbered-sheet-kind b starts r rec o h e = rw e (sheet-kind b r (kindOf (recordOf b r)) (kind-due Sheet b (o .accepted) r h))

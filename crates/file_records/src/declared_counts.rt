@@ -8,11 +8,12 @@ ghost use Rattle.file_records.specs.Index.{startIn};
 use crate::records::field;
 use crate::records::indexed_from;
 use definitions::Layout;
+use definitions::sizes::Starts;
 use file_layout::layout::first_function;
 use file_layout::layout::first_item;
 
 // A function's parameter count: field 0 of the record that the index shows for it.
-pub fn parameters(b: &[u8], starts: &[u16; 1601], f: usize) -> u16
+pub fn parameters(b: &[u8], starts: &Starts, f: usize) -> u16
     ensures { λ r. ⌜ r ≡ field (recordAt (now (b .entry)) (startIn (now (starts .entry)) (firstFunction Sheet (now (b .entry)) + f))) 0 ⌝ }
 {
     field(
@@ -22,7 +23,7 @@ pub fn parameters(b: &[u8], starts: &[u16; 1601], f: usize) -> u16
 }
 
 // A constructor's arity: field 0 of the record that the index shows for it.
-pub fn arity(b: &[u8], starts: &[u16; 1601], k: usize) -> u16
+pub fn arity(b: &[u8], starts: &Starts, k: usize) -> u16
     ensures { λ r. ⌜ r ≡ field (recordAt (now (b .entry)) (startIn (now (starts .entry)) (firstItem Sheet (now (b .entry)) + k))) 0 ⌝ }
 {
     field(indexed_from(b, starts, first_item(Layout::Sheet, b), k), 0)

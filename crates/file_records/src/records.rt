@@ -1,9 +1,12 @@
 // Records: where they stand, and a record as a part of the caller's file.
 ghost use mathlib.Core.Path.{_≡_};
-ghost use Prim.Native.Nat.{_+_, _≤_};
+ghost use Prim.Native.Nat.{_+_, _≤_, _<_};
 ghost use Rattle.file_records.specs.Index.{startIn};
 ghost use Rattle.definitions.specs.Records.{whole, next, startOf, recordAt, recordOf, kindOf, field, fieldCount};
+use definitions::sizes::MOST_RECORDS;
+use definitions::sizes::Starts;
 use file_fields::bytes::word;
+use file_fields::bytes::word_inside;
 
 // Whether a whole record stands at a place.
 fn is_whole(b: &[u8], at: usize) -> bool
@@ -47,8 +50,9 @@ pub fn start(b: &[u8], r: usize) -> usize
 pub fn record_at(b: &[u8], at: usize) -> &[u8]
     ensures { λ r. ⌜ now r ≡ recordAt (now (b .entry)) at ⌝ }
 {
+    let n = word(b, at) as usize;
     if is_whole(b, at) {
-        let end = at + word(b, at) as usize;
+        let end = at + n;
         &b[at..end]
     } else {
         &b[..0]
@@ -84,14 +88,14 @@ pub fn wide8(x: u8) -> usize
 }
 
 // Where record `r` starts by an index; 0 past the index.
-pub fn start_in(starts: &[u16; 1601], r: usize) -> usize
+pub fn start_in(starts: &Starts, r: usize) -> usize
     ensures { λ at. ⌜ (at ≡ startIn (now (starts .entry)) r) × (at ≤ 65535) ⌝ }
 {
-    if r < 1601 { wide(starts[r]) } else { 0 }
+    if r < MOST_RECORDS { wide(starts[r]) } else { 0 }
 }
 
 // Record `r` by an index, in constant time: the record at the place that the index names.
-pub fn indexed<'a>(b: &'a [u8], starts: &[u16; 1601], r: usize) -> &'a [u8]
+pub fn indexed<'a>(b: &'a [u8], starts: &Starts, r: usize) -> &'a [u8]
     ensures { λ p. ⌜ now p ≡ recordAt (now (b .entry)) (startIn (now (starts .entry)) r) ⌝ }
 {
     record_at(b, start_in(starts, r))
@@ -99,18 +103,13 @@ pub fn indexed<'a>(b: &'a [u8], starts: &[u16; 1601], r: usize) -> &'a [u8]
 
 // Record `first + i` by an index, also where no number of the machine's width is that sum: past the index it shows the record
 // at place 0.
-pub(crate) fn indexed_from<'a>(
-    b: &'a [u8],
-    starts: &[u16; 1601],
-    first: usize,
-    i: usize,
-) -> &'a [u8]
+pub(crate) fn indexed_from<'a>(b: &'a [u8], starts: &Starts, first: usize, i: usize) -> &'a [u8]
     ensures { λ p. ⌜ now p ≡ recordAt (now (b .entry)) (startIn (now (starts .entry)) (first + i)) ⌝ }
 {
-    if 1601 <= first {
+    if MOST_RECORDS <= first {
         return record_at(b, 0);
     }
-    if 1601 <= i {
+    if MOST_RECORDS <= i {
         return record_at(b, 0);
     }
     indexed(b, starts, first + i)
@@ -132,6 +131,14 @@ pub fn field(rec: &[u8], j: usize) -> u16
     } else {
         0
     }
+}
+
+// Field `j` of a record that has it.
+pub fn field_inside(rec: &[u8], j: usize) -> u16
+    requires { ⌜ j < fieldCount (now rec) ⌝ }
+    ensures { λ r. ⌜ r ≡ field (now (rec .entry)) j ⌝ }
+{
+    word_inside(rec, 4 + 2 * j)
 }
 
 // How many fields a record has.

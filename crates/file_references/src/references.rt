@@ -1,13 +1,15 @@
 // Which fields of a record name nodes, and the check of references.
 ghost use mathlib.Core.Path.{_≡_};
-ghost use Prim.Native.Nat.{_<_};
+ghost use Prim.Native.Nat.{_+_, _*_, _-_, _/_, _<_};
 ghost use lib.Dec.{ltb};
 ghost use Rattle.definitions.specs.Lists.{allOf};
-ghost use Rattle.definitions.specs.References.{fromFirst, fromSecond, everyOther, childCount, childField, children, child, clauses, clauseConstructor};
+ghost use Rattle.definitions.specs.Records.{kindOf, field, fieldCount};
+ghost use Rattle.definitions.specs.References.{fromFirst, fromSecond, everyOther, childCount, children, child, clauses, clauseConstructor};
 use file_layout::sheet_kinds;
 use file_layout::translation_kinds;
 use file_records::records::field;
 use file_records::records::field_count;
+use file_records::records::field_inside;
 use file_records::records::kind;
 
 // Kinds in which every other field names a node: case and select.
@@ -100,6 +102,20 @@ pub fn child(rec: &[u8], j: usize) -> u16
     field(rec, 1 + j)
 }
 
+// The j-th node that a record of kind `k` names, where it names more than j nodes.
+pub fn child_inside(rec: &[u8], k: u16, j: usize) -> u16
+    requires { ⌜ (j < children (now rec)) × (k ≡ kindOf (now rec)) ⌝ }
+    ensures { λ r. ⌜ r ≡ child (now (rec .entry)) j ⌝ }
+{
+    if every_other(k) {
+        return field_inside(rec, 2 * j);
+    }
+    if from_first(k) {
+        return field_inside(rec, j);
+    }
+    field_inside(rec, 1 + j)
+}
+
 // How many clauses a case has, and the constructor of clause j.
 pub fn clauses(rec: &[u8]) -> usize
     ensures { λ r. ⌜ r ≡ clauses (now (rec .entry)) ⌝ }
@@ -117,17 +133,54 @@ pub fn clause_constructor(rec: &[u8], j: usize) -> u16
     }
 }
 
+// Whether every field of a record from field `from` on is below a limit.
+fn fields_below(rec: &[u8], from: usize, limit: usize) -> bool
+    ensures { λ t. ⌜ t ≡ allOf (fieldCount (now (rec .entry)) - from) (λ j. ltb (field (now (rec .entry)) (from + j)) limit) ⌝ }
+{
+    let n = field_count(rec);
+    if n < from {
+        return true;
+    }
+    let count = n - from;
+    let mut j: usize = 0;
+    while j < count {
+        if limit <= field_inside(rec, from + j) as usize {
+            return false;
+        }
+        j += 1;
+    }
+    true
+}
+
+// Whether every other field of a record, from the first on, is below a limit.
+fn other_fields_below(rec: &[u8], limit: usize) -> bool
+    ensures { λ t. ⌜ t ≡ allOf ((fieldCount (now (rec .entry)) + 1) / 2) (λ j. ltb (field (now (rec .entry)) (2 * j)) limit) ⌝ }
+{
+    let n = field_count(rec);
+    let count = n / 2 + n % 2;
+    let mut j: usize = 0;
+    while j < count {
+        if limit <= field_inside(rec, 2 * j) as usize {
+            return false;
+        }
+        j += 1;
+    }
+    true
+}
+
 // Whether every node that a record names is below a limit.
 pub fn children_below(rec: &[u8], limit: usize) -> bool
     ensures { λ t. ⌜ t ≡ allOf (children (now (rec .entry))) (λ j. ltb (child (now (rec .entry)) j) limit) ⌝ }
 {
-    let count = children(rec);
-    let mut j: usize = 0;
-    while j < count {
-        if limit <= child(rec, j) as usize {
-            return false;
-        }
-        j += 1;
+    let k = kind(rec);
+    if every_other(k) {
+        return other_fields_below(rec, limit);
+    }
+    if from_first(k) {
+        return fields_below(rec, 0, limit);
+    }
+    if from_second(k) {
+        return fields_below(rec, 1, limit);
     }
     true
 }

@@ -1,19 +1,24 @@
 -- What the writer writes into its space: words of two bytes, the lower byte first. A record's first word is its length in bytes.
-use Prim.Native.Nat.{ℕ, zero, suc, _+_, _*_, _/_, _%_}
+use Prim.Native.Nat.{ℕ, zero, suc, _+_, _-_, _*_, _/_, _%_}
 use mathlib.Core.List.{List, [], _∷_}
 use mathlib.Core.Bool.{Bool, cond}
 use mathlib.Core.Path.{_≡_}
 use lib.Dec.{leb, ltb}
 use lib.ListN.{length, getD}
 use lib.Seq.{sets}
+use Rattle.definitions.specs.Sizes.{translationBytes}
 
 -- how many bytes the space has: one more than document 01 allows the larger of its two files
 abbrev pub spaceBytes : ℕ
-spaceBytes = 40961
+spaceBytes = translationBytes + 1
 
 -- a word fits at the places below this one
 abbrev pub wordPlaces : ℕ
-wordPlaces = 40960
+wordPlaces = spaceBytes - 1
+
+-- a walk over records stays below this place: it goes on from a place where a word fits, by a word, which is below 65,536
+abbrev pub walkEnd : ℕ
+walkEnd = wordPlaces + 65536
 
 -- the two bytes of a word, the lower first
 unfoldable pub wordBytes : ℕ → List ℕ

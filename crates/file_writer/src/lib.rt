@@ -2,13 +2,14 @@
 // total: what does not fit is not written.
 ghost use mathlib.Core.Path.{_≡_};
 ghost use Prim.Native.Nat.{_+_, _*_, _<_};
-ghost use Rattle.file_writer.specs.Writing.{wordBytes, written, Written, skipped, startOf};
+ghost use Rattle.file_writer.specs.Writing.{walkEnd, wordBytes, written, Written, skipped, startOf};
+use definitions::sizes::TRANSLATION_BYTES;
 
 // How many bytes the space has: one more than document 01 allows the larger of its two files.
-const SPACE_BYTES: usize = 40961;
+pub const SPACE_BYTES: usize = TRANSLATION_BYTES + 1;
 
 // A word fits at the places below this one.
-const WORD_PLACES: usize = 40960;
+const WORD_PLACES: usize = SPACE_BYTES - 1;
 
 // The space that a file is written in.
 pub type Space = [u8; SPACE_BYTES];
@@ -35,7 +36,7 @@ fn wide(byte: u8) -> usize
 
 // The place after the record at a place, by its length.
 fn skip(file: &Space, at: usize) -> usize
-    ensures { λ r. ⌜ (r ≡ skipped (now (file .entry)) at) × (r < 106496) ⌝ }
+    ensures { λ r. ⌜ (r ≡ skipped (now (file .entry)) at) × (r < walkEnd) ⌝ }
 {
     if at < WORD_PLACES {
         at + (wide(file[at]) + 256 * wide(file[at + 1]))
@@ -46,7 +47,7 @@ fn skip(file: &Space, at: usize) -> usize
 
 // Where record `r` starts, by walking over the lengths.
 fn start(file: &Space, r: usize) -> usize
-    ensures { λ at. ⌜ (at ≡ startOf (now (file .entry)) r) × (at < 106496) ⌝ }
+    ensures { λ at. ⌜ (at ≡ startOf (now (file .entry)) r) × (at < walkEnd) ⌝ }
 {
     let mut at: usize = 0;
     let mut i: usize = 0;

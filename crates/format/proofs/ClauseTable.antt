@@ -1,29 +1,27 @@
 -- Laws of the table of clauses: a node that is no body has a larger parent, so the table is filled from the last node on.
 use mathlib.Core.Path.{_≡_, refl, sym, ap, _∙_}
-use Prim.Native.Nat.{ℕ, zero, suc, pred, _+_, _-_, _≤_, _<_}
+use Prim.Native.Nat.{ℕ, zero, suc, _+_, _-_, _≤_, _<_}
 use mathlib.Core.List.{List}
 use mathlib.Core.Option.{Option, none, some, Option·some-injective, Option·none-ne-some}
 use mathlib.Core.Bool.{Bool, true, false, cond, not, _&&_, and-eq-true-iff}
 use native.Mathlib.Omega.{arith}
-use native.Mathlib.Numerals.{add-one, sub-one}
-use lib.ListN.{getD, set, length, length-set}
-use lib.Seq.{getD-set-same, getD-set-other}
-use lib.Dec.{leb, ltb, eqb}
+use native.Mathlib.Numerals.{sub-one}
+use lib.Dec.{ltb, eqb}
+use Rattle.definitions.specs.Numbers.{badTree, outOfRange}
+use Rattle.definitions.specs.SheetKinds
 use borrow.Author.Tests.{ltb-true, eqb-true, eqb-false, eq-eqb, ne-eqb, not-true}
-use Rattle.definitions.specs.Records.{kindOf, field}
-use Rattle.definitions.specs.Lists.{countOf, sumOf, allOf, lastOf}
-use Rattle.definitions.specs.Verdicts.{_andThen_, firstOf, require}
-use Rattle.definitions.specs.Layouts.{items, nodes, firstNode, due, nodeRecord, ownerOf}
-use Rattle.definitions.specs.References.{arity, children, child, clauses, clauseConstructor, namesInRange, inRange, references}
-use Rattle.definitions.specs.Checks.{arguments, timesChild, isBody, childrenRight, treeRight, tree, parentOf, clauseOf, clauseWithin, belowArity, patternRight, pattern}
-use Rattle.definitions.specs.declared.Layout.the-variants.{Sheet}
-use Rattle.definitions.specs.declared.Verdict.{Verdict}
-use Rattle.definitions.specs.declared.Verdict.the-variants.{Accepted, Refused}
+use Rattle.definitions.specs.Records.{kindOf}
+use Rattle.definitions.specs.Lists.{countOf, allOf, lastOf}
+use Rattle.definitions.specs.Verdicts.{_andThen_, firstOf}
+use Rattle.definitions.specs.Layouts.{items, nodes, firstNode, due, nodeRecord}
+use Rattle.definitions.specs.References.{children, child, clauses, clauseConstructor, namesInRange, inRange, references}
+use Rattle.definitions.specs.Checks.{arguments, timesChild, isBody, childrenRight, treeRight, tree, parentOf, clauseOf, clauseWithin}
+use Rattle.definitions.specs.declared.Verdict.the-variants.{Accepted}
 use Rattle.laws.proofs.Lists.{all-each}
-use Rattle.laws.proofs.Verdicts.{both-accepted, first-each, required, require-true, require-false}
-use Rattle.accepted.proofs.Sums.{Below, sum-found}
+use Rattle.laws.proofs.Verdicts.{both-accepted, first-each, required}
+use Rattle.accepted.proofs.Sums.{sum-found}
 use Rattle.accepted.proofs.Counts.{count-found, last-found}
-use Rattle.format.specs.Clauses.{entryOf, ClausesOf}
+use Rattle.format.specs.Clauses.{entryOf}
 
 -- the clause of a case's record that node k is, from the last clause on
 clause-here : (rec : List ℕ) (k j x y : ℕ) → 0 < j → x ≡ child rec j → x ≡ k → y ≡ clauseConstructor rec (j - 1) → 1 + y ≡ entryOf (clauseOf rec j k)
@@ -61,7 +59,7 @@ clause-not-found rec k j w h = clause-none rec k j h ∙ ap entryOf (sym (w .sam
 module _ (b : List ℕ) (accepted : firstOf (nodes b) (tree b) ≡ Accepted) where
   right : (k : ℕ) → k < nodes b → treeRight b k ≡ true
   unfolding tree
-  right k h = required (treeRight b k) 6 (firstNode b + k) (first-each (nodes b) (tree b) accepted k h)
+  right k h = required (treeRight b k) badTree (firstNode b + k) (first-each (nodes b) (tree b) accepted k h)
 
   two-rules : (k : ℕ) → k < nodes b → (childrenRight b k && cond (isBody b k) true (eqb (timesChild b k) 1)) ≡ true
   unfolding treeRight
@@ -101,7 +99,9 @@ module _ (b : List ℕ) (accepted : firstOf (nodes b) (tree b) ≡ Accepted) whe
       (child-smaller k (lastOf (nodes b) test) (found .0) some-child, found .0)
 
   -- looking further up than there are nodes finds nothing more
-  by-parent : (k : ℕ) (x y : Option ℕ) (t u : Bool) → isBody b k ≡ t → (isBody b k ≡ false → x ≡ y) → cond t none (cond u (clauseOf (nodeRecord b (parentOf b k)) (clauses (nodeRecord b (parentOf b k))) k) x) ≡ cond t none (cond u (clauseOf (nodeRecord b (parentOf b k)) (clauses (nodeRecord b (parentOf b k))) k) y)
+  by-parent : (k : ℕ) (x y : Option ℕ) (t u : Bool) → isBody b k ≡ t → (isBody b k ≡ false → x ≡ y)
+      → cond t none (cond u (clauseOf (nodeRecord b (parentOf b k)) (clauses (nodeRecord b (parentOf b k))) k) x)
+      ≡ cond t none (cond u (clauseOf (nodeRecord b (parentOf b k)) (clauses (nodeRecord b (parentOf b k))) k) y)
   by-parent k x y true u e f = refl
   by-parent k x y false true e f = refl
   by-parent k x y false false e f = f e
@@ -111,7 +111,7 @@ module _ (b : List ℕ) (accepted : firstOf (nodes b) (tree b) ≡ Accepted) whe
   within-stable zero e k h i l = absurd (omega arith)
   within-stable (suc d) zero k h i l = absurd (omega arith)
   within-stable (suc d) (suc e) k h i l =
-      by-parent k (clauseWithin b d (parentOf b k)) (clauseWithin b e (parentOf b k)) (isBody b k) (eqb (kindOf (nodeRecord b (parentOf b k))) 24) refl
+      by-parent k (clauseWithin b d (parentOf b k)) (clauseWithin b e (parentOf b k)) (isBody b k) (eqb (kindOf (nodeRecord b (parentOf b k))) SheetKinds.caseOf) refl
       (λ q. let p = parent-above k l q in within-stable d e (parentOf b k) (omega (arith, h, p .0)) (omega (arith, i, p .0)) (p .1))
 
   -- the entry of node k, from its parent's
@@ -124,13 +124,13 @@ module _ (b : List ℕ) (accepted : firstOf (nodes b) (tree b) ≡ Accepted) whe
 
   module _ (k : ℕ) (h : k < nodes b) (t : Bool) (et : t ≡ isBody b k) (ht : t ≡ false) (p : ℕ) (ep : p ≡ parentOf b k) (rec : List ℕ) (er : rec ≡ nodeRecord b p)
       (i : ℕ) (ei : i ≡ kindOf rec) where
-    pub entry-of-clause : (x : ℕ) → i ≡ 24 → x ≡ entryOf (clauseOf rec (clauses rec) k) → x ≡ entryOf (clauseWithin b (nodes b) k)
+    pub entry-of-clause : (x : ℕ) → i ≡ SheetKinds.caseOf → x ≡ entryOf (clauseOf rec (clauses rec) k) → x ≡ entryOf (clauseWithin b (nodes b) k)
     unfolding clauseWithin
     entry-of-clause x e f = rw (whole-depth k h, ← et, ht, ← ep, ← er, ← ei, e) f
 
-    pub entry-of-parent : (x : ℕ) → (i ≡ 24 → ⊥) → x ≡ entryOf (clauseWithin b (nodes b) p) → x ≡ entryOf (clauseWithin b (nodes b) k)
+    pub entry-of-parent : (x : ℕ) → (i ≡ SheetKinds.caseOf → ⊥) → x ≡ entryOf (clauseWithin b (nodes b) p) → x ≡ entryOf (clauseWithin b (nodes b) k)
     unfolding clauseWithin
-    entry-of-parent x e f = rw (whole-depth k h, ← et, ht, ← ep, ← er, ← ei, ne-eqb i 24 e) f
+    entry-of-parent x e f = rw (whole-depth k h, ← et, ht, ← ep, ← er, ← ei, ne-eqb i SheetKinds.caseOf e) f
 
 -- a clause's constructor is one of the record's
 found-below : (rec : List ℕ) (k n m c : ℕ) (t : Bool) (rest : Option ℕ) → clauseConstructor rec n < m → (rest ≡ some c → c < m)
@@ -146,25 +146,25 @@ clause-of-below rec k (suc n) m c h e =
 
 module _ (b : List ℕ) (accepted : firstOf (nodes b) (tree b) ≡ Accepted)
     (named : firstOf (due b) (λ r. references b r andThen arguments b r) ≡ Accepted) where
-  constructors-below : (p : ℕ) → p < nodes b → kindOf (nodeRecord b p) ≡ 24 → (j : ℕ) → j < clauses (nodeRecord b p) → clauseConstructor (nodeRecord b p) j < items b
+  constructors-below : (p : ℕ) → p < nodes b → kindOf (nodeRecord b p) ≡ SheetKinds.caseOf → (j : ℕ) → j < clauses (nodeRecord b p) → clauseConstructor (nodeRecord b p) j < items b
   unfolding references inRange namesInRange
   constructors-below p h e j l =
       let r = firstNode b + p in
       let v = both-accepted (references b r) (arguments b r) (first-each (due b) (λ r. references b r andThen arguments b r) named r (omega arith)) .0 in
-      let t = and-eq-true-iff (allOf (children (nodeRecord b p)) (λ j. ltb (child (nodeRecord b p) j) (nodes b))) (namesInRange b r (nodeRecord b p)) .0 (required _ 5 r v) .1 in
+      let t = and-eq-true-iff (allOf (children (nodeRecord b p)) (λ j. ltb (child (nodeRecord b p) j) (nodes b))) (namesInRange b r (nodeRecord b p)) .0 (required _ outOfRange r v) .1 in
       ltb-true _ _ (all-each (clauses (nodeRecord b p)) (λ i. ltb (clauseConstructor (nodeRecord b p) i) (items b)) (rw e at t) j l)
 
-  held-below : (k d c : ℕ) (t u : Bool) → isBody b k ≡ t → eqb (kindOf (nodeRecord b (parentOf b k))) 24 ≡ u → k < nodes b
+  held-below : (k d c : ℕ) (t u : Bool) → isBody b k ≡ t → eqb (kindOf (nodeRecord b (parentOf b k))) SheetKinds.caseOf ≡ u → k < nodes b
       → (parentOf b k < nodes b → clauseWithin b d (parentOf b k) ≡ some c → c < items b)
       → cond t none (cond u (clauseOf (nodeRecord b (parentOf b k)) (clauses (nodeRecord b (parentOf b k))) k) (clauseWithin b d (parentOf b k))) ≡ some c → c < items b
   held-below k d c true u e f h g q = absurd (Option·none-ne-some c q)
   held-below k d c false true e f h g q =
       clause-of-below (nodeRecord b (parentOf b k)) k (clauses (nodeRecord b (parentOf b k))) (items b) c
-      (constructors-below (parentOf b k) (parent-above b accepted k h e .1) (eqb-true (kindOf (nodeRecord b (parentOf b k))) 24 f)) q
+      (constructors-below (parentOf b k) (parent-above b accepted k h e .1) (eqb-true (kindOf (nodeRecord b (parentOf b k))) SheetKinds.caseOf f)) q
   held-below k d c false false e f h g q = g (parent-above b accepted k h e .1) q
 
   pub within-below : (d k c : ℕ) → k < nodes b → clauseWithin b d k ≡ some c → c < items b
   unfolding clauseWithin
   within-below zero k c h e = absurd (Option·none-ne-some c e)
   within-below (suc d) k c h e =
-      held-below k d c (isBody b k) (eqb (kindOf (nodeRecord b (parentOf b k))) 24) refl refl h (λ l q. within-below d (parentOf b k) c l q) e
+      held-below k d c (isBody b k) (eqb (kindOf (nodeRecord b (parentOf b k))) SheetKinds.caseOf) refl refl h (λ l q. within-below d (parentOf b k) c l q) e

@@ -1,29 +1,31 @@
 -- Laws of the pattern rules over an opened sheet's tables.
-use mathlib.Core.Path.{_≡_, refl, sym, ap, _∙_}
-use Prim.Native.Nat.{ℕ, zero, suc, _+_, _-_, _≤_, _<_}
+use mathlib.Core.Path.{_≡_, refl, sym, _∙_}
+use Prim.Native.Nat.{ℕ, _+_, _-_, _≤_, _<_}
 use mathlib.Core.List.{List}
 use mathlib.Core.Option.{Option, none, some}
-use mathlib.Core.Bool.{Bool, true, false, cond}
+use mathlib.Core.Bool.{Bool, true, false}
 use native.Mathlib.Omega.{arith}
 use native.Mathlib.Decide.{ℕ-discrete}
 use native.Mathlib.Nat.{add-sub-cancel-left}
 use lib.ListN.{getD, set, length, length-set}
 use lib.Seq.{getD-set-same, getD-set-other}
-use lib.Dec.{ltb, eqb}
-use borrow.Author.Tests.{eq-eqb, ne-eqb}
+use lib.Dec.{ltb}
+use Rattle.definitions.specs.Numbers.{badTree}
+use Rattle.definitions.specs.SheetKinds
+use Rattle.definitions.specs.Sizes.{mostNodes}
+use borrow.Author.Tests.{ne-eqb}
 use Rattle.definitions.specs.Records.{recordAt, kindOf, field}
 use Rattle.definitions.specs.Layouts.{items, nodes, firstNode, nodeRecord}
 use Rattle.definitions.specs.References.{arity, clauses}
 use Rattle.definitions.specs.Checks.{isBody, parentOf, clauseOf, clauseWithin, belowArity, patternRight, pattern}
 use Rattle.definitions.specs.declared.Layout.the-variants.{Sheet}
-use Rattle.definitions.specs.declared.Verdict.{Verdict}
 use Rattle.definitions.specs.declared.Verdict.the-variants.{Accepted, Refused}
 use Rattle.laws.proofs.Verdicts.{require-true, require-false}
 use Rattle.accepted.proofs.Head.{nodes-limit}
 use Rattle.file_records.specs.Index.{Opened, startIn}
-use Rattle.format.specs.Readers.{RunEnds, Owners, NodeAt}
+use Rattle.format.specs.Readers.{NodeAt}
 use Rattle.format.specs.Seen.{ParentsOf, TreesAccepted}
-use Rattle.format.specs.Clauses.{entryOf, ClausesOf, ClausesFrom}
+use Rattle.format.specs.Clauses.{entryOf, ClausesOf, ClausesFrom, Ruled}
 use Rattle.file_records.proofs.Indices.{opened-record}
 use Rattle.format.proofs.ClauseTable.{parent-above, entry-of-body, entry-of-clause, entry-of-parent, within-below}
 
@@ -42,51 +44,43 @@ module _ (b starts ends owners parents : List ℕ) (k : ℕ) (w : NodeAt b start
     parent-node : p < nodes b
     parent-node = rw parent-is (parent-above b (a .trees) k (w .below) (sym et ∙ ht) .1)
 
-    pub parent-in-table : p < 1024
+    pub parent-in-table : p < mostNodes
     parent-in-table = omega (arith, parent-node, nodes-limit Sheet b (w .file .accepted))
 
     module _ (f : ℕ) (ef : f ≡ firstNode b) (rec : List ℕ) (er : rec ≡ recordAt b (startIn starts (f + p))) (i : ℕ) (ei : i ≡ kindOf rec) where
       parent-record : rec ≡ nodeRecord b p
       parent-record = opened-record Sheet b starts (f + p) rec (w .file) (omega (arith, ef, parent-node)) er ∙ rw ef refl
 
-      pub clause-entry : (x : ℕ) → i ≡ 24 → x ≡ entryOf (clauseOf rec (clauses rec) k) → x ≡ entryOf (clauseWithin b (nodes b) k)
+      pub clause-entry : (x : ℕ) → i ≡ SheetKinds.caseOf → x ≡ entryOf (clauseOf rec (clauses rec) k) → x ≡ entryOf (clauseWithin b (nodes b) k)
       clause-entry x e g = entry-of-clause b (a .trees) k (w .below) t et ht p parent-is rec parent-record i ei x e g
 
-      pub parent-entry : (held : List ℕ) → ClausesFrom b held (k + 1) → (i ≡ 24 → ⊥) → getD held p 0 ≡ entryOf (clauseWithin b (nodes b) k)
+      pub parent-entry : (held : List ℕ) → ClausesFrom b held (k + 1) → (i ≡ SheetKinds.caseOf → ⊥) → getD held p 0 ≡ entryOf (clauseWithin b (nodes b) k)
       parent-entry held c e =
           entry-of-parent b (a .trees) k (w .below) t et ht p parent-is rec parent-record i ei (getD held p 0) e
           (c .entry p (omega (arith, parent-larger)) parent-node)
 
 -- the table while it is filled
 pub record Filling (b starts ends owners parents held : List ℕ) (k : ℕ) : Type 0 where
-  pub file : Opened Sheet b starts
-  pub runs : RunEnds Sheet b ends
-  pub owned : Owners b owners
-  pub parents-right : ParentsOf b parents
-  pub checks : TreesAccepted b
-  pub size : length held ≡ 1024
+  pub ruled : Ruled b starts ends owners parents
+  pub size : length held ≡ mostNodes
   pub reached : k ≤ nodes b
-  pub room : k ≤ 1024
+  pub room : k ≤ mostNodes
   pub right : ClausesFrom b held k
 
-pub filling-begins : (b starts ends owners parents held : List ℕ) (k : ℕ) → Opened Sheet b starts → RunEnds Sheet b ends → Owners b owners → ParentsOf b parents → TreesAccepted b
-    → length held ≡ 1024 → k ≡ nodes b → Filling b starts ends owners parents held k
-filling-begins b starts ends owners parents held k o r w p a s e =
+pub filling-begins : (b starts ends owners parents held : List ℕ) (k : ℕ) → Ruled b starts ends owners parents → length held ≡ mostNodes → k ≡ nodes b
+    → Filling b starts ends owners parents held k
+filling-begins b starts ends owners parents held k u s e =
     record {
-      file = o;
-      runs = r;
-      owned = w;
-      parents-right = p;
-      checks = a;
+      ruled = u;
       size = s;
       reached = omega (arith, e);
-      room = omega (arith, e, nodes-limit Sheet b (o .accepted));
+      room = omega (arith, e, nodes-limit Sheet b (u .file .accepted));
       right = record { entry = λ j h l. absurd (omega (arith, e, h, l)) };
     }
 
 module _ (b starts ends owners parents held : List ℕ) (k : ℕ) (w : Filling b starts ends owners parents held k) (h : 0 < k) where
   pub filling-node : NodeAt b starts ends owners (k - 1)
-  filling-node = record { file = w .file; runs = w .runs; owned = w .owned; below = omega (arith, w .reached, h) }
+  filling-node = record { file = w .ruled .file; runs = w .ruled .runs; owned = w .ruled .owned; below = omega (arith, w .reached, h) }
 
   pub filling-from : ClausesFrom b held (k - 1 + 1)
   filling-from = record { entry = λ j i l. w .right .entry j (omega (arith, i, h)) l }
@@ -98,11 +92,7 @@ module _ (b starts ends owners parents held : List ℕ) (k : ℕ) (w : Filling b
   pub filling-goes-on : (x : ℕ) → x ≡ entryOf (clauseWithin b (nodes b) (k - 1)) → Filling b starts ends owners parents (set held (k - 1) x) (k - 1)
   filling-goes-on x e =
       record {
-        file = w .file;
-        runs = w .runs;
-        owned = w .owned;
-        parents-right = w .parents-right;
-        checks = w .checks;
+        ruled = w .ruled;
         size = length-set held (k - 1) x ∙ w .size;
         reached = omega (arith, w .reached);
         room = omega (arith, w .room);
@@ -125,7 +115,7 @@ entry-some (some c) h e l = rw (e, add-sub-cancel-left) refl
 
 -- the rule of node k
 module _ (b starts held : List ℕ) (k : ℕ) (o : Opened Sheet b starts) (w : ClausesOf b held) (a : TreesAccepted b) (hk : k < nodes b) where
-  pub entry-in-table : k < 1024
+  pub entry-in-table : k < mostNodes
   entry-in-table = omega (arith, hk, nodes-limit Sheet b (o .accepted))
 
   module _ (h : ℕ) (eh : h ≡ getD held k 0) where
@@ -139,11 +129,11 @@ module _ (b starts held : List ℕ) (k : ℕ) (o : Opened Sheet b starts) (w : C
     own-record : rec ≡ nodeRecord b k
     own-record = opened-record Sheet b starts (f + k) rec o (omega (arith, ef, hk)) er ∙ rw ef refl
 
-    pub pattern-other : (i ≡ 19 → ⊥) → true ≡ patternRight b k
+    pub pattern-other : (i ≡ SheetKinds.patternVariable → ⊥) → true ≡ patternRight b k
     unfolding patternRight
-    pattern-other e = rw (← own-record, ← ei, ne-eqb i 19 e) refl
+    pattern-other e = rw (← own-record, ← ei, ne-eqb i SheetKinds.patternVariable e) refl
 
-    module _ (e : i ≡ 19) (h : ℕ) (eh : h ≡ getD held k 0) where
+    module _ (e : i ≡ SheetKinds.patternVariable) (h : ℕ) (eh : h ≡ getD held k 0) where
       pub pattern-outside : h < 1 → false ≡ patternRight b k
       unfolding patternRight belowArity
       pattern-outside l = rw (← own-record, ← ei, e, entry-none (clauseWithin b (nodes b) k) h (entry-is h eh) l) refl
@@ -154,10 +144,10 @@ module _ (b starts held : List ℕ) (k : ℕ) (o : Opened Sheet b starts) (w : C
           rw (← own-record, ← ei, e, entry-some (clauseWithin b (nodes b) k) h (entry-is h eh) l, ← q, r) refl
 
 -- the verdict on node k
-pub pattern-refused : (b : List ℕ) (k f : ℕ) (t : Bool) → f ≡ firstNode b → t ≡ patternRight b k → t ≡ false → Refused 6 (f + k) ≡ pattern b k
+pub pattern-refused : (b : List ℕ) (k f : ℕ) (t : Bool) → f ≡ firstNode b → t ≡ patternRight b k → t ≡ false → Refused badTree (f + k) ≡ pattern b k
 unfolding pattern
-pattern-refused b k f t e g h = rw e (sym (require-false (patternRight b k) 6 (firstNode b + k) (sym g ∙ h)))
+pattern-refused b k f t e g h = rw e (sym (require-false (patternRight b k) badTree (firstNode b + k) (sym g ∙ h)))
 
 pub pattern-accepted : (b : List ℕ) (k : ℕ) (t : Bool) → t ≡ patternRight b k → t ≡ true → Accepted ≡ pattern b k
 unfolding pattern
-pattern-accepted b k t g h = sym (require-true (patternRight b k) 6 (firstNode b + k) (sym g ∙ h))
+pattern-accepted b k t g h = sym (require-true (patternRight b k) badTree (firstNode b + k) (sym g ∙ h))

@@ -1,6 +1,6 @@
 -- The tables of runs while they are filled, and laws of their turns.
-use mathlib.Core.Path.{_≡_, refl, sym, ap, _∙_}
-use Prim.Native.Nat.{ℕ, zero, suc, _+_, _≤_, _<_}
+use mathlib.Core.Path.{_≡_, refl, sym, _∙_}
+use Prim.Native.Nat.{ℕ, suc, _+_, _≤_, _<_}
 use mathlib.Core.List.{List}
 use mathlib.Core.Bool.{Bool, true, false, cond}
 use native.Mathlib.Omega.{arith}
@@ -10,6 +10,7 @@ use native.Mathlib.Decide.{ℕ-discrete}
 use lib.ListN.{length, getD, set, length-set}
 use lib.Seq.{getD-set-same, getD-set-other}
 use lib.Dec.{leb}
+use Rattle.definitions.specs.Sizes.{mostFunctions, mostNodes}
 use borrow.Author.Tests.{le-leb, lt-leb, leb-true, leb-false}
 use Rattle.definitions.specs.Records.{recordOf, field}
 use Rattle.definitions.specs.Lists.{sumOf}
@@ -23,7 +24,7 @@ use Rattle.laws.proofs.Runs.{Totalled, total-none, total-more, total-counts}
 use Rattle.accepted.proofs.Head.{functions-limit, functions-least, nodes-limit}
 use Rattle.accepted.proofs.Sections.{node-counts-sum}
 use Rattle.accepted.proofs.Sums.{sum-rises}
-use Rattle.accepted.proofs.Owners.{run-start, start-below-end, last-end, end-within, owner-unique}
+use Rattle.accepted.proofs.Owners.{start-below-end, last-end, owner-unique}
 use Rattle.file_records.specs.Index.{Indexed, Opened}
 use Rattle.format.specs.Readers.{RunEnds, Owners, ownerAfter}
 use Rattle.file_records.proofs.Indices.{fewer}
@@ -39,12 +40,12 @@ entry-more P table n x h f p i k =
 -- the ends of the first f runs are in the table; the functions' records are the `count` from `first` on
 pub record Ending (b starts : List ℕ) (first count j : ℕ) (ends : List ℕ) (total f : ℕ) : Type 0 where
   pub reached : f ≤ count
-  pub few : count ≤ 64
-  pub small : sumOf count (λ g. field (recordOf b (first + g)) j) ≤ 1024
+  pub few : count ≤ mostFunctions
+  pub small : sumOf count (λ g. field (recordOf b (first + g)) j) ≤ mostNodes
   pub index : Indexed b starts (first + count)
-  pub size : length ends ≡ 64
+  pub size : length ends ≡ mostFunctions
   pub summed : Totalled b first j f total
-  pub total-small : total ≤ 1024
+  pub total-small : total ≤ mostNodes
   pub entry : (i : ℕ) → i < f → Totalled b first j (suc i) (getD ends i 0)
 
 functions-due : (y : Layout) (b : List ℕ) → firstFunction y b + functions b ≤ due b
@@ -52,7 +53,7 @@ functions-due Sheet b = omega arith
 functions-due Translation b = omega arith
 
 pub ending-begins : (y : Layout) (b starts ends : List ℕ) (first count j : ℕ) → Opened y b starts → first ≡ firstFunction y b → count ≡ functions b
-    → j ≡ countField y → length ends ≡ 64 → Ending b starts first count j ends 0 0
+    → j ≡ countField y → length ends ≡ mostFunctions → Ending b starts first count j ends 0 0
 ending-begins y b starts ends first count j o e f g s =
     record {
       reached = omega arith;
@@ -66,12 +67,12 @@ ending-begins y b starts ends first count j o e f g s =
     }
 
 module _ (b starts : List ℕ) (first count j : ℕ) (ends : List ℕ) (total f : ℕ) (w : Ending b starts first count j ends total f) where
-  next-total : (x : ℕ) → f < count → x ≡ field (recordOf b (first + f)) j → total + x ≤ 1024
+  next-total : (x : ℕ) → f < count → x ≡ field (recordOf b (first + f)) j → total + x ≤ mostNodes
   next-total x h e =
       let t = total-more b first j f total x (w .summed) e in
       omega (arith, t .is, sum-rises (f + 1) count (λ g. field (recordOf b (first + g)) j) (omega (arith, h)), w .small)
 
-  pub next-fits : (x : ℕ) → f < count → x ≡ field (recordOf b (first + f)) j → total + x ≤ 1024
+  pub next-fits : (x : ℕ) → f < count → x ≡ field (recordOf b (first + f)) j → total + x ≤ mostNodes
   next-fits = next-total
 
   pub ending-goes-on : (x : ℕ) → f < count → x ≡ field (recordOf b (first + f)) j → Ending b starts first count j (set ends f (total + x)) (total + x) (f + 1)
@@ -98,16 +99,16 @@ pub record Owning (b ends : List ℕ) (count : ℕ) (owners : List ℕ) (f k : �
   pub accepted : fileShape Sheet b ≡ Accepted
   pub runs : RunEnds Sheet b ends
   pub counted : count ≡ nodes b
-  pub room : count ≤ 1024
+  pub room : count ≤ mostNodes
   pub reached : k ≤ count
-  pub size : length owners ≡ 1024
+  pub size : length owners ≡ mostNodes
   pub few : f < functions b
-  pub narrow : f < 64
+  pub narrow : f < mostFunctions
   pub started : sumOf f (nodeCount Sheet b) ≤ k
   pub soon : k ≤ runEnd Sheet b f
   pub entry : (i : ℕ) → i < k → getD owners i 0 ≡ ownerOf Sheet b i
 
-pub owning-begins : (b ends owners : List ℕ) (count : ℕ) → fileShape Sheet b ≡ Accepted → RunEnds Sheet b ends → count ≡ nodes b → length owners ≡ 1024
+pub owning-begins : (b ends owners : List ℕ) (count : ℕ) → fileShape Sheet b ≡ Accepted → RunEnds Sheet b ends → count ≡ nodes b → length owners ≡ mostNodes
     → Owning b ends count owners 0 0
 unfolding sumOf
 owning-begins b ends owners count a r e s =
@@ -158,7 +159,7 @@ module _ (b ends : List ℕ) (count : ℕ) (owners : List ℕ) (f k : ℕ) (w : 
   unfolding ownerAfter
   owner-of-next g h e = rw e (owned-by (leb (getD ends f 0) k) h refl)
 
-  pub owner-small : (g : ℕ) → k < count → g ≡ ownerAfter ends f k → g < 64
+  pub owner-small : (g : ℕ) → k < count → g ≡ ownerAfter ends f k → g < mostFunctions
   owner-small g h e = omega (arith, owner-of-next g h e .few, functions-limit Sheet b (w .accepted))
 
   pub owning-goes-on : (g : ℕ) → k < count → g ≡ ownerAfter ends f k → Owning b ends count (set owners k g) g (k + 1)

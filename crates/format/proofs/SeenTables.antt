@@ -1,6 +1,6 @@
 -- Laws of the tables of children while they are filled.
 use mathlib.Core.Path.{_≡_, refl, sym, ap, _∙_}
-use Prim.Native.Nat.{ℕ, zero, suc, _+_, _≤_, _<_, min}
+use Prim.Native.Nat.{ℕ, _+_, _≤_, _<_, min}
 use mathlib.Core.List.{List}
 use mathlib.Core.Bool.{Bool, true, false, cond, not}
 use native.Mathlib.Omega.{arith}
@@ -8,8 +8,8 @@ use native.Mathlib.Decide.{ℕ-discrete}
 use lib.ListN.{length, getD, set, length-set}
 use lib.Seq.{getD-set-same, getD-set-other}
 use lib.Dec.{eqb, ltb}
+use Rattle.definitions.specs.Sizes.{mostNodes}
 use borrow.Author.Tests.{eq-eqb, ne-eqb, lt-ltb, le-ltb, ltb-true, ltb-false}
-use Rattle.definitions.specs.Lists.{countOf, sumOf, lastOf}
 use Rattle.definitions.specs.Records.{recordAt}
 use Rattle.definitions.specs.Layouts.{nodes, firstNode, nodeRecord}
 use Rattle.definitions.specs.declared.Layout.the-variants.{Sheet}
@@ -35,17 +35,17 @@ pub once-counts : (n : ℕ) → once n ≡ min 2 (n + 1)
 once-counts n = once-is n (ltb n 1) refl
 
 -- one node is noted, where there is an entry for it and where there is none
-pub noted-inside : (c p : ℕ) (times parents t s : List ℕ) → c < 1024 → t ≡ set times c (once (getD times c 0)) → s ≡ set parents c p → NotedOne c p times parents t s
-noted-inside c p times parents t s h e f = record { counted = rw (lt-ltb c 1024 h) e; last = rw (lt-ltb c 1024 h) f }
+pub noted-inside : (c p : ℕ) (times parents t s : List ℕ) → c < mostNodes → t ≡ set times c (once (getD times c 0)) → s ≡ set parents c p → NotedOne c p times parents t s
+noted-inside c p times parents t s h e f = record { counted = rw (lt-ltb c mostNodes h) e; last = rw (lt-ltb c mostNodes h) f }
 
-pub noted-outside : (c p : ℕ) (times parents : List ℕ) → 1024 ≤ c → NotedOne c p times parents times parents
-noted-outside c p times parents h = record { counted = rw (le-ltb c 1024 h) refl; last = rw (le-ltb c 1024 h) refl }
+pub noted-outside : (c p : ℕ) (times parents : List ℕ) → mostNodes ≤ c → NotedOne c p times parents times parents
+noted-outside c p times parents h = record { counted = rw (le-ltb c mostNodes h) refl; last = rw (le-ltb c mostNodes h) refl }
 
 -- an entry after one node is noted
-module _ (c p : ℕ) (times parents t s : List ℕ) (w : Sized times parents) (o : NotedOne c p times parents t s) (k : ℕ) (h : k < 1024) where
+module _ (c p : ℕ) (times parents t s : List ℕ) (w : Sized times parents) (o : NotedOne c p times parents t s) (k : ℕ) (h : k < mostNodes) where
   noted-here : c ≡ k → (getD t k 0 ≡ min 2 (getD times k 0 + 1)) × (getD s k 0 ≡ p)
   noted-here e =
-      let i : ltb c 1024 ≡ true = lt-ltb c 1024 (omega (arith, e, h)) in
+      let i : ltb c mostNodes ≡ true = lt-ltb c mostNodes (omega (arith, e, h)) in
       let a : t ≡ set times c (once (getD times c 0)) = rw i at (o .counted) in
       let b : s ≡ set parents c p = rw i at (o .last) in (
         rw (a, e) (getD-set-same times k (once (getD times k 0)) 0 (omega (arith, w .timesLength, h)) ∙ once-counts (getD times k 0)),
@@ -58,23 +58,23 @@ module _ (c p : ℕ) (times parents t s : List ℕ) (w : Sized times parents) (o
 
   noted-elsewhere : (c ≡ k → ⊥) → (getD t k 0 ≡ getD times k 0) × (getD s k 0 ≡ getD parents k 0)
   noted-elsewhere e = (
-    rw (o .counted) (kept (once (getD times c 0)) times (ltb c 1024) e),
-    rw (o .last) (kept p parents (ltb c 1024) e),
+    rw (o .counted) (kept (once (getD times c 0)) times (ltb c mostNodes) e),
+    rw (o .last) (kept p parents (ltb c mostNodes) e),
   )
 
 length-kept : (c v : ℕ) (x : List ℕ) (u : Bool) → length (cond u (set x c v) x) ≡ length x
 length-kept c v x true = length-set x c v
 length-kept c v x false = refl
 
-one-small : (c p : ℕ) (times parents t s : List ℕ) (w : Sized times parents) (o : NotedOne c p times parents t s) (k : ℕ) (h : k < 1024) → Dec (c ≡ k) → getD t k 0 ≤ 2
+one-small : (c p : ℕ) (times parents t s : List ℕ) (w : Sized times parents) (o : NotedOne c p times parents t s) (k : ℕ) (h : k < mostNodes) → Dec (c ≡ k) → getD t k 0 ≤ 2
 one-small c p times parents t s w o k h (yes e) = omega (arith, noted-here c p times parents t s w o k h e .0)
 one-small c p times parents t s w o k h (no e) = omega (arith, noted-elsewhere c p times parents t s w o k h e .0, w .small k h)
 
 pub one-sized : (c p : ℕ) (times parents t s : List ℕ) → Sized times parents → NotedOne c p times parents t s → Sized t s
 one-sized c p times parents t s w o =
     record {
-      timesLength = rw (o .counted, length-kept c (once (getD times c 0)) times (ltb c 1024)) (w .timesLength);
-      parentsLength = rw (o .last, length-kept c p parents (ltb c 1024)) (w .parentsLength);
+      timesLength = rw (o .counted, length-kept c (once (getD times c 0)) times (ltb c mostNodes)) (w .timesLength);
+      parentsLength = rw (o .last, length-kept c p parents (ltb c mostNodes)) (w .parentsLength);
       small = λ k h. one-small c p times parents t s w o k h (ℕ-discrete c k);
     }
 
@@ -99,7 +99,7 @@ times-elsewhere rec j k e = rw (count-more j (λ i. eqb (child rec i) k), ne-eqb
 
 module _ (rec : List ℕ) (p j : ℕ) (times parents t s : List ℕ) (w : Noted rec p j times parents t s) (c : ℕ) (t′ s′ : List ℕ) (e : c ≡ child rec j)
     (o : NotedOne c p t s t′ s′) where
-  counted-more : (k : ℕ) → k < 1024 → Dec (c ≡ k) → getD t′ k 0 ≡ min 2 (getD times k 0 + timesIn rec (j + 1) k)
+  counted-more : (k : ℕ) → k < mostNodes → Dec (c ≡ k) → getD t′ k 0 ≡ min 2 (getD times k 0 + timesIn rec (j + 1) k)
   counted-more k h (yes q) =
       rw (times-here rec j k (sym e ∙ q))
       (omega (arith, noted-here c p t s t′ s′ (w .sized) o k h q .0, w .counted k h))
@@ -107,7 +107,7 @@ module _ (rec : List ℕ) (p j : ℕ) (times parents t s : List ℕ) (w : Noted 
       rw (times-elsewhere rec j k (λ f. q (e ∙ f)))
       (noted-elsewhere c p t s t′ s′ (w .sized) o k h q .0 ∙ w .counted k h)
 
-  last-noted : (k : ℕ) → k < 1024 → Dec (c ≡ k) → getD s′ k 0 ≡ cond (eqb (timesIn rec (j + 1) k) 0) (getD parents k 0) p
+  last-noted : (k : ℕ) → k < mostNodes → Dec (c ≡ k) → getD s′ k 0 ≡ cond (eqb (timesIn rec (j + 1) k) 0) (getD parents k 0) p
   last-noted k h (yes q) =
       rw (times-here rec j k (sym e ∙ q), ne-eqb (timesIn rec j k + 1) 0 (λ f. omega (arith, f)))
       (noted-here c p t s t′ s′ (w .sized) o k h q .1)
@@ -127,8 +127,8 @@ pub noted-all : (rec : List ℕ) (p j n m : ℕ) (times parents t s : List ℕ) 
 noted-all rec p j n m times parents t s e h k w = let q : j ≡ m = omega (arith, e, h, k) in rw q at w
 
 -- no node's children are noted yet
-pub seen-none : (b times parents : List ℕ) → length times ≡ 1024 → length parents ≡ 1024 → ((k : ℕ) → k < 1024 → getD times k 0 ≡ 0)
-    → ((k : ℕ) → k < 1024 → getD parents k 0 ≡ 0) → Seen b 0 times parents
+pub seen-none : (b times parents : List ℕ) → length times ≡ mostNodes → length parents ≡ mostNodes → ((k : ℕ) → k < mostNodes → getD times k 0 ≡ 0)
+    → ((k : ℕ) → k < mostNodes → getD parents k 0 ≡ 0) → Seen b 0 times parents
 seen-none b times parents e f g h =
     record {
       counted = λ k i. rw (sum-none (λ q. timesIn (nodeRecord b q) (children (nodeRecord b q)) k)) (g k i);

@@ -1,19 +1,19 @@
 -- Laws of an opened sheet with its tables: what is read through them is what the definitions say.
-use mathlib.Core.Path.{_≡_, refl, sym, ap, _∙_}
-use Prim.Native.Nat.{ℕ, zero, suc, pred, _+_, _-_, _≤_, _<_}
+use mathlib.Core.Path.{_≡_, refl, ap, _∙_}
+use Prim.Native.Nat.{ℕ, _+_, _-_, _<_}
 use mathlib.Core.List.{List}
-use mathlib.Core.Bool.{Bool, true, false}
 use native.Mathlib.Omega.{arith}
 use lib.ListN.{getD}
-use Rattle.definitions.specs.Records.{recordAt, recordOf, field}
-use Rattle.definitions.specs.Layouts.{items, functions, nodes, firstItem, firstFunction, firstNode, due, ownerOf, runEnd, bodyOf}
+use Rattle.definitions.specs.Sizes.{mostNodes}
+use Rattle.definitions.specs.Records.{recordAt, field}
+use Rattle.definitions.specs.Layouts.{items, functions, nodes, firstItem, firstFunction, firstNode, due, ownerOf}
 use Rattle.definitions.specs.References.{parameters, arity}
 use Rattle.definitions.specs.declared.Layout.the-variants.{Sheet}
-use Rattle.accepted.proofs.Head.{nodes-least, nodes-limit, functions-limit}
+use Rattle.accepted.proofs.Head.{nodes-least, nodes-limit}
 use Rattle.accepted.proofs.Owners.{owner-below}
 use Rattle.file_records.specs.Index.{Opened, startIn}
-use Rattle.format.specs.Readers.{Owners, RunEnds, NamesAt}
-use Rattle.file_records.proofs.Indices.{indexed-field, opened-record}
+use Rattle.format.specs.Readers.{NamesAt}
+use Rattle.file_records.proofs.Indices.{indexed-field}
 
 -- a function's parameter count and a constructor's arity, as the index shows them
 pub opened-parameters : (b starts : List ℕ) (f x : ℕ) → Opened Sheet b starts → f < functions b
@@ -33,7 +33,7 @@ module _ (b starts owners : List ℕ) (r : ℕ) (w : NamesAt b starts owners r) 
   pub node-below : r - firstNode b < nodes b
   node-below = omega (arith, w .below, nodes-least Sheet b (w .file .accepted))
 
-  pub node-narrow : (f : ℕ) → f ≡ firstNode b → r - f < 1024
+  pub node-narrow : (f : ℕ) → f ≡ firstNode b → r - f < mostNodes
   node-narrow f e = omega (arith, e, node-below, nodes-limit Sheet b (w .file .accepted))
 
   owner-is : (k x : ℕ) → k ≡ r - firstNode b → x ≡ getD owners k 0 → x ≡ ownerOf Sheet b (r - firstNode b)

@@ -1,17 +1,20 @@
 -- Laws of the child, case and clause order rules over an opened sheet's tables.
-use mathlib.Core.Path.{_≡_, refl, sym, ap, _∙_}
-use Prim.Native.Nat.{ℕ, zero, suc, pred, _+_, _-_, _≤_, _<_, min}
+use mathlib.Core.Path.{_≡_, refl, sym, _∙_}
+use Prim.Native.Nat.{ℕ, suc, _+_, _-_, _≤_, _<_}
 use mathlib.Core.List.{List}
-use mathlib.Core.Bool.{Bool, true, false, cond, not, _&&_}
+use mathlib.Core.Bool.{Bool, true, false, cond, not}
 use native.Mathlib.Omega.{arith}
 use native.Mathlib.Numerals.{add-one}
 use lib.ListN.{getD}
-use lib.Dec.{leb, ltb, eqb, eqb·suc-suc}
+use lib.Dec.{ltb, eqb, eqb·suc-suc}
+use Rattle.definitions.specs.Numbers.{badTree}
+use Rattle.definitions.specs.SheetKinds
+use Rattle.definitions.specs.Sizes.{mostFunctions, mostNodes}
 use borrow.Author.Tests.{lt-ltb, le-ltb, eq-eqb, ne-eqb}
-use Rattle.definitions.specs.Records.{recordAt, recordOf, kindOf}
+use Rattle.definitions.specs.Records.{recordAt, kindOf}
 use Rattle.definitions.specs.Lists.{allOf}
-use Rattle.definitions.specs.Verdicts.{require, firstOf}
-use Rattle.definitions.specs.Layouts.{functions, nodes, firstNode, nodeRecord, runEnd, bodyOf, ownerOf}
+use Rattle.definitions.specs.Verdicts.{firstOf}
+use Rattle.definitions.specs.Layouts.{functions, nodes, firstNode, nodeRecord, bodyOf, ownerOf}
 use Rattle.definitions.specs.References.{children, child, clauses, clauseConstructor}
 use Rattle.definitions.specs.Checks.{timesChild, isBody, childrenRight, clausesRise, treeRight, tree}
 use Rattle.definitions.specs.declared.Layout.the-variants.{Sheet}
@@ -22,13 +25,13 @@ use Rattle.accepted.proofs.Owners.{owner-below, body-before-end}
 use Rattle.laws.proofs.Tests.{Each, each-all, each-fails}
 use Rattle.laws.proofs.Verdicts.{require-true, require-false, Passed, passed-more, passed-refused, passed-all}
 use Rattle.file_records.specs.Index.{Opened, startIn}
-use Rattle.format.specs.Readers.{RunEnds, Owners, NodeAt}
+use Rattle.format.specs.Readers.{RunEnds, Owners, NodeAt, childRight}
 use Rattle.format.specs.Seen.{TimesOf}
 use Rattle.file_records.proofs.Indices.{opened-record}
 
 -- node k and its owner are in the tables
 module _ (b starts ends owners : List ℕ) (k : ℕ) (w : NodeAt b starts ends owners k) where
-  pub node-in-table : k < 1024
+  pub node-in-table : k < mostNodes
   node-in-table = omega (arith, w .below, nodes-limit Sheet b (w .file .accepted))
 
   owner-read : (x : ℕ) → x ≡ getD owners k 0 → x ≡ ownerOf Sheet b k
@@ -37,7 +40,7 @@ module _ (b starts ends owners : List ℕ) (k : ℕ) (w : NodeAt b starts ends o
   owner-few : (x : ℕ) → x ≡ getD owners k 0 → x < functions b
   owner-few x e = rw (owner-read x e) (owner-below Sheet b (w .file .accepted) k (w .below))
 
-  pub owner-in-table : (x : ℕ) → x ≡ getD owners k 0 → x < 64
+  pub owner-in-table : (x : ℕ) → x ≡ getD owners k 0 → x < mostFunctions
   owner-in-table x e = omega (arith, owner-few x e, functions-limit Sheet b (w .file .accepted))
 
   pub body-test : (x e : ℕ) → x ≡ getD owners k 0 → e ≡ getD ends x 0 → eqb (k + 1) e ≡ isBody b k
@@ -53,15 +56,15 @@ module _ (b starts ends owners : List ℕ) (k : ℕ) (w : NodeAt b starts ends o
 
 -- the test of a child
 module _ (b rec : List ℕ) (k j c : ℕ) (e : c ≡ child rec j) where
-  pub child-not-smaller : k ≤ c → (ltb (child rec j) k && eqb (ownerOf Sheet b (child rec j)) (ownerOf Sheet b k)) ≡ false
+  pub child-not-smaller : k ≤ c → childRight b rec k j ≡ false
   child-not-smaller h = rw (← e, le-ltb c k h) refl
 
   module _ (owners : List ℕ) (w : Owners b owners) (hk : k < nodes b) (h : c < k) where
-    pub child-elsewhere : (getD owners c 0 ≡ getD owners k 0 → ⊥) → (ltb (child rec j) k && eqb (ownerOf Sheet b (child rec j)) (ownerOf Sheet b k)) ≡ false
+    pub child-elsewhere : (getD owners c 0 ≡ getD owners k 0 → ⊥) → childRight b rec k j ≡ false
     child-elsewhere f =
         rw (← e, lt-ltb c k h, ne-eqb (ownerOf Sheet b c) (ownerOf Sheet b k) (λ q. f (w .entry c (omega arith) ∙ q ∙ sym (w .entry k hk)))) refl
 
-    pub child-right : getD owners c 0 ≡ getD owners k 0 → (ltb (child rec j) k && eqb (ownerOf Sheet b (child rec j)) (ownerOf Sheet b k)) ≡ true
+    pub child-right : getD owners c 0 ≡ getD owners k 0 → childRight b rec k j ≡ true
     child-right f =
         rw (← e, lt-ltb c k h, eq-eqb (ownerOf Sheet b c) (ownerOf Sheet b k) (sym (w .entry c (omega arith)) ∙ f ∙ w .entry k hk)) refl
 
@@ -84,19 +87,19 @@ rise-all rec j n e h k w = each-all j (n - 1) (clauses rec - 1) _ (rw e refl) h 
 
 -- the rules of node k, by what the tests answered
 module _ (b rec : List ℕ) (k : ℕ) (er : rec ≡ nodeRecord b k) (t : Bool)
-    (et : t ≡ allOf (children rec) (λ j. ltb (child rec j) k && eqb (ownerOf Sheet b (child rec j)) (ownerOf Sheet b k))) where
+    (et : t ≡ allOf (children rec) (λ j. childRight b rec k j)) where
   pub tree-child-wrong : t ≡ false → false ≡ treeRight b k
   unfolding treeRight childrenRight
   tree-child-wrong e = rw (← er, ← et, e) refl
 
   module _ (ht : t ≡ true) (u : Bool) (eu : u ≡ isBody b k) where
-    pub tree-case-body : (i : ℕ) (v : Bool) → u ≡ true → i ≡ kindOf rec → i ≡ 24 → v ≡ clausesRise rec → v ≡ treeRight b k
+    pub tree-case-body : (i : ℕ) (v : Bool) → u ≡ true → i ≡ kindOf rec → i ≡ SheetKinds.caseOf → v ≡ clausesRise rec → v ≡ treeRight b k
     unfolding treeRight childrenRight
     tree-case-body i v e f g h = rw (← er, ← et, ht, ← eu, e, ← f, g) h
 
-    pub tree-body : (i : ℕ) → u ≡ true → i ≡ kindOf rec → (i ≡ 24 → ⊥) → true ≡ treeRight b k
+    pub tree-body : (i : ℕ) → u ≡ true → i ≡ kindOf rec → (i ≡ SheetKinds.caseOf → ⊥) → true ≡ treeRight b k
     unfolding treeRight childrenRight
-    tree-body i e f g = rw (← er, ← et, ht, ← eu, e, ← f, ne-eqb i 24 g) refl
+    tree-body i e f g = rw (← er, ← et, ht, ← eu, e, ← f, ne-eqb i SheetKinds.caseOf g) refl
 
     module _ (times : List ℕ) (w : TimesOf b times) (hk : k < nodes b) (x : ℕ) (ex : x ≡ getD times k 0) where
       pub tree-times-wrong : u ≡ false → (x ≡ 1 → ⊥) → false ≡ treeRight b k
@@ -104,23 +107,23 @@ module _ (b rec : List ℕ) (k : ℕ) (er : rec ≡ nodeRecord b k) (t : Bool)
       tree-times-wrong e f =
           rw (← er, ← et, ht, ← eu, e, ne-eqb (timesChild b k) 1 (λ q. f (omega (arith, ex, w .entry k hk, q)))) refl
 
-      pub tree-inner : (i : ℕ) → u ≡ false → x ≡ 1 → i ≡ kindOf rec → not (eqb i 24) ≡ treeRight b k
+      pub tree-inner : (i : ℕ) → u ≡ false → x ≡ 1 → i ≡ kindOf rec → not (eqb i SheetKinds.caseOf) ≡ treeRight b k
       unfolding treeRight childrenRight
       tree-inner i e f g =
-          rw (← er, ← et, ht, ← eu, e, eq-eqb (timesChild b k) 1 (omega (arith, ex, w .entry k hk, f)), ← g) (case-not (eqb i 24))
+          rw (← er, ← et, ht, ← eu, e, eq-eqb (timesChild b k) 1 (omega (arith, ex, w .entry k hk, f)), ← g) (case-not (eqb i SheetKinds.caseOf))
         where
           case-not : (v : Bool) → not v ≡ cond v false true
           case-not true = refl
           case-not false = refl
 
 -- the verdict on node k
-pub tree-refused : (b : List ℕ) (k f : ℕ) (t : Bool) → f ≡ firstNode b → t ≡ treeRight b k → t ≡ false → Refused 6 (f + k) ≡ tree b k
+pub tree-refused : (b : List ℕ) (k f : ℕ) (t : Bool) → f ≡ firstNode b → t ≡ treeRight b k → t ≡ false → Refused badTree (f + k) ≡ tree b k
 unfolding tree
-tree-refused b k f t e g h = rw e (sym (require-false (treeRight b k) 6 (firstNode b + k) (sym g ∙ h)))
+tree-refused b k f t e g h = rw e (sym (require-false (treeRight b k) badTree (firstNode b + k) (sym g ∙ h)))
 
 pub tree-accepted : (b : List ℕ) (k : ℕ) (t : Bool) → t ≡ treeRight b k → t ≡ true → Accepted ≡ tree b k
 unfolding tree
-tree-accepted b k t g h = sym (require-true (treeRight b k) 6 (firstNode b + k) (sym g ∙ h))
+tree-accepted b k t g h = sym (require-true (treeRight b k) badTree (firstNode b + k) (sym g ∙ h))
 
 -- the rules of the nodes passed are accepted
 pub record Ruling (b starts ends owners : List ℕ) (first count k : ℕ) (rule : ℕ → Verdict) : Type 0 where

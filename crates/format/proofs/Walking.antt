@@ -2,12 +2,14 @@
 use mathlib.Core.Path.{_≡_, refl, sym, ap, _∙_}
 use Prim.Native.Nat.{ℕ, zero, suc, _+_, _≤_, _<_}
 use mathlib.Core.List.{List}
-use mathlib.Core.Bool.{Bool, true, false}
+use mathlib.Core.Bool.{true}
 use native.Mathlib.Omega.{arith}
-use native.Mathlib.Nat.{zero-add, not-suc-le-zero}
+use native.Mathlib.Nat.{not-suc-le-zero}
 use lib.ListN.{length, getD, set, length-set}
 use lib.Seq.{getD-set-same, getD-set-other}
 use lib.Dec.{eqb}
+use Rattle.definitions.specs.Numbers.{badRecord, oversize}
+use Rattle.definitions.specs.Sizes.{mostRecords}
 use borrow.Author.Tests.{le-leb, lt-leb, eq-eqb, ne-eqb}
 use Rattle.definitions.specs.Bytes.{word}
 use Rattle.definitions.specs.Records.{startOf}
@@ -21,7 +23,7 @@ use Rattle.definitions.specs.declared.Verdict.the-variants.{Accepted, Refused}
 use Rattle.definitions.specs.Verdicts.{require}
 use Rattle.laws.proofs.Lists.{below-suc}
 use Rattle.laws.proofs.Records.{start-zero, start-next, next-whole, whole-inside}
-use Rattle.laws.proofs.Verdicts.{then-accepted, then-refused, require-true, require-false, first-none, first-more, first-refused}
+use Rattle.laws.proofs.Verdicts.{then-accepted, then-refused, require-true, require-false, first-none, first-more, first-refused, first-each}
 use Rattle.laws.proofs.Walk.{shaped, head-ranges, due-room}
 use Rattle.file_records.specs.Index.{Indexed}
 use Rattle.format.specs.Readers.{Walked}
@@ -30,14 +32,13 @@ use Rattle.format.specs.Readers.{Walked}
 pub record Walking (y : Layout) (b : List ℕ) (count : ℕ) (starts : List ℕ) (at r : ℕ) : Type 0 where
   pub limit : length b ≤ fileLimit y
   pub counted : count ≡ due b
-  pub room : count ≤ 1601
   pub reached : r ≤ count
   pub place : at ≡ startOf b r
   pub inside : at ≤ length b
   pub small : length b ≤ 65535
   pub passed : firstOf r (shape y b) ≡ Accepted
   pub index : Indexed b starts r
-  pub size : length starts ≡ 1601
+  pub size : length starts ≡ mostRecords
 
 limit-small : (y : Layout) → fileLimit y ≤ 65535
 limit-small Sheet = omega arith
@@ -53,13 +54,13 @@ shape-refused : (y : Layout) (b : List ℕ) (n p : ℕ) → length b ≤ fileLim
 unfolding fileShape
 shape-refused y b n p h e =
     then-refused _ _ n p
-    (then-accepted _ _ (require-true _ 2 0 (le-leb (length b) (fileLimit y) h)) ∙ e)
+    (then-accepted _ _ (require-true _ oversize 0 (le-leb (length b) (fileLimit y) h)) ∙ e)
 
 shape-left-over : (y : Layout) (b : List ℕ) (v : Verdict) → length b ≤ fileLimit y → firstOf (due b) (shape y b) ≡ Accepted
-    → require (eqb (startOf b (due b)) (length b)) 3 (due b) ≡ v → fileShape y b ≡ v
+    → require (eqb (startOf b (due b)) (length b)) badRecord (due b) ≡ v → fileShape y b ≡ v
 unfolding fileShape
 shape-left-over y b v h e f =
-    then-accepted _ _ (then-accepted _ _ (require-true _ 2 0 (le-leb (length b) (fileLimit y) h)) ∙ e) ∙ f
+    then-accepted _ _ (then-accepted _ _ (require-true _ oversize 0 (le-leb (length b) (fileLimit y) h)) ∙ e) ∙ f
 
 -- a refused verdict names no index
 walked-refused : (y : Layout) (b starts : List ℕ) (v : Verdict) (n p : ℕ) → v ≡ Refused n p → fileShape y b ≡ Refused n p → Walked y b v starts
@@ -72,24 +73,12 @@ walked-refused y b starts v n p e f =
     accepted-not-refused : (v : Verdict) (n p : ℕ) → v ≡ Accepted → v ≡ Refused n p → ⊥
     accepted-not-refused v n p g e = let z : _≡_ {A = ℕ} 0 1 = cc in omega arith
 
--- the head is refused
-pub head-refused : (y : Layout) (b starts : List ℕ) (v : Verdict) (n p : ℕ) → length b ≤ fileLimit y → v ≡ shapeAt y b 0 0 → v ≡ Refused n p → Walked y b v starts
-head-refused y b starts v n p h e f =
-    walked-refused y b starts v n p f
-    (shape-refused y b n p h
-    (first-refused 0 (due b) (shape y b) n p (omega arith) (first-none (shape y b)) (rule-at y b 0 0 v (start-zero b) e ∙ f)))
-
 -- the file is above its size
-pub oversized : (y : Layout) (b starts : List ℕ) (n : ℕ) → n ≡ fileLimit y → n < length b → Walked y b (Refused 2 0) starts
+pub oversized : (y : Layout) (b starts : List ℕ) (n : ℕ) → n ≡ fileLimit y → n < length b → Walked y b (Refused oversize 0) starts
 unfolding fileShape
 oversized y b starts n e h =
-    walked-refused y b starts (Refused 2 0) 2 0 refl
-    (then-refused _ _ 2 0 (then-refused _ _ 2 0 (require-false _ 2 0 (lt-leb (length b) (fileLimit y) (omega (arith, e, h))))))
-
--- the index of the head alone
-pub head-index : (b starts : List ℕ) → 0 ≡ getD starts 0 0 → Indexed b starts 1
-head-index b starts e =
-    record { entry = λ r h. below-suc (λ (i : ℕ). getD starts i 0 ≡ startOf b i) 0 (λ i k. absurd (not-suc-le-zero k)) (sym e ∙ start-zero b) r h; room = omega arith }
+    walked-refused y b starts (Refused oversize 0) oversize 0 refl
+    (then-refused _ _ oversize 0 (then-refused _ _ oversize 0 (require-false _ oversize 0 (lt-leb (length b) (fileLimit y) (omega (arith, e, h))))))
 
 -- what an accepted record says of the walk: the next place
 next-place : (y : Layout) (b : List ℕ) (r at x : ℕ) (v : Verdict) → v ≡ shapeAt y b r at → v ≡ Accepted → x ≡ word b at → at ≡ startOf b r
@@ -100,25 +89,36 @@ next-place y b r at x v e f g h =
 next-inside : (y : Layout) (b : List ℕ) (r at x : ℕ) (v : Verdict) → v ≡ shapeAt y b r at → v ≡ Accepted → x ≡ word b at → at + x ≤ length b
 next-inside y b r at x v e f g = whole-inside b at x true (sym (shaped y b r at (sym e ∙ f) .whole)) refl g
 
--- the walk begins after the head
-pub begins : (y : Layout) (b starts : List ℕ) (count x : ℕ) (v : Verdict) → length b ≤ fileLimit y → 0 ≡ getD starts 0 0 → length starts ≡ 1601
-    → v ≡ shapeAt y b 0 0 → v ≡ Accepted → count ≡ due b → x ≡ word b 0 → Walking y b count starts x 1
-begins y b starts count x v h z s e f g q =
-    let heads = head-ranges y b _ (shaped y b 0 0 (sym e ∙ f) .counts) in
+-- the walk begins at the head
+pub begins : (y : Layout) (b starts : List ℕ) (count : ℕ) → length b ≤ fileLimit y → length starts ≡ mostRecords → count ≡ due b → Walking y b count starts 0 0
+begins y b starts count h s g =
     record {
       limit = h;
       counted = g;
-      room = omega (arith, due-room y b heads);
       reached = omega arith;
-      place = rw zero-add at (next-place y b 0 0 x v e f q (start-zero b));
-      inside = rw zero-add at (next-inside y b 0 0 x v e f q);
+      place = start-zero b;
+      inside = omega arith;
       small = omega (arith, limit-small y);
-      passed = rw zero-add at (first-more 0 (shape y b) (first-none (shape y b)) (rule-at y b 0 0 v (start-zero b) e ∙ f));
-      index = head-index b starts z;
+      passed = first-none (shape y b);
+      index = record { entry = λ r k. absurd (not-suc-le-zero k); room = omega arith };
       size = s;
     }
 
+-- once the head is passed, the records due have room in the index
+head-room : (y : Layout) (b : List ℕ) (r : ℕ) → firstOf (suc r) (shape y b) ≡ Accepted → due b ≤ mostRecords
+unfolding shape
+head-room y b r e =
+    let v : shapeAt y b 0 (startOf b 0) ≡ Accepted = first-each (suc r) (shape y b) e 0 (omega arith) in
+    due-room y b (head-ranges y b _ (shaped y b 0 0 (rw (← (start-zero b)) at v) .counts))
+
 module _ (y : Layout) (b : List ℕ) (count : ℕ) (starts : List ℕ) (at r : ℕ) (w : Walking y b count starts at r) where
+  pub room-here : r < count → r < mostRecords
+  room-here h = room-of r (w .passed) h
+    where
+      room-of : (n : ℕ) → firstOf n (shape y b) ≡ Accepted → n < count → n < mostRecords
+      room-of zero e k = omega arith
+      room-of (suc n) e k = omega (arith, head-room y b n e, w .counted, k)
+
   -- the place of record r goes into the index
   pub index-more : r < count → Indexed b (set starts r at) (r + 1)
   index-more h =
@@ -127,8 +127,8 @@ module _ (y : Layout) (b : List ℕ) (count : ℕ) (starts : List ℕ) (at r : �
             λ i k.
             below-suc (λ (j : ℕ). getD (set starts r at) j 0 ≡ startOf b j) r
             (λ j q. getD-set-other starts r j at 0 (λ e. omega (arith, e, q)) ∙ w .index .entry j q)
-            (getD-set-same starts r at 0 (omega (arith, w .size, w .room, h)) ∙ w .place) i (omega (arith, k));
-        room = omega (arith, w .room, h);
+            (getD-set-same starts r at 0 (omega (arith, w .size, room-here h)) ∙ w .place) i (omega (arith, k));
+        room = omega (arith, room-here h);
       }
 
   -- record r is refused
@@ -144,7 +144,6 @@ module _ (y : Layout) (b : List ℕ) (count : ℕ) (starts : List ℕ) (at r : �
       record {
         limit = w .limit;
         counted = w .counted;
-        room = w .room;
         reached = omega (arith, h);
         place = next-place y b r at x v e f g (w .place);
         inside = next-inside y b r at x v e f g;
@@ -164,12 +163,12 @@ module _ (y : Layout) (b : List ℕ) (count : ℕ) (starts : List ℕ) (at r : �
   ends-there h e =
       let k = all-passed h in
       record {
-        verdict = sym (shape-left-over y b Accepted (w .limit) (k .0) (require-true _ 3 (due b) (eq-eqb _ _ (sym (k .1) ∙ e))));
+        verdict = sym (shape-left-over y b Accepted (w .limit) (k .0) (require-true _ badRecord (due b) (eq-eqb _ _ (sym (k .1) ∙ e))));
         index = λ g. k .2;
       }
 
-  pub bytes-left : count ≤ r → (at ≡ length b → ⊥) → Walked y b (Refused 3 count) starts
+  pub bytes-left : count ≤ r → (at ≡ length b → ⊥) → Walked y b (Refused badRecord count) starts
   bytes-left h e =
       let k = all-passed h in
-      walked-refused y b starts (Refused 3 count) 3 (due b) (ap (Refused 3) (w .counted))
-      (shape-left-over y b (Refused 3 (due b)) (w .limit) (k .0) (require-false _ 3 (due b) (ne-eqb _ _ (λ q. e (k .1 ∙ q)))))
+      walked-refused y b starts (Refused badRecord count) badRecord (due b) (ap (Refused badRecord) (w .counted))
+      (shape-left-over y b (Refused badRecord (due b)) (w .limit) (k .0) (require-false _ badRecord (due b) (ne-eqb _ _ (λ q. e (k .1 ∙ q)))))

@@ -1,23 +1,33 @@
 -- What the readers give: the verdict, and of an accepted file its index and the tables of its runs and owners.
 use mathlib.Core.Path.{_≡_}
-use Prim.Native.Nat.{ℕ, _+_, _<_}
+use Prim.Native.Nat.{ℕ, _+_, _≤_, _<_}
 use mathlib.Core.List.{List}
-use lib.ListN.{getD}
-use lib.Dec.{leb}
-use mathlib.Core.Bool.{cond}
-use Rattle.definitions.specs.Layouts.{functions, nodes, due, runEnd, ownerOf}
+use lib.ListN.{length, getD}
+use lib.Dec.{leb, ltb, eqb}
+use mathlib.Core.Bool.{Bool, cond, _&&_}
+use Rattle.definitions.specs.Sizes.{mostRecords, mostFunctions, mostNodes}
+use Rattle.definitions.specs.Layouts.{functions, nodes, firstNode, due, runEnd, ownerOf}
+use Rattle.definitions.specs.References.{child}
 use Rattle.definitions.specs.Shape.{fileShape}
 use Rattle.definitions.specs.Checks.{sheetVerdict, translationVerdict}
 use Rattle.definitions.specs.declared.Layout.{Layout}
 use Rattle.definitions.specs.declared.Layout.the-variants.{Sheet, Translation}
 use Rattle.definitions.specs.declared.Verdict.{Verdict}
 use Rattle.definitions.specs.declared.Verdict.the-variants.{Accepted}
+use Rattle.file_layout.specs.Rows.{RowsOf}
 use Rattle.file_records.specs.Index.{Indexed, Opened}
 
 -- what a walk over a file's records gives: the verdict on its shape, and where it is accepted the index of its records
 pub record Walked (y : Layout) (b : List ℕ) (v : Verdict) (starts : List ℕ) : Type 0 where
   pub verdict : v ≡ fileShape y b
   pub index : v ≡ Accepted → Indexed b starts (due b)
+
+-- record r of a walk, which starts at a place inside the file: the rows of the kinds, and the index up to this record
+pub record WalkAt (rows b starts : List ℕ) (first r at : ℕ) : Type 0 where
+  pub kinds : RowsOf rows
+  pub index : Indexed b starts (r + 1)
+  pub nodesFrom : first ≡ firstNode b
+  pub inside : at ≤ length b
 
 -- the table of the ends of runs: entry f is the first node after the run of function f
 pub record RunEnds (y : Layout) (b ends : List ℕ) : Type 0 where
@@ -30,6 +40,19 @@ ownerAfter ends f k = cond (leb (getD ends f 0) k) (f + 1) f
 -- the table of owners: entry k is the function whose run holds node k
 pub record Owners (b owners : List ℕ) : Type 0 where
   pub entry : (k : ℕ) → k < nodes b → getD owners k 0 ≡ ownerOf Sheet b k
+
+-- tables that a reader's caller lends, each of its full size
+pub record LentTables (starts ends : List ℕ) : Type 0 where
+  pub startsLength : length starts ≡ mostRecords
+  pub endsLength : length ends ≡ mostFunctions
+
+pub record LentSheetTables (starts ends owners : List ℕ) : Type 0 where
+  pub tables : LentTables starts ends
+  pub ownersLength : length owners ≡ mostNodes
+
+-- whether the j-th node that a record names is smaller than node k and in the same function
+abbrev pub childRight : List ℕ → List ℕ → ℕ → ℕ → Bool
+childRight b rec k j = ltb (child rec j) k && eqb (ownerOf Sheet b (child rec j)) (ownerOf Sheet b k)
 
 -- what reading a translation gives: the verdict, and of an accepted one the index and the ends of runs
 pub record ReadTranslation (b : List ℕ) (v : Verdict) (starts ends : List ℕ) : Type 0 where

@@ -6,6 +6,7 @@ use mathlib.Core.List.{List}
 use mathlib.Core.Bool.{cond, not}
 use lib.ListN.{length, getD, set}
 use lib.Dec.{eqb, ltb}
+use Rattle.definitions.specs.Sizes.{mostNodes}
 use Rattle.definitions.specs.Lists.{countOf, sumOf, lastOf}
 use Rattle.definitions.specs.Layouts.{nodes, due, nodeRecord}
 use Rattle.definitions.specs.References.{children, child, references}
@@ -21,27 +22,27 @@ timesIn rec n k = countOf n (λ j. eqb (child rec j) k)
 unfoldable pub once : ℕ → ℕ
 once n = cond (ltb n 1) 1 2
 
--- two tables of 1,024 entries, the first of counts up to 2
+-- two tables with an entry for each node, the first of counts up to 2
 pub record Sized (times parents : List ℕ) : Type 0 where
-  pub timesLength : length times ≡ 1024
-  pub parentsLength : length parents ≡ 1024
-  pub small : (k : ℕ) → k < 1024 → getD times k 0 ≤ 2
+  pub timesLength : length times ≡ mostNodes
+  pub parentsLength : length parents ≡ mostNodes
+  pub small : (k : ℕ) → k < mostNodes → getD times k 0 ≤ 2
 
 -- the tables after one node is noted as a child of node p
 pub record NotedOne (c p : ℕ) (times parents times′ parents′ : List ℕ) : Type 0 where
-  pub counted : times′ ≡ cond (ltb c 1024) (set times c (once (getD times c 0))) times
-  pub last : parents′ ≡ cond (ltb c 1024) (set parents c p) parents
+  pub counted : times′ ≡ cond (ltb c mostNodes) (set times c (once (getD times c 0))) times
+  pub last : parents′ ≡ cond (ltb c mostNodes) (set parents c p) parents
 
 -- the tables after the first n nodes that the record of node p names are noted
 pub record Noted (rec : List ℕ) (p n : ℕ) (times parents times′ parents′ : List ℕ) : Type 0 where
-  pub counted : (k : ℕ) → k < 1024 → getD times′ k 0 ≡ min 2 (getD times k 0 + timesIn rec n k)
-  pub last : (k : ℕ) → k < 1024 → getD parents′ k 0 ≡ cond (eqb (timesIn rec n k) 0) (getD parents k 0) p
+  pub counted : (k : ℕ) → k < mostNodes → getD times′ k 0 ≡ min 2 (getD times k 0 + timesIn rec n k)
+  pub last : (k : ℕ) → k < mostNodes → getD parents′ k 0 ≡ cond (eqb (timesIn rec n k) 0) (getD parents k 0) p
   pub sized : Sized times′ parents′
 
 -- the tables after the children of the first p nodes are noted
 pub record Seen (b : List ℕ) (p : ℕ) (times parents : List ℕ) : Type 0 where
-  pub counted : (k : ℕ) → k < 1024 → getD times k 0 ≡ min 2 (sumOf p (λ q. timesIn (nodeRecord b q) (children (nodeRecord b q)) k))
-  pub last : (k : ℕ) → k < 1024
+  pub counted : (k : ℕ) → k < mostNodes → getD times k 0 ≡ min 2 (sumOf p (λ q. timesIn (nodeRecord b q) (children (nodeRecord b q)) k))
+  pub last : (k : ℕ) → k < mostNodes
       → getD parents k 0 ≡ lastOf p (λ q. not (eqb (timesIn (nodeRecord b q) (children (nodeRecord b q)) k) 0))
   pub sized : Sized times parents
 

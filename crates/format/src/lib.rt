@@ -1,6 +1,5 @@
 // The format crate: the readers of sheets and of translations (document 01, "Files" and "Order").
 mod names;
-pub mod numbers;
 mod patterns;
 mod runs;
 mod seen;

@@ -10,9 +10,11 @@ ghost use Rattle.definitions.specs.Verdicts.{_andThen_, firstOf};
 ghost use Rattle.definitions.specs.declared.Layout.the-variants.{Sheet};
 ghost use Rattle.file_records.specs.Index.{Opened};
 ghost use Rattle.format.specs.Readers.{Owners, NamesAt};
-use crate::numbers;
 use definitions::Layout;
 use definitions::Verdict;
+use definitions::numbers;
+use definitions::sizes::Owners;
+use definitions::sizes::Starts;
 use file_layout::layout::due;
 use file_layout::layout::first_function;
 use file_layout::layout::first_node;
@@ -33,7 +35,7 @@ use file_references::references::children_below;
 use file_references::references::constructors_below;
 
 // The parameter count of the function that owns the node of record `r`.
-fn owner_parameters(b: &[u8], starts: &[u16; 1601], owners: &[u8; 1024], r: usize) -> u16
+fn owner_parameters(b: &[u8], starts: &Starts, owners: &Owners, r: usize) -> u16
     requires { ⌜ NamesAt (now b) (now starts) (now owners) r ⌝ }
     ensures { λ x. ⌜ x ≡ parameters (now (b .entry)) (ownerOf Sheet (now (b .entry)) (r - firstNode (now (b .entry)))) ⌝ }
 {
@@ -46,7 +48,7 @@ fn owner_parameters(b: &[u8], starts: &[u16; 1601], owners: &[u8; 1024], r: usiz
 }
 
 // Whether what record `r` names besides nodes is there.
-fn names_in_range(b: &[u8], starts: &[u16; 1601], owners: &[u8; 1024], r: usize, rec: &[u8]) -> bool
+fn names_in_range(b: &[u8], starts: &Starts, owners: &Owners, r: usize, rec: &[u8]) -> bool
     requires { ⌜ NamesAt (now b) (now starts) (now owners) r × (now rec ≡ recordOf (now b) r) ⌝ }
     ensures { λ t. ⌜ t ≡ namesInRange (now (b .entry)) r (now (rec .entry)) ⌝ }
 {
@@ -79,7 +81,7 @@ fn argument_count(rec: &[u8]) -> usize
 }
 
 // Whether argument counts match, and `result` has no parameters.
-fn arguments_match(b: &[u8], starts: &[u16; 1601], r: usize, rec: &[u8]) -> bool
+fn arguments_match(b: &[u8], starts: &Starts, r: usize, rec: &[u8]) -> bool
     requires { ⌜ Opened Sheet (now b) (now starts) × (namesInRange (now b) r (now rec) ≡ true) ⌝ }
     ensures { λ t. ⌜ t ≡ argumentsMatch (now (b .entry)) r (now (rec .entry)) ⌝ }
 {
@@ -97,7 +99,7 @@ fn arguments_match(b: &[u8], starts: &[u16; 1601], r: usize, rec: &[u8]) -> bool
 }
 
 // The checks 5 and 7 of record `r`.
-fn names_at(b: &[u8], starts: &[u16; 1601], owners: &[u8; 1024], r: usize) -> Verdict
+fn names_at(b: &[u8], starts: &Starts, owners: &Owners, r: usize) -> Verdict
     requires { ⌜ NamesAt (now b) (now starts) (now owners) r ⌝ }
     ensures { λ v. ⌜ v ≡ (references (now (b .entry)) r andThen arguments (now (b .entry)) r) ⌝ }
 {
@@ -124,7 +126,7 @@ fn names_at(b: &[u8], starts: &[u16; 1601], owners: &[u8; 1024], r: usize) -> Ve
 }
 
 // The checks 5 and 7 of every record.
-pub(crate) fn names(b: &[u8], starts: &[u16; 1601], owners: &[u8; 1024]) -> Verdict
+pub(crate) fn names(b: &[u8], starts: &Starts, owners: &Owners) -> Verdict
     requires { ⌜ Opened Sheet (now b) (now starts) × Owners (now b) (now owners) ⌝ }
     ensures { λ v. ⌜ v ≡ firstOf (due (now (b .entry))) (λ r. references (now (b .entry)) r andThen arguments (now (b .entry)) r) ⌝ }
 {

@@ -1,19 +1,25 @@
 // The pattern rules of sheets.
 ghost use mathlib.Core.Path.{_≡_};
-ghost use Prim.Native.Nat.{_+_, _≤_, _<_};
+ghost use Prim.Native.Nat.{_+_, _<_};
+ghost use lib.ListN.{length};
+ghost use Rattle.definitions.specs.Sizes.{mostNodes};
 ghost use Rattle.definitions.specs.Layouts.{nodes};
 ghost use Rattle.definitions.specs.References.{clauses};
-ghost use Rattle.definitions.specs.Checks.{clauseOf, clauseWithin, patternRight, pattern, tree};
+ghost use Rattle.definitions.specs.Checks.{clauseOf, clauseWithin, patternRight, pattern};
 ghost use Rattle.definitions.specs.Verdicts.{firstOf};
 ghost use Rattle.definitions.specs.declared.Layout.the-variants.{Sheet};
 ghost use Rattle.definitions.specs.declared.Verdict.the-variants.{Accepted};
 ghost use Rattle.file_records.specs.Index.{Opened};
-ghost use Rattle.format.specs.Readers.{RunEnds, Owners, NodeAt};
+ghost use Rattle.format.specs.Readers.{NodeAt};
 ghost use Rattle.format.specs.Seen.{ParentsOf, TreesAccepted};
-ghost use Rattle.format.specs.Clauses.{entryOf, ClausesOf, ClausesFrom};
-use crate::numbers;
+ghost use Rattle.format.specs.Clauses.{entryOf, ClausesOf, ClausesFrom, Ruled};
 use crate::tree::is_body;
 use definitions::Verdict;
+use definitions::numbers;
+use definitions::sizes::Ends;
+use definitions::sizes::MOST_NODES;
+use definitions::sizes::Owners;
+use definitions::sizes::Starts;
 use file_layout::layout::first_node;
 use file_layout::layout::nodes;
 use file_layout::sheet_kinds;
@@ -44,11 +50,11 @@ fn clause_of(rec: &[u8], k: usize) -> u32
 // The entry of node `k` from those of the nodes after it.
 fn clause_at(
     b: &[u8],
-    starts: &[u16; 1601],
-    ends: &[u16; 64],
-    owners: &[u8; 1024],
-    parents: &[u16; 1024],
-    held: &[u32; 1024],
+    starts: &Starts,
+    ends: &Ends,
+    owners: &Owners,
+    parents: &[u16; MOST_NODES],
+    held: &[u32; MOST_NODES],
     k: usize,
 ) -> u32
     requires { ⌜ NodeAt (now b) (now starts) (now ends) (now owners) k × ParentsOf (now b) (now parents) × TreesAccepted (now b) × ClausesFrom (now b) (now held) (k + 1) ⌝ }
@@ -65,28 +71,28 @@ fn clause_at(
     held[p]
 }
 
-// The table of clauses.
-fn clause_table(
+// Fills the table of clauses.
+fn fill_clauses(
     b: &[u8],
-    starts: &[u16; 1601],
-    ends: &[u16; 64],
-    owners: &[u8; 1024],
-    parents: &[u16; 1024],
-) -> [u32; 1024]
-    requires { ⌜ (Opened Sheet (now b) (now starts)) × RunEnds Sheet (now b) (now ends) × Owners (now b) (now owners) × ParentsOf (now b) (now parents) × TreesAccepted (now b) ⌝ }
-    ensures { λ r. ⌜ ClausesOf (now (b .entry)) r ⌝ }
+    starts: &Starts,
+    ends: &Ends,
+    owners: &Owners,
+    parents: &[u16; MOST_NODES],
+    held: &mut [u32; MOST_NODES],
+)
+    requires { ⌜ Ruled (now b) (now starts) (now ends) (now owners) (now parents) × (length (now held) ≡ mostNodes) ⌝ }
+    ensures { λ _. ⌜ ClausesOf (now (b .entry)) (now (held .exit)) ⌝ }
 {
-    let mut held = [0u32; 1024];
     let mut k = wide(nodes(b));
     while 0 < k {
         k -= 1;
-        held[k] = clause_at(b, starts, ends, owners, parents, &held, k);
+        let entry = clause_at(b, starts, ends, owners, parents, held, k);
+        held[k] = entry;
     }
-    held
 }
 
 // The pattern rules of node `k`.
-fn pattern_right(b: &[u8], starts: &[u16; 1601], held: &[u32; 1024], k: usize) -> bool
+fn pattern_right(b: &[u8], starts: &Starts, held: &[u32; MOST_NODES], k: usize) -> bool
     requires { ⌜ (Opened Sheet (now b) (now starts)) × ClausesOf (now b) (now held) × TreesAccepted (now b) × (k < nodes (now b)) ⌝ }
     ensures { λ t. ⌜ t ≡ patternRight (now (b .entry)) k ⌝ }
 {
@@ -104,15 +110,16 @@ fn pattern_right(b: &[u8], starts: &[u16; 1601], held: &[u32; 1024], k: usize) -
 // The pattern rules of every node.
 pub(crate) fn patterns(
     b: &[u8],
-    starts: &[u16; 1601],
-    ends: &[u16; 64],
-    owners: &[u8; 1024],
-    parents: &[u16; 1024],
+    starts: &Starts,
+    ends: &Ends,
+    owners: &Owners,
+    parents: &[u16; MOST_NODES],
 ) -> Verdict
-    requires { ⌜ (Opened Sheet (now b) (now starts)) × RunEnds Sheet (now b) (now ends) × Owners (now b) (now owners) × ParentsOf (now b) (now parents) × TreesAccepted (now b) ⌝ }
+    requires { ⌜ Ruled (now b) (now starts) (now ends) (now owners) (now parents) ⌝ }
     ensures { λ v. ⌜ v ≡ firstOf (nodes (now (b .entry))) (pattern (now (b .entry))) ⌝ }
 {
-    let held = clause_table(b, starts, ends, owners, parents);
+    let mut held = [0u32; MOST_NODES];
+    fill_clauses(b, starts, ends, owners, parents, &mut held);
     let first = first_node(b);
     let count = wide(nodes(b));
     let mut k: usize = 0;

@@ -2,20 +2,30 @@
 ghost use mathlib.Core.Path.{_≡_};
 ghost use Prim.Native.Nat.{_+_, _≤_};
 ghost use lib.ListN.{length};
+ghost use Rattle.definitions.specs.Sizes.{mostRecords};
 ghost use Rattle.definitions.specs.Lists.{sumOf};
 ghost use Rattle.definitions.specs.Layouts.{functions, firstFunction, nodeCount, due};
 ghost use Rattle.definitions.specs.Shape.{fileLimit, headCounts, runCounts, counts, operatorCode, shapeAt};
 ghost use Rattle.file_records.specs.Index.{Indexed};
-ghost use Rattle.format.specs.Readers.{Walked};
-use crate::numbers;
+ghost use Rattle.format.specs.Readers.{WalkAt, Walked};
 use definitions::Layout;
 use definitions::Verdict;
+use definitions::numbers;
+use definitions::sizes::MOST_FIELDS;
+use definitions::sizes::MOST_FUNCTIONS;
+use definitions::sizes::MOST_NODES;
+use definitions::sizes::MOST_READINGS;
+use definitions::sizes::Starts;
 use file_fields::bytes::word;
+use file_fields::bytes::word_inside;
+use file_layout::kinds::Rows;
 use file_layout::kinds::allows;
+use file_layout::kinds::rows;
 use file_layout::layout::count_field;
 use file_layout::layout::due;
 use file_layout::layout::file_limit;
 use file_layout::layout::first_function;
+use file_layout::layout::first_node;
 use file_layout::layout::functions;
 use file_layout::layout::is_due;
 use file_layout::layout::item_limit;
@@ -29,41 +39,27 @@ use file_records::records::indexed;
 use file_records::records::kind;
 use file_records::records::record_at;
 
-// Document 01's ranges: readings, functions and nodes of a file, arities and parameter counts, operator codes.
-const MOST_READINGS: u16 = 32;
-
-const MOST_FUNCTIONS: u16 = 64;
-
-const MOST_NODES: u16 = 1024;
-
-const MOST_FIELDS: u16 = 8;
-
+// The greatest operator code.
 const LAST_OPERATOR: u16 = 5;
-
-// The verdict on a file's shape, and where its records start; of a refused file only the verdict counts.
-pub struct Shaped {
-    pub verdict: Verdict,
-    pub starts: [u16; 1601],
-}
 
 // The head's counts are in their ranges.
 fn head_counts(y: Layout, b: &[u8]) -> bool
     ensures { λ t. ⌜ t ≡ headCounts y (now (b .entry)) ⌝ }
 {
-    if MOST_READINGS < readings(b) {
+    if MOST_READINGS < readings(b) as usize {
         return false;
     }
-    if item_limit(y) < items(b) {
+    if item_limit(y) < items(b) as usize {
         return false;
     }
-    let f = functions(b);
+    let f = functions(b) as usize;
     if f < 1 {
         return false;
     }
     if MOST_FUNCTIONS < f {
         return false;
     }
-    let n = nodes(b);
+    let n = nodes(b) as usize;
     if n < 1 {
         return false;
     }
@@ -71,7 +67,7 @@ fn head_counts(y: Layout, b: &[u8]) -> bool
 }
 
 // The sum of the functions' node counts.
-fn run_total(y: Layout, b: &[u8], starts: &[u16; 1601]) -> usize
+fn run_total(y: Layout, b: &[u8], starts: &Starts) -> usize
     requires { ⌜ Indexed (now b) (now starts) (firstFunction y (now b) + functions (now b)) ⌝ }
     ensures { λ r. ⌜ r ≡ sumOf (functions (now (b .entry))) (nodeCount y (now (b .entry))) ⌝ }
 {
@@ -88,7 +84,7 @@ fn run_total(y: Layout, b: &[u8], starts: &[u16; 1601]) -> usize
 }
 
 // A function's counts: its own node count, and at the last function the sum.
-fn run_counts(y: Layout, b: &[u8], starts: &[u16; 1601], r: usize, rec: &[u8]) -> bool
+fn run_counts(y: Layout, b: &[u8], starts: &Starts, r: usize, rec: &[u8]) -> bool
     requires { ⌜ Indexed (now b) (now starts) (r + 1) ⌝ }
     ensures { λ t. ⌜ t ≡ runCounts y (now (b .entry)) r (now (rec .entry)) ⌝ }
 {
@@ -102,7 +98,7 @@ fn run_counts(y: Layout, b: &[u8], starts: &[u16; 1601], r: usize, rec: &[u8]) -
 }
 
 // The counts of record `r`.
-fn counts(y: Layout, b: &[u8], starts: &[u16; 1601], r: usize, rec: &[u8]) -> bool
+fn counts(y: Layout, b: &[u8], starts: &Starts, r: usize, rec: &[u8]) -> bool
     requires { ⌜ Indexed (now b) (now starts) (r + 1) ⌝ }
     ensures { λ t. ⌜ t ≡ counts y (now (b .entry)) r (now (rec .entry)) ⌝ }
 {
@@ -111,10 +107,10 @@ fn counts(y: Layout, b: &[u8], starts: &[u16; 1601], r: usize, rec: &[u8]) -> bo
     }
     let k = kind(rec);
     if k == sheet_kinds::CONSTRUCTOR {
-        return field(rec, 0) <= MOST_FIELDS;
+        return field(rec, 0) as usize <= MOST_FIELDS;
     }
     if k == sheet_kinds::FUNCTION {
-        if MOST_FIELDS < field(rec, 0) {
+        if MOST_FIELDS < field(rec, 0) as usize {
             return false;
         }
         return run_counts(y, b, starts, r, rec);
@@ -139,9 +135,17 @@ fn operator_code(rec: &[u8]) -> bool
     true
 }
 
-// The checks of record `r`, which starts at `at`.
-fn shape_at(y: Layout, b: &[u8], starts: &[u16; 1601], r: usize, at: usize) -> Verdict
-    requires { ⌜ (Indexed (now b) (now starts) (r + 1)) × (at ≤ length (now b)) ⌝ }
+// The checks of record `r`, which starts at `at`; the nodes start at record `first`.
+fn shape_at(
+    rows: &Rows,
+    y: Layout,
+    b: &[u8],
+    starts: &Starts,
+    first: usize,
+    r: usize,
+    at: usize,
+) -> Verdict
+    requires { ⌜ WalkAt (now rows) (now b) (now starts) first r at ⌝ }
     ensures { λ v. ⌜ v ≡ shapeAt y (now (b .entry)) r at ⌝ }
 {
     let left = b.len() - at;
@@ -151,15 +155,15 @@ fn shape_at(y: Layout, b: &[u8], starts: &[u16; 1601], r: usize, at: usize) -> V
             place: r,
         };
     }
-    let k = word(b, at + 2);
-    let n = word(b, at);
-    if !is_due(y, b, r, k) {
+    let k = word_inside(b, at + 2);
+    let n = word_inside(b, at);
+    if !is_due(y, b, first, r, k) {
         return Verdict::Refused {
             number: numbers::BAD_RECORD,
             place: r,
         };
     }
-    if !allows(k, n) {
+    if !allows(rows, k, n) {
         return Verdict::Refused {
             number: numbers::BAD_RECORD,
             place: r,
@@ -188,58 +192,44 @@ fn shape_at(y: Layout, b: &[u8], starts: &[u16; 1601], r: usize, at: usize) -> V
 }
 
 // One walk by lengths: the checks of every record due, then of bytes left over; the places go into the index.
-fn walk(y: Layout, b: &[u8]) -> Shaped
-    requires { ⌜ length (now b) ≤ fileLimit y ⌝ }
-    ensures { λ w. ⌜ Walked y (now (b .entry)) (w .verdict) (w .starts) ⌝ }
+fn walk(y: Layout, b: &[u8], starts: &mut Starts) -> Verdict
+    requires { ⌜ (length (now b) ≤ fileLimit y) × (length (now starts) ≡ mostRecords) ⌝ }
+    ensures { λ v. ⌜ Walked y (now (b .entry)) v (now (starts .exit)) ⌝ }
 {
-    let mut starts = [0u16; 1601];
-    let head = shape_at(y, b, &starts, 0, 0);
-    let Verdict::Accepted = head else {
-        return Shaped {
-            verdict: head,
-            starts,
-        };
-    };
+    let rows = rows();
+    let first = first_node(b);
     let count = due(b);
-    let mut at: usize = word(b, 0) as usize;
-    let mut r: usize = 1;
+    let mut at: usize = 0;
+    let mut r: usize = 0;
     while r < count {
         starts[r] = at as u16;
-        let v = shape_at(y, b, &starts, r, at);
+        let v = shape_at(&rows, y, b, starts, first, r, at);
         let Verdict::Accepted = v else {
-            return Shaped { verdict: v, starts };
+            return v;
         };
         at += word(b, at) as usize;
         r += 1;
     }
     if at == b.len() {
-        Shaped {
-            verdict: Verdict::Accepted,
-            starts,
-        }
+        Verdict::Accepted
     } else {
-        Shaped {
-            verdict: Verdict::Refused {
-                number: numbers::BAD_RECORD,
-                place: count,
-            },
-            starts,
+        Verdict::Refused {
+            number: numbers::BAD_RECORD,
+            place: count,
         }
     }
 }
 
-// The checks of a file up to the left-over bytes, and the index of its records.
-pub(crate) fn file_shape(y: Layout, b: &[u8]) -> Shaped
-    ensures { λ w. ⌜ Walked y (now (b .entry)) (w .verdict) (w .starts) ⌝ }
+// The checks of a file up to the left-over bytes; fills the index of its records.
+pub(crate) fn file_shape(y: Layout, b: &[u8], starts: &mut Starts) -> Verdict
+    requires { ⌜ length (now starts) ≡ mostRecords ⌝ }
+    ensures { λ v. ⌜ Walked y (now (b .entry)) v (now (starts .exit)) ⌝ }
 {
     if file_limit(y) < b.len() {
-        return Shaped {
-            verdict: Verdict::Refused {
-                number: numbers::OVERSIZE,
-                place: 0,
-            },
-            starts: [0u16; 1601],
+        return Verdict::Refused {
+            number: numbers::OVERSIZE,
+            place: 0,
         };
     }
-    walk(y, b)
+    walk(y, b, starts)
 }

@@ -1,18 +1,23 @@
 // The reader of translations.
 ghost use mathlib.Core.Path.{_≡_};
 ghost use Prim.Native.Nat.{_≤_, _<_};
+ghost use Rattle.definitions.specs.TranslationKinds;
 ghost use Rattle.definitions.specs.Records.{kindOf};
 ghost use Rattle.definitions.specs.Layouts.{due};
 ghost use Rattle.definitions.specs.References.{namesInRange, references};
 ghost use Rattle.definitions.specs.Verdicts.{firstOf};
 ghost use Rattle.definitions.specs.declared.Layout.the-variants.{Translation};
 ghost use Rattle.file_records.specs.Index.{Opened};
-ghost use Rattle.format.specs.Readers.{ReadTranslation};
-use crate::numbers;
+ghost use Rattle.format.specs.Readers.{LentTables, ReadTranslation};
 use crate::runs::run_ends;
 use crate::shape::file_shape;
 use definitions::Layout;
 use definitions::Verdict;
+use definitions::numbers;
+use definitions::sizes::Ends;
+use definitions::sizes::MOST_FUNCTIONS;
+use definitions::sizes::MOST_RECORDS;
+use definitions::sizes::Starts;
 use file_layout::layout::due;
 use file_layout::layout::functions;
 use file_layout::layout::items;
@@ -28,13 +33,13 @@ use file_references::references::children_below;
 // refused file only the verdict counts.
 pub struct TranslationRead {
     pub verdict: Verdict,
-    pub starts: [u16; 1601],
-    pub ends: [u16; 64],
+    pub starts: Starts,
+    pub ends: Ends,
 }
 
 // Whether what a record names besides nodes is there.
 fn names_in_range(b: &[u8], r: usize, rec: &[u8]) -> bool
-    requires { ⌜ 33 ≤ kindOf (now rec) ⌝ }
+    requires { ⌜ TranslationKinds.head ≤ kindOf (now rec) ⌝ }
     ensures { λ t. ⌜ t ≡ namesInRange (now (b .entry)) r (now (rec .entry)) ⌝ }
 {
     let k = kind(rec);
@@ -51,7 +56,7 @@ fn names_in_range(b: &[u8], r: usize, rec: &[u8]) -> bool
 }
 
 // The check 5 of record `r`.
-fn references_at(b: &[u8], starts: &[u16; 1601], r: usize) -> Verdict
+fn references_at(b: &[u8], starts: &Starts, r: usize) -> Verdict
     requires { ⌜ Opened Translation (now b) (now starts) × (r < due (now b)) ⌝ }
     ensures { λ v. ⌜ v ≡ references (now (b .entry)) r ⌝ }
 {
@@ -72,7 +77,7 @@ fn references_at(b: &[u8], starts: &[u16; 1601], r: usize) -> Verdict
 }
 
 // The check 5 of every record.
-fn references(b: &[u8], starts: &[u16; 1601]) -> Verdict
+fn references(b: &[u8], starts: &Starts) -> Verdict
     requires { ⌜ Opened Translation (now b) (now starts) ⌝ }
     ensures { λ v. ⌜ v ≡ firstOf (due (now (b .entry))) (references (now (b .entry))) ⌝ }
 {
@@ -88,23 +93,29 @@ fn references(b: &[u8], starts: &[u16; 1601]) -> Verdict
     Verdict::Accepted
 }
 
+// Reads a translation into tables that the caller lends: where its records start, and where the runs of its functions end.
+// Of a refused file only the verdict counts.
+pub fn fill_translation(b: &[u8], starts: &mut Starts, ends: &mut Ends) -> Verdict
+    requires { ⌜ LentTables (now starts) (now ends) ⌝ }
+    ensures { λ v. ⌜ ReadTranslation (now (b .entry)) v (now (starts .exit)) (now (ends .exit)) ⌝ }
+{
+    let shape = file_shape(Layout::Translation, b, starts);
+    let Verdict::Accepted = shape else {
+        return shape;
+    };
+    run_ends(Layout::Translation, b, starts, ends);
+    references(b, starts)
+}
+
 // Reads a translation.
 pub fn read_translation(b: &[u8]) -> TranslationRead
     ensures { λ r. ⌜ ReadTranslation (now (b .entry)) (r .verdict) (r .starts) (r .ends) ⌝ }
 {
-    let w = file_shape(Layout::Translation, b);
-    let v = w.verdict;
-    let starts = w.starts;
-    let Verdict::Accepted = v else {
-        return TranslationRead {
-            verdict: v,
-            starts,
-            ends: [0u16; 64],
-        };
-    };
-    let ends = run_ends(Layout::Translation, b, &starts);
+    let mut starts = [0u16; MOST_RECORDS];
+    let mut ends = [0u16; MOST_FUNCTIONS];
+    let verdict = fill_translation(b, &mut starts, &mut ends);
     TranslationRead {
-        verdict: references(b, &starts),
+        verdict,
         starts,
         ends,
     }

@@ -1,19 +1,22 @@
 // The child, case and clause order rules of sheets.
 ghost use mathlib.Core.Path.{_≡_};
-ghost use mathlib.Core.Bool.{_&&_};
-ghost use Prim.Native.Nat.{_+_, _≤_, _<_};
-ghost use lib.Dec.{ltb, eqb};
+ghost use Prim.Native.Nat.{_+_, _<_};
 ghost use Rattle.definitions.specs.Lists.{allOf};
-ghost use Rattle.definitions.specs.Layouts.{nodes, ownerOf};
-ghost use Rattle.definitions.specs.References.{children, child};
+ghost use Rattle.definitions.specs.Sizes.{mostNodes};
+ghost use Rattle.definitions.specs.Layouts.{nodes};
+ghost use Rattle.definitions.specs.References.{children};
 ghost use Rattle.definitions.specs.Checks.{isBody, clausesRise, treeRight, tree};
 ghost use Rattle.definitions.specs.Verdicts.{firstOf};
 ghost use Rattle.definitions.specs.declared.Layout.the-variants.{Sheet};
 ghost use Rattle.file_records.specs.Index.{Opened};
-ghost use Rattle.format.specs.Readers.{RunEnds, Owners, NodeAt};
+ghost use Rattle.format.specs.Readers.{RunEnds, Owners, NodeAt, childRight};
 ghost use Rattle.format.specs.Seen.{TimesOf};
-use crate::numbers;
 use definitions::Verdict;
+use definitions::numbers;
+use definitions::sizes::Ends;
+use definitions::sizes::MOST_NODES;
+use definitions::sizes::Owners;
+use definitions::sizes::Starts;
 use file_layout::layout::first_node;
 use file_layout::layout::nodes;
 use file_layout::sheet_kinds;
@@ -21,19 +24,13 @@ use file_records::records::indexed;
 use file_records::records::kind;
 use file_records::records::wide;
 use file_records::records::wide8;
-use file_references::references::child;
+use file_references::references::child_inside;
 use file_references::references::children;
 use file_references::references::clause_constructor;
 use file_references::references::clauses;
 
 // Whether node `k` is the body of its function.
-pub(crate) fn is_body(
-    b: &[u8],
-    starts: &[u16; 1601],
-    ends: &[u16; 64],
-    owners: &[u8; 1024],
-    k: usize,
-) -> bool
+pub(crate) fn is_body(b: &[u8], starts: &Starts, ends: &Ends, owners: &Owners, k: usize) -> bool
     requires { ⌜ NodeAt (now b) (now starts) (now ends) (now owners) k ⌝ }
     ensures { λ t. ⌜ t ≡ isBody (now (b .entry)) k ⌝ }
 {
@@ -41,14 +38,15 @@ pub(crate) fn is_body(
 }
 
 // Whether the nodes that a record names are smaller than node `k` and in the same function.
-fn children_right(b: &[u8], owners: &[u8; 1024], k: usize, rec: &[u8]) -> bool
-    requires { ⌜ (Owners (now b) (now owners)) × (k < nodes (now b)) × (k < 1024) ⌝ }
-    ensures { λ t. ⌜ t ≡ allOf (children (now (rec .entry))) (λ j. ltb (child (now (rec .entry)) j) k && eqb (ownerOf Sheet (now (b .entry)) (child (now (rec .entry)) j)) (ownerOf Sheet (now (b .entry)) k)) ⌝ }
+fn children_right(b: &[u8], owners: &Owners, k: usize, rec: &[u8]) -> bool
+    requires { ⌜ (Owners (now b) (now owners)) × (k < nodes (now b)) × (k < mostNodes) ⌝ }
+    ensures { λ t. ⌜ t ≡ allOf (children (now (rec .entry))) (λ j. childRight (now (b .entry)) (now (rec .entry)) k j) ⌝ }
 {
+    let kind = kind(rec);
     let count = children(rec);
     let mut j: usize = 0;
     while j < count {
-        let c = wide(child(rec, j));
+        let c = wide(child_inside(rec, kind, j));
         if k <= c {
             return false;
         }
@@ -78,10 +76,10 @@ fn clauses_rise(rec: &[u8]) -> bool
 // The child, case and clause order rules of node `k`.
 fn tree_right(
     b: &[u8],
-    starts: &[u16; 1601],
-    ends: &[u16; 64],
-    owners: &[u8; 1024],
-    times: &[u8; 1024],
+    starts: &Starts,
+    ends: &Ends,
+    owners: &Owners,
+    times: &[u8; MOST_NODES],
     k: usize,
 ) -> bool
     requires { ⌜ NodeAt (now b) (now starts) (now ends) (now owners) k × TimesOf (now b) (now times) ⌝ }
@@ -106,10 +104,10 @@ fn tree_right(
 // The child, case and clause order rules of every node.
 pub(crate) fn trees(
     b: &[u8],
-    starts: &[u16; 1601],
-    ends: &[u16; 64],
-    owners: &[u8; 1024],
-    times: &[u8; 1024],
+    starts: &Starts,
+    ends: &Ends,
+    owners: &Owners,
+    times: &[u8; MOST_NODES],
 ) -> Verdict
     requires { ⌜ (Opened Sheet (now b) (now starts)) × RunEnds Sheet (now b) (now ends) × Owners (now b) (now owners) × TimesOf (now b) (now times) ⌝ }
     ensures { λ v. ⌜ v ≡ firstOf (nodes (now (b .entry))) (tree (now (b .entry))) ⌝ }

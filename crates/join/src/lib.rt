@@ -8,24 +8,16 @@ ghost use Rattle.join.specs.Promise.{Joins};
 use allowances::allowed;
 use cells::answer::Answer;
 use cells::answer::refused;
+use definitions::numbers;
+use definitions::sizes::TRANSLATION_BYTES;
 use file_layout::layout;
 use file_records::records::wide;
 use run::run;
 use translator::Translated;
 use translator::translate;
 
-// The refusals that are decided here: "short tray", "sensor count", "bad allowance".
-const SHORT_OUTPUT: u16 = 8;
-
-const BAD_READINGS: u16 = 9;
-
-const BAD_ALLOWANCE: u16 = 10;
-
-// The greatest length of a translation.
-const TRANSLATION_BYTES: usize = 40960;
-
 // Translates a sheet into a lent buffer and runs the translation on a list of readings, with allowances of steps, nesting and
-// cells, in lent cells. Every refusal is known before the first byte is written.
+// cells, in lent cells. Every refusal is known before the first byte is written. The slice behind `cells` stays the same.
 pub fn translate_and_run(
     sheet: &[u8],
     out: &mut [u8],
@@ -33,9 +25,10 @@ pub fn translate_and_run(
     steps: u32,
     nesting: u32,
     most: u32,
-    cells: &mut [u8],
+    cells: &mut &mut [u8],
 ) -> Answer
-    ensures { λ r. ⌜ Joins (now (sheet .entry)) (now (out .entry)) (now (readings .entry)) steps nesting most (now (cells .entry)) r (now (out .exit)) (now (cells .exit)) ⌝ }
+    ensures { λ r. ⌜ Joins (now (sheet .entry)) (now (out .entry)) (now (readings .entry)) steps nesting most (now (now (cells .entry))) r (now (out .exit)) (now (now (cells .exit)))
+        × (now (cells .exit) .ptr ≡ now (cells .entry) .ptr) ⌝ }
 {
     let mut own = [0u8; TRANSLATION_BYTES];
     let translated = translate(sheet, &mut own);
@@ -56,19 +49,20 @@ fn run_accepted(
     steps: u32,
     nesting: u32,
     most: u32,
-    cells: &mut [u8],
+    cells: &mut &mut [u8],
 ) -> Answer
     requires { ⌜ (sheetVerdict (now sheet) ≡ Accepted) × (size ≡ length (translation (now sheet))) ⌝ }
-    ensures { λ r. ⌜ Joins (now (sheet .entry)) (now (out .entry)) (now (readings .entry)) steps nesting most (now (cells .entry)) r (now (out .exit)) (now (cells .exit)) ⌝ }
+    ensures { λ r. ⌜ Joins (now (sheet .entry)) (now (out .entry)) (now (readings .entry)) steps nesting most (now (now (cells .entry))) r (now (out .exit)) (now (now (cells .exit)))
+        × (now (cells .exit) .ptr ≡ now (cells .entry) .ptr) ⌝ }
 {
     if out.len() < size {
-        return refused(SHORT_OUTPUT, 0);
+        return refused(numbers::SHORT_OUTPUT, 0);
     }
     if readings.len() != wide(layout::readings(sheet)) {
-        return refused(BAD_READINGS, 0);
+        return refused(numbers::BAD_READINGS, 0);
     }
     if !allowed(nesting, most, cells.len()) {
-        return refused(BAD_ALLOWANCE, 0);
+        return refused(numbers::BAD_ALLOWANCE, 0);
     }
     translate(sheet, out);
     run(&out[..size], readings, steps, nesting, most, cells)

@@ -1,8 +1,7 @@
 -- Laws of little-endian fields. A field that starts past the end is 0.
 use mathlib.Core.Path.{_≡_, refl, sym, ap, _∙_}
-use Prim.Native.Nat.{ℕ, suc, _+_, _*_, _-_, _^_, _≤_, _<_}
+use Prim.Native.Nat.{ℕ, suc, _+_, _*_, _-_, _≤_, _<_}
 use mathlib.Core.List.{List}
-use mathlib.Core.Bool.{true, false}
 use native.Mathlib.Omega.{arith}
 use native.Mathlib.Nat.{add-assoc}
 use lib.IntN.{ℤ, pos, negsuc, _-ℤ_}
@@ -24,6 +23,10 @@ word-bytes b at x y p q = rw (p, q) refl
 
 pub word-past : (b : List ℕ) (at : ℕ) → length b ≤ at → 0 ≡ word b at
 word-past b at h = word-bytes b at 0 0 (byte-past b at h) (byte-past b (at + 1) (omega arith))
+
+-- where the upper byte is past the end, the lower byte is the whole
+pub word-last : (b : List ℕ) (at x : ℕ) → length b ≤ at + 1 → x ≡ getD b at 0 → x ≡ word b at
+word-last b at x h p = let e : x + 256 * 0 ≡ word b at = word-bytes b at x 0 p (byte-past b (at + 1) h) in omega arith
 
 pub word32-words : (b : List ℕ) (at x y : ℕ) → x ≡ word b at → y ≡ word b (at + 2) → x + 65536 * y ≡ word32 b at
 unfolding word32

@@ -5,11 +5,8 @@ use mathlib.Core.List.{List, [], _∷_}
 use mathlib.Core.Bool.{Bool, true, false, cond, _&&_, and-eq-true-iff, and-false, true≢false}
 use native.Mathlib.Omega.{arith}
 use lib.Dec.{leb, ltb, eqb}
-use lib.ListN.{getD}
 use borrow.Author.Tests.{le-leb, lt-leb, ltb-true, leb-true, ne-eqb}
-use Rattle.definitions.specs.Lists.{listed}
 use Rattle.definitions.specs.Kinds.{Row, row, rows, rowIn, rowOf, allows}
-use Rattle.laws.proofs.Lists.{listed-at}
 
 -- one more than the greatest kind of document 01
 abbrev pub kindCount : ℕ
@@ -37,26 +34,6 @@ nothing-allowed k (suc n) = rw (lt-leb (suc n) 0 (omega arith), and-false) refl
 pub past-table : (k n : ℕ) → kindCount ≤ k → false ≡ allows (rowOf k) n
 unfolding rowOf rows row kindsBelow
 past-table k n h = sym (ap (λ (r : Row). allows r n) (no-row rows kindCount k refl h) ∙ nothing-allowed k n)
-
--- no step is 0
-stepsAbove : List Row → Bool
-stepsAbove [] = true
-stepsAbove (r ∷ rs) = ltb 0 (r .step) && stepsAbove rs
-
-step-of : (t : Bool) (r s : Row) → 0 < r .step → 0 < s .step → 0 < cond t r s .step
-step-of true r s h k = h
-step-of false r s h k = k
-
-step-above : (rs : List Row) (k : ℕ) → stepsAbove rs ≡ true → 0 < rowIn rs k .step
-unfolding stepsAbove rowIn row
-step-above [] k e = omega arith
-step-above (r ∷ rs) k e =
-    let p = and-eq-true-iff (ltb 0 (r .step)) (stepsAbove rs) .0 e in
-    step-of (eqb k (r .kind)) r (rowIn rs k) (ltb-true 0 (r .step) (p .0)) (step-above rs k (p .1))
-
-pub step-positive : (k : ℕ) → 0 < rowOf k .step
-unfolding rowOf rows row stepsAbove
-step-positive k = step-above rows k refl
 
 -- every length that a row of the table allows is at least 4
 leastAbove : List Row → Bool

@@ -1,6 +1,8 @@
 pub mod Bytes
 pub mod Records
 pub mod Lists
+pub mod Ranges
+pub mod Classes
 pub mod Verdicts
 pub mod KindRows
 pub mod Shape
@@ -10,3 +12,5 @@ pub mod References
 pub mod Names
 pub mod Arguments
 pub mod Walk
+pub mod ByteFiles
+pub mod NodeKinds

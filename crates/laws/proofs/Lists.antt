@@ -1,15 +1,15 @@
 -- Laws of sums, counts and tests over the first n numbers.
-use mathlib.Core.Path.{_≡_, refl, sym, ap, _∙_}
-use Prim.Native.Nat.{ℕ, zero, suc, _+_, _-_, _≤_, _<_}
-use mathlib.Core.Bool.{Bool, true, false, cond, _&&_, and-eq-true-iff, and-false}
+use mathlib.Core.Path.{_≡_, refl, _∙_}
+use Prim.Native.Nat.{ℕ, zero, suc, _+_, _-_, _<_}
+use mathlib.Core.Bool.{Bool, true, false, cond, and-eq-true-iff, and-false}
 use native.Mathlib.Omega.{arith}
 use native.Mathlib.Numerals.{add-one}
 use native.Mathlib.Nat.{not-suc-le-zero, zero-add, suc-add}
 use native.Mathlib.Decide.{ℕ-discrete}
-use mathlib.Core.List.{List, [], _∷_, _++_}
+use mathlib.Core.List.{[], _∷_, _++_}
 use lib.ListN.{length, getD, length-append, List·getD-append}
 use lib.Seq.{getD-at}
-use Rattle.definitions.specs.Lists.{joined, listed, sumOf, countOf, allOf, lastOf}
+use Rattle.definitions.specs.Lists.{listed, sumOf, countOf, allOf, lastOf}
 
 -- what holds of each number below n, and of n, holds of each below n + 1
 below-case : (P : ℕ → Type 0) (n i : ℕ) → (i < n → P i) → P n → i < suc n → Dec (i ≡ n) → P i
@@ -71,6 +71,12 @@ all-each (suc n) test e i h =
     let k = and-eq-true-iff (allOf n test) (test n) .0 e in
     below-suc (λ j. test j ≡ true) n (all-each n test (k .0)) (k .1) i h
 
+-- lists whose elements are alike
+pub listed-same {ℓ} : {A : Type ℓ} (n : ℕ) (at to : ℕ → A) → ((i : ℕ) → i < n → at i ≡ to i) → listed n at ≡ listed n to
+unfolding listed
+listed-same zero at to h = refl
+listed-same (suc n) at to h = rw (listed-same n at to (λ i l. h i (omega arith)), h n (omega arith)) refl
+
 -- the length and the elements of a list made over the first n numbers
 pub listed-length {ℓ} : {A : Type ℓ} (n : ℕ) (at : ℕ → A) → length (listed n at) ≡ n
 unfolding listed
@@ -84,7 +90,3 @@ listed-at (suc n) at d i h =
     below-suc (λ j. getD (listed n at ++ (at n ∷ [])) j d ≡ at j) n
     (λ j k. List·getD-append (listed n at) (at n ∷ []) d j (rw (listed-length n at) k) ∙ listed-at n at d j k)
     (getD-at (listed n at) (at n) [] d n (listed-length n at)) i h
-
--- an entry of a table that is made so
-pub table-entry : (n : ℕ) (xs : List ℕ) (at : ℕ → ℕ) (k : ℕ) → xs ≡ listed n at → k < n → getD xs k 0 ≡ at k
-table-entry n xs at k e h = rw e (listed-at n at 0 k h)

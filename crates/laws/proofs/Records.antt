@@ -1,8 +1,8 @@
 -- Laws of records: what `whole`, `next` and `recordAt` are where a test went one way or the other.
-use mathlib.Core.Path.{_≡_, refl, sym, ap, _∙_}
-use Prim.Native.Nat.{ℕ, suc, _+_, _*_, _-_, _/_, _≤_, _<_}
+use mathlib.Core.Path.{_≡_, refl, sym, _∙_}
+use Prim.Native.Nat.{ℕ, _+_, _*_, _-_, _/_, _≤_, _<_}
 use mathlib.Core.List.{List, []}
-use mathlib.Core.Bool.{Bool, true, false, cond, _&&_, and-eq-true-iff, and-false}
+use mathlib.Core.Bool.{Bool, true, false, and-eq-true-iff, and-false}
 use native.Mathlib.Omega.{arith}
 use native.Mathlib.Numerals.{add-one}
 use native.Mathlib.Nat.{sub-eq-zero-of-le, le-of-lt, add-sub-cancel-left}
@@ -10,7 +10,7 @@ use lib.ListN.{length, take, drop, length-take, length-drop}
 use lib.Dec.{leb}
 use borrow.Author.Tests.{le-leb, lt-leb, leb-true, leb-false}
 use Rattle.definitions.specs.Bytes.{word}
-use Rattle.definitions.specs.Records.{whole, next, startOf, recordAt, recordOf, kindOf, field, fieldCount}
+use Rattle.definitions.specs.Records.{whole, next, startOf, recordAt, field, fieldCount}
 use Rattle.laws.proofs.Bytes.{word-past, word-part}
 
 -- a record that is whole: its length field, and its last byte
@@ -92,6 +92,10 @@ field-is rec j n e = e
 
 pub field-past : (rec : List ℕ) (j : ℕ) → length rec / 2 ≤ j → 0 ≡ field rec j
 field-past rec j h = word-past rec (4 + 2 * j) (omega arith)
+
+pub field-room : (rec : List ℕ) (j : ℕ) → j < fieldCount rec → 4 + 2 * j + 1 < length rec
+unfolding fieldCount
+field-room rec j h = omega arith
 
 pub fields-none : (rec : List ℕ) → length rec < 4 → 0 ≡ fieldCount rec
 unfolding fieldCount

@@ -1,66 +1,70 @@
 -- Laws of the fields that name nodes, by kind.
-use mathlib.Core.Path.{_≡_, refl, sym, ap, _∙_}
-use Prim.Native.Nat.{ℕ, zero, suc, _+_, _*_, _-_, _/_, _%_, _≤_, _<_}
+use mathlib.Core.Path.{_≡_, refl, _∙_}
+use Prim.Native.Nat.{ℕ, _+_, _*_, _-_, _/_, _%_, _≤_, _<_}
 use mathlib.Core.List.{List}
-use mathlib.Core.Bool.{Bool, true, false, cond, _||_}
-use mathlib.Core.Logic.{_⊎_, inl, inr}
+use mathlib.Core.Bool.{Bool, true, false, cond}
 use native.Mathlib.Omega.{arith}
 use lib.ListN.{length}
-use lib.Dec.{eqb}
-use borrow.Author.Tests.{eq-eqb, ne-eqb}
-use Rattle.definitions.specs.Bytes.{word}
+use native.Mathlib.Nat.{zero-add, sub-zero}
+use lib.Dec.{ltb, eqb}
+use borrow.Author.Tests.{ne-eqb}
+use Rattle.definitions.specs.SheetKinds
+use Rattle.definitions.specs.TranslationKinds
+use Rattle.definitions.specs.Lists.{allOf}
 use Rattle.definitions.specs.Records.{kindOf, field, fieldCount}
 use Rattle.definitions.specs.References.{fromFirst, fromSecond, everyOther, childCount, childField, children, child, clauses, clauseConstructor}
 use Rattle.laws.proofs.Records.{field-past}
 
 -- tests over several kinds, by the comparisons passed so far
-pub other-sheet-case : (k : ℕ) → k ≡ 24 → true ≡ everyOther k
+pub other-sheet-case : (k : ℕ) → k ≡ SheetKinds.caseOf → true ≡ everyOther k
 unfolding everyOther
 other-sheet-case k e = rw e refl
 
-pub other-case : (k : ℕ) → k ≡ 56 → true ≡ everyOther k
+pub other-case : (k : ℕ) → k ≡ TranslationKinds.caseOf → true ≡ everyOther k
 unfolding everyOther
 other-case k e = rw e refl
 
-pub other-select : (k : ℕ) → (k ≡ 24 → ⊥) → (k ≡ 56 → ⊥) → eqb k 51 ≡ everyOther k
+pub other-select : (k : ℕ) → (k ≡ SheetKinds.caseOf → ⊥) → (k ≡ TranslationKinds.caseOf → ⊥) → eqb k TranslationKinds.select ≡ everyOther k
 unfolding everyOther
-other-select k e f = rw (ne-eqb k 24 e, ne-eqb k 56 f) refl
+other-select k e f = rw (ne-eqb k SheetKinds.caseOf e, ne-eqb k TranslationKinds.caseOf f) refl
 
-pub first-sheet-if : (k : ℕ) → k ≡ 21 → true ≡ fromFirst k
+pub first-sheet-if : (k : ℕ) → k ≡ SheetKinds.conditional → true ≡ fromFirst k
 unfolding fromFirst everyOther
 first-sheet-if k e = rw e refl
 
-pub first-if : (k : ℕ) → k ≡ 53 → true ≡ fromFirst k
+pub first-if : (k : ℕ) → k ≡ TranslationKinds.conditional → true ≡ fromFirst k
 unfolding fromFirst everyOther
 first-if k e = rw e refl
 
-pub first-list : (k : ℕ) → k ≡ 35 → true ≡ fromFirst k
+pub first-list : (k : ℕ) → k ≡ TranslationKinds.formalList → true ≡ fromFirst k
 unfolding fromFirst everyOther
 first-list k e = rw e refl
 
-pub first-other : (k : ℕ) (t : Bool) → (k ≡ 21 → ⊥) → (k ≡ 53 → ⊥) → (k ≡ 35 → ⊥) → t ≡ everyOther k → t ≡ fromFirst k
+pub first-other : (k : ℕ) (t : Bool) → (k ≡ SheetKinds.conditional → ⊥) → (k ≡ TranslationKinds.conditional → ⊥) → (k ≡ TranslationKinds.formalList →
+    ⊥) → t ≡ everyOther k → t ≡ fromFirst k
 unfolding fromFirst
-first-other k t e f g h = rw (ne-eqb k 21 e, ne-eqb k 53 f, ne-eqb k 35 g) h
+first-other k t e f g h = rw (ne-eqb k SheetKinds.conditional e, ne-eqb k TranslationKinds.conditional f, ne-eqb k TranslationKinds.formalList g) h
 
-pub second-sheet-operator : (k : ℕ) → k ≡ 20 → true ≡ fromSecond k
+pub second-sheet-operator : (k : ℕ) → k ≡ SheetKinds.operator → true ≡ fromSecond k
 unfolding fromSecond
 second-sheet-operator k e = rw e refl
 
-pub second-call : (k : ℕ) → k ≡ 22 → true ≡ fromSecond k
+pub second-call : (k : ℕ) → k ≡ SheetKinds.call → true ≡ fromSecond k
 unfolding fromSecond
 second-call k e = rw e refl
 
-pub second-build : (k : ℕ) → k ≡ 23 → true ≡ fromSecond k
+pub second-build : (k : ℕ) → k ≡ SheetKinds.build → true ≡ fromSecond k
 unfolding fromSecond
 second-build k e = rw e refl
 
-pub second-operator : (k : ℕ) → k ≡ 52 → true ≡ fromSecond k
+pub second-operator : (k : ℕ) → k ≡ TranslationKinds.operator → true ≡ fromSecond k
 unfolding fromSecond
 second-operator k e = rw e refl
 
-pub second-tuple : (k : ℕ) → (k ≡ 20 → ⊥) → (k ≡ 22 → ⊥) → (k ≡ 23 → ⊥) → (k ≡ 52 → ⊥) → eqb k 55 ≡ fromSecond k
+pub second-tuple : (k : ℕ) → (k ≡ SheetKinds.operator → ⊥) → (k ≡ SheetKinds.call → ⊥) → (k ≡ SheetKinds.build → ⊥) → (k ≡
+    TranslationKinds.operator → ⊥) → eqb k TranslationKinds.tuple ≡ fromSecond k
 unfolding fromSecond
-second-tuple k e f g h = rw (ne-eqb k 20 e, ne-eqb k 22 f, ne-eqb k 23 g, ne-eqb k 52 h) refl
+second-tuple k e f g h = rw (ne-eqb k SheetKinds.operator e, ne-eqb k SheetKinds.call f, ne-eqb k SheetKinds.build g, ne-eqb k TranslationKinds.operator h) refl
 
 -- how many nodes are named, by what the tests answered
 module _ (k n : ℕ) (t : Bool) (et : t ≡ everyOther k) where
@@ -116,6 +120,45 @@ module _ (rec : List ℕ) (j k x : ℕ) (ek : k ≡ kindOf rec) (t : Bool) (et :
   pub child-second : t ≡ false → (u : Bool) → u ≡ fromFirst k → u ≡ false → x ≡ field rec (1 + j) → x ≡ child rec j
   unfolding child childField
   child-second e u g h f = rw (← ek, ← et, e, ← g, h) f
+
+-- the field of the j-th node is in the record
+module _ (rec : List ℕ) (j k : ℕ) (h : j < children rec) (ek : k ≡ kindOf rec) (t : Bool) (et : t ≡ everyOther k) where
+  pub room-other : t ≡ true → 2 * j < fieldCount rec
+  unfolding children childCount
+  room-other e = let i : j < (fieldCount rec + 1) / 2 = rw (← ek, ← et, e) at h in omega arith
+
+  module _ (ht : t ≡ false) (u : Bool) (eu : u ≡ fromFirst k) where
+    pub room-first : u ≡ true → j < fieldCount rec
+    unfolding children childCount
+    room-first e = rw (← ek, ← et, ht, ← eu, e) at h
+
+    pub room-second : u ≡ false → 1 + j < fieldCount rec
+    unfolding children childCount
+    room-second e = by (fromSecond k) (rw (← ek, ← et, ht, ← eu, e) at h)
+      where
+        by : (w : Bool) → j < cond w (fieldCount rec - 1) 0 → 1 + j < fieldCount rec
+        by true i = omega arith
+        by false i = absurd (omega arith)
+
+-- the test of every node named, by what the tests of the kind answered
+module _ (rec : List ℕ) (k limit : ℕ) (ek : k ≡ kindOf rec) (v t : Bool) (et : t ≡ everyOther k) where
+  pub below-other : t ≡ true → v ≡ allOf ((fieldCount rec + 1) / 2) (λ j. ltb (field rec (2 * j)) limit) → v ≡ allOf (children rec) (λ j. ltb (child rec j) limit)
+  unfolding children childCount child childField
+  below-other e f = rw (← ek, ← et, e) f
+
+  module _ (ht : t ≡ false) (u : Bool) (eu : u ≡ fromFirst k) where
+    pub below-first : u ≡ true → v ≡ allOf (fieldCount rec - 0) (λ j. ltb (field rec (0 + j)) limit) → v ≡ allOf (children rec) (λ j. ltb (child rec j) limit)
+    unfolding children childCount child childField
+    below-first e f = rw (← ek, ← et, ht, ← eu, e) (simp (zero-add, sub-zero) at f)
+
+    module _ (hu : u ≡ false) (w : Bool) (ew : w ≡ fromSecond k) where
+      pub below-second : w ≡ true → v ≡ allOf (fieldCount rec - 1) (λ j. ltb (field rec (1 + j)) limit) → v ≡ allOf (children rec) (λ j. ltb (child rec j) limit)
+      unfolding children childCount child childField
+      below-second e f = rw (← ek, ← et, ht, ← eu, hu, ← ew, e) f
+
+      pub below-none : w ≡ false → true ≡ allOf (children rec) (λ j. ltb (child rec j) limit)
+      unfolding children childCount child childField allOf
+      below-none e = rw (← ek, ← et, ht, ← eu, hu, ← ew, e) refl
 
 -- a case's clauses
 pub clauses-counted : (rec : List ℕ) (n : ℕ) → n ≡ fieldCount rec → n / 2 ≡ clauses rec

@@ -1,14 +1,11 @@
 -- Laws of the sums over functions' records that an index reaches.
-use mathlib.Core.Path.{_≡_, refl, sym, ap, _∙_}
-use Prim.Native.Nat.{ℕ, zero, suc, _+_, _-_, _≤_, _<_}
+use mathlib.Core.Path.{_≡_, refl, sym, _∙_}
+use Prim.Native.Nat.{ℕ, _+_}
 use mathlib.Core.List.{List}
 use native.Mathlib.Omega.{arith}
-use native.Mathlib.Numerals.{add-one}
-use lib.ListN.{length, getD}
-use Rattle.definitions.specs.Bytes.{word}
-use Rattle.definitions.specs.Records.{recordAt, recordOf, startOf, kindOf, field}
+use Rattle.definitions.specs.Records.{recordOf, field}
 use Rattle.definitions.specs.Lists.{sumOf}
-use Rattle.definitions.specs.Layouts.{functions, firstFunction, countField, nodeCount}
+use Rattle.definitions.specs.Layouts.{firstFunction, countField, nodeCount}
 use Rattle.definitions.specs.declared.Layout.{Layout}
 use Rattle.laws.proofs.Lists.{sum-more, sum-none}
 

@@ -1,24 +1,28 @@
 -- Laws of the layouts' numbers and of the checks of a record's shape: what each is where the tests went one way or the
 -- other. What was read of the file, and what a test answered, stand as variables with an equation.
-use mathlib.Core.Path.{_≡_, refl, sym, ap, _∙_}
-use Prim.Native.Nat.{ℕ, zero, suc, _+_, _-_, _≤_, _<_}
+use mathlib.Core.Path.{_≡_, refl}
+use Prim.Native.Nat.{ℕ, suc, _+_, _-_, _≤_, _<_}
 use mathlib.Core.List.{List}
-use mathlib.Core.Bool.{Bool, true, false, cond, _&&_, _||_, and-false}
+use mathlib.Core.Bool.{Bool, true, false, _&&_}
 use native.Mathlib.Omega.{arith}
-use native.Mathlib.Numerals.{add-one}
 use lib.ListN.{length}
-use lib.Dec.{leb, ltb, eqb}
+use lib.Dec.{leb, eqb}
 use borrow.Author.Tests.{le-leb, lt-leb, le-ltb, lt-ltb, eq-eqb, ne-eqb, leb-true, leb-false}
+use Rattle.definitions.specs.SheetKinds
+use Rattle.definitions.specs.TranslationKinds
+use Rattle.definitions.specs.Sizes.{mostNodes}
+use Rattle.definitions.specs.Numbers.{badCount, badRecord, truncated}
 use Rattle.definitions.specs.Bytes.{word}
 use Rattle.definitions.specs.Records.{recordAt, kindOf, field}
 use Rattle.definitions.specs.Kinds.{rowOf, allows}
 use Rattle.definitions.specs.Lists.{sumOf}
 use Rattle.definitions.specs.Verdicts.{_andThen_, require}
 use Rattle.definitions.specs.Layouts.{readings, items, functions, nodes, firstItem, firstFunction, firstNode, headKind, sectionKind, nodeKind, isDue, countField, nodeCount}
-use Rattle.definitions.specs.Shape.{itemLimit, within, headCounts, runCounts, counts, operatorCode, shapeAt}
+use Rattle.definitions.specs.Shape.{itemLimit, headCounts, runCounts, counts, operatorCode, shapeAt}
+use Rattle.definitions.specs.Ranges.{within}
+use Rattle.laws.proofs.Ranges.{within-both, within-below, within-above}
 use Rattle.definitions.specs.declared.Layout.{Layout}
 use Rattle.definitions.specs.declared.Layout.the-variants.{Sheet, Translation}
-use Rattle.definitions.specs.declared.Verdict.{Verdict}
 use Rattle.definitions.specs.declared.Verdict.the-variants.{Accepted, Refused}
 
 -- the first item and the first function, by layout
@@ -43,11 +47,11 @@ pub section-sheet-function : (y : Layout) (b : List ℕ) (r n : ℕ) → y ≡ S
 unfolding sectionKind
 section-sheet-function y b r n e f h = rw (e, ← f, lt-leb r n h) refl
 
-pub section-function : (y : Layout) (b : List ℕ) (r n : ℕ) → y ≡ Translation → n ≡ functions b → r ≤ n → 34 ≡ sectionKind y b r
+pub section-function : (y : Layout) (b : List ℕ) (r n : ℕ) → y ≡ Translation → n ≡ functions b → r ≤ n → TranslationKinds.function ≡ sectionKind y b r
 unfolding sectionKind
 section-function y b r n e f h = rw (e, ← f, le-leb r n h) refl
 
-pub section-formal : (y : Layout) (b : List ℕ) (r n : ℕ) → y ≡ Translation → n ≡ functions b → n < r → 35 ≡ sectionKind y b r
+pub section-formal : (y : Layout) (b : List ℕ) (r n : ℕ) → y ≡ Translation → n ≡ functions b → n < r → TranslationKinds.formalList ≡ sectionKind y b r
 unfolding sectionKind
 section-formal y b r n e f h = rw (e, ← f, lt-leb r n h) refl
 
@@ -73,19 +77,6 @@ difference-test k l false h e = rw (e, lt-leb k (l + 8) (omega (arith, leb-false
 
 pub due-node : (y : Layout) (b : List ℕ) (r k n l : ℕ) → (r ≡ 0 → ⊥) → n ≡ firstNode b → n ≤ r → l ≡ nodeKind y → l ≤ k → leb (k - l) 8 ≡ isDue y b r k
 due-node y b r k n l e f h g q = rw (← due-by-node y b r k n e f h, ← g, le-leb l k q) (difference-test k l (leb (k - l) 8) q refl)
-
--- a range, by its two comparisons
-pub within-both : (l g n : ℕ) → l ≤ n → n ≤ g → within l g n ≡ true
-unfolding within
-within-both l g n h k = rw (le-leb l n h, le-leb n g k) refl
-
-pub within-below : (l g n : ℕ) → n < l → within l g n ≡ false
-unfolding within
-within-below l g n h = rw (lt-leb l n h) refl
-
-pub within-above : (l g n : ℕ) → g < n → within l g n ≡ false
-unfolding within
-within-above l g n h = rw (lt-leb n g h, and-false) refl
 
 -- the head's counts
 module _ (y : Layout) (b : List ℕ) where
@@ -119,24 +110,24 @@ module _ (y : Layout) (b : List ℕ) where
 
         pub nodes-below : (n : ℕ) → n ≡ nodes b → n < 1 → false ≡ headCounts y b
         unfolding headCounts
-        nodes-below n e h = rw (readings-right, items-right, functions-right, ← e, within-below 1 1024 n h) refl
+        nodes-below n e h = rw (readings-right, items-right, functions-right, ← e, within-below 1 mostNodes n h) refl
 
-        pub nodes-test : (n : ℕ) → n ≡ nodes b → 1 ≤ n → leb n 1024 ≡ headCounts y b
+        pub nodes-test : (n : ℕ) → n ≡ nodes b → 1 ≤ n → leb n mostNodes ≡ headCounts y b
         unfolding headCounts within
         nodes-test n e h = rw (readings-right, items-right, functions-right, ← e, le-leb 1 n h) refl
 
 -- the operator code
-pub code-sheet : (rec : List ℕ) (k o : ℕ) → k ≡ kindOf rec → k ≡ 20 → o ≡ field rec 0 → leb o 5 ≡ operatorCode rec
+pub code-sheet : (rec : List ℕ) (k o : ℕ) → k ≡ kindOf rec → k ≡ SheetKinds.operator → o ≡ field rec 0 → leb o 5 ≡ operatorCode rec
 unfolding operatorCode within
 code-sheet rec k o e f g = rw (← e, f, ← g, le-leb 0 o (omega arith)) refl
 
-pub code-translation : (rec : List ℕ) (k o : ℕ) → k ≡ kindOf rec → k ≡ 52 → o ≡ field rec 0 → leb o 5 ≡ operatorCode rec
+pub code-translation : (rec : List ℕ) (k o : ℕ) → k ≡ kindOf rec → k ≡ TranslationKinds.operator → o ≡ field rec 0 → leb o 5 ≡ operatorCode rec
 unfolding operatorCode within
 code-translation rec k o e f g = rw (← e, f, ← g, le-leb 0 o (omega arith)) refl
 
-pub code-none : (rec : List ℕ) (k : ℕ) → k ≡ kindOf rec → (k ≡ 20 → ⊥) → (k ≡ 52 → ⊥) → true ≡ operatorCode rec
+pub code-none : (rec : List ℕ) (k : ℕ) → k ≡ kindOf rec → (k ≡ SheetKinds.operator → ⊥) → (k ≡ TranslationKinds.operator → ⊥) → true ≡ operatorCode rec
 unfolding operatorCode
-code-none rec k e f g = rw (← e, ne-eqb k 20 f, ne-eqb k 52 g) refl
+code-none rec k e f g = rw (← e, ne-eqb k SheetKinds.operator f, ne-eqb k TranslationKinds.operator g) refl
 
 -- a function's counts
 pub run-empty : (y : Layout) (b rec : List ℕ) (r n j : ℕ) → j ≡ countField y → n ≡ field rec j → n < 1 → false ≡ runCounts y b r rec
@@ -174,17 +165,17 @@ module _ (y : Layout) (b rec : List ℕ) (r k : ℕ) (er : r ≡ 0 → ⊥) (ek 
   unfolding counts
   counts-sheet-run a t e f h g = rw (ne-eqb r 0 er, ← ek, e, ← f, within-both 0 8 a (omega arith) h, g) refl
 
-  pub counts-run : (t : Bool) → k ≡ 34 → t ≡ runCounts y b r rec → t ≡ counts y b r rec
+  pub counts-run : (t : Bool) → k ≡ TranslationKinds.function → t ≡ runCounts y b r rec → t ≡ counts y b r rec
   unfolding counts
   counts-run t e f = rw (ne-eqb r 0 er, ← ek, e, f) refl
 
-  pub counts-other : (k ≡ 2 → ⊥) → (k ≡ 3 → ⊥) → (k ≡ 34 → ⊥) → true ≡ counts y b r rec
+  pub counts-other : (k ≡ 2 → ⊥) → (k ≡ 3 → ⊥) → (k ≡ TranslationKinds.function → ⊥) → true ≡ counts y b r rec
   unfolding counts
-  counts-other e f g = rw (ne-eqb r 0 er, ← ek, ne-eqb k 2 e, ne-eqb k 3 f, ne-eqb k 34 g) refl
+  counts-other e f g = rw (ne-eqb r 0 er, ← ek, ne-eqb k 2 e, ne-eqb k 3 f, ne-eqb k TranslationKinds.function g) refl
 
 -- the checks of the record that starts at a place, in their order
 module _ (y : Layout) (b : List ℕ) (r at : ℕ) (ha : at ≤ length b) where
-  pub shape-short : length b - at < 4 → Refused 1 r ≡ shapeAt y b r at
+  pub shape-short : length b - at < 4 → Refused truncated r ≡ shapeAt y b r at
   unfolding shapeAt _andThen_ require
   shape-short h = rw (lt-leb (at + 4) (length b) (omega arith)) refl
 
@@ -192,17 +183,17 @@ module _ (y : Layout) (b : List ℕ) (r at : ℕ) (ha : at ≤ length b) where
     there : leb (at + 4) (length b) ≡ true
     there = le-leb (at + 4) (length b) (omega arith)
 
-    pub shape-not-due : (t : Bool) → t ≡ isDue y b r k → t ≡ false → Refused 3 r ≡ shapeAt y b r at
+    pub shape-not-due : (t : Bool) → t ≡ isDue y b r k → t ≡ false → Refused badRecord r ≡ shapeAt y b r at
     unfolding shapeAt _andThen_ require
     shape-not-due t e f = rw (there, ← ek, ← e, f) refl
 
     module _ (t : Bool) (et : t ≡ isDue y b r k) (ht : t ≡ true) where
-      pub shape-length : (u : Bool) → u ≡ allows (rowOf k) n → u ≡ false → Refused 3 r ≡ shapeAt y b r at
+      pub shape-length : (u : Bool) → u ≡ allows (rowOf k) n → u ≡ false → Refused badRecord r ≡ shapeAt y b r at
       unfolding shapeAt _andThen_ require
       shape-length u e f = rw (there, ← ek, ← en, ← et, ht, ← e, f) refl
 
       module _ (u : Bool) (eu : u ≡ allows (rowOf k) n) (hu : u ≡ true) where
-        pub shape-cut : length b - at < n → Refused 1 r ≡ shapeAt y b r at
+        pub shape-cut : length b - at < n → Refused truncated r ≡ shapeAt y b r at
         unfolding shapeAt _andThen_ require
         shape-cut h = rw (there, ← ek, ← en, ← et, ht, ← eu, hu, lt-leb (at + n) (length b) (omega arith)) refl
 
@@ -210,12 +201,12 @@ module _ (y : Layout) (b : List ℕ) (r at : ℕ) (ha : at ≤ length b) where
           inside : leb (at + n) (length b) ≡ true
           inside = le-leb (at + n) (length b) (omega arith)
 
-          pub shape-code : (v : Bool) → v ≡ operatorCode rec → v ≡ false → Refused 3 r ≡ shapeAt y b r at
+          pub shape-code : (v : Bool) → v ≡ operatorCode rec → v ≡ false → Refused badRecord r ≡ shapeAt y b r at
           unfolding shapeAt _andThen_ require
           shape-code v e f = rw (there, ← ek, ← en, ← et, ht, ← eu, hu, inside, ← er, ← e, f) refl
 
           module _ (v : Bool) (ev : v ≡ operatorCode rec) (hv : v ≡ true) where
-            pub shape-counts : (w : Bool) → w ≡ counts y b r rec → w ≡ false → Refused 4 r ≡ shapeAt y b r at
+            pub shape-counts : (w : Bool) → w ≡ counts y b r rec → w ≡ false → Refused badCount r ≡ shapeAt y b r at
             unfolding shapeAt _andThen_ require
             shape-counts w e f = rw (there, ← ek, ← en, ← et, ht, ← eu, hu, inside, ← er, ← ev, hv, ← e, f) refl
 

@@ -1,27 +1,24 @@
 -- Laws of the walk over a file's records: what the acceptance of a record says of the next place, and how the walk's
 -- verdict comes about.
-use mathlib.Core.Path.{_≡_, refl, sym, ap, _∙_}
-use Prim.Native.Nat.{ℕ, zero, suc, _+_, _-_, _≤_, _<_}
+use mathlib.Core.Path.{_≡_}
+use Prim.Native.Nat.{ℕ, _+_, _≤_}
 use mathlib.Core.List.{List}
-use mathlib.Core.Bool.{Bool, true, false, cond, _&&_, and-eq-true-iff}
+use mathlib.Core.Bool.{true, and-eq-true-iff}
 use native.Mathlib.Omega.{arith}
-use native.Mathlib.Numerals.{add-one}
-use lib.ListN.{length}
-use lib.Dec.{leb, ltb, eqb}
-use borrow.Author.Tests.{le-leb, leb-true, eq-eqb, ne-eqb}
+use borrow.Author.Tests.{leb-true}
 use Rattle.definitions.specs.Bytes.{word}
-use Rattle.definitions.specs.Records.{whole, next, startOf, recordAt, kindOf, field}
+use Rattle.definitions.specs.Records.{whole, recordAt}
 use Rattle.definitions.specs.Kinds.{rowOf, allows}
-use Rattle.definitions.specs.Verdicts.{_andThen_, require, firstOf}
 use Rattle.definitions.specs.Layouts.{readings, items, functions, nodes, due, isDue}
-use Rattle.definitions.specs.Shape.{fileLimit, itemLimit, within, headCounts, counts, operatorCode, shapeAt, shape, fileShape}
+use Rattle.definitions.specs.Shape.{itemLimit, headCounts, counts, operatorCode, shapeAt}
+use Rattle.definitions.specs.Sizes.{mostReadings, mostFunctions, mostNodes, mostFormals, mostRecords}
+use Rattle.laws.proofs.Ranges.{within-by}
 use Rattle.definitions.specs.declared.Layout.{Layout}
 use Rattle.definitions.specs.declared.Layout.the-variants.{Sheet, Translation}
-use Rattle.definitions.specs.declared.Verdict.{Verdict}
-use Rattle.definitions.specs.declared.Verdict.the-variants.{Accepted, Refused}
-use Rattle.laws.proofs.Records.{WholeAt, is-whole, whole-is, next-whole}
+use Rattle.definitions.specs.declared.Verdict.the-variants.{Accepted}
+use Rattle.laws.proofs.Records.{is-whole}
 use Rattle.laws.proofs.KindRows.{allowed-least}
-use Rattle.laws.proofs.Verdicts.{both-accepted, required, then-accepted, then-refused, first-none, first-more, first-refused, require-true, require-false}
+use Rattle.laws.proofs.Verdicts.{both-accepted, required}
 
 -- what the acceptance of the record at a place says
 pub record Shaped (y : Layout) (b : List ℕ) (r at : ℕ) : Type 0 where
@@ -49,16 +46,12 @@ shaped y b r at e =
 
 -- the head's ranges
 pub record HeadRanges (y : Layout) (b : List ℕ) : Type 0 where
-  pub readings : readings b ≤ 32
+  pub readings : readings b ≤ mostReadings
   pub items : items b ≤ itemLimit y
   pub function : 1 ≤ functions b
-  pub functions : functions b ≤ 64
+  pub functions : functions b ≤ mostFunctions
   pub node : 1 ≤ nodes b
-  pub nodes : nodes b ≤ 1024
-
-in-range : (l g n : ℕ) → within l g n ≡ true → (l ≤ n) × (n ≤ g)
-unfolding within
-in-range l g n e = let k = and-eq-true-iff (leb l n) (leb n g) .0 e in (leb-true l n (k .0), leb-true n g (k .1))
+  pub nodes : nodes b ≤ mostNodes
 
 pub head-ranges : (y : Layout) (b rec : List ℕ) → counts y b 0 rec ≡ true → HeadRanges y b
 unfolding counts headCounts
@@ -66,20 +59,20 @@ head-ranges y b rec e =
     let k₃ = and-eq-true-iff _ _ .0 e in
     let k₂ = and-eq-true-iff _ _ .0 (k₃ .0) in
     let k₁ = and-eq-true-iff _ _ .0 (k₂ .0) in
-    let f = in-range 1 64 (functions b) (k₂ .1) in
-    let n = in-range 1 1024 (nodes b) (k₃ .1) in
+    let f = within-by 1 mostFunctions (functions b) (k₂ .1) in
+    let n = within-by 1 mostNodes (nodes b) (k₃ .1) in
     record {
-      readings = in-range 0 32 (readings b) (k₁ .0) .1;
-      items = in-range 0 (itemLimit y) (items b) (k₁ .1) .1;
-      function = f .0;
-      functions = f .1;
-      node = n .0;
-      nodes = n .1;
+      readings = within-by 0 mostReadings (readings b) (k₁ .0) .greatest;
+      items = within-by 0 (itemLimit y) (items b) (k₁ .1) .greatest;
+      function = f .least;
+      functions = f .greatest;
+      node = n .least;
+      nodes = n .greatest;
     }
 
-item-room : (y : Layout) → itemLimit y ≤ 512
+item-room : (y : Layout) → itemLimit y ≤ mostFormals
 item-room Sheet = omega arith
 item-room Translation = omega arith
 
-pub due-room : (y : Layout) (b : List ℕ) → HeadRanges y b → due b ≤ 1601
+pub due-room : (y : Layout) (b : List ℕ) → HeadRanges y b → due b ≤ mostRecords
 due-room y b h = omega (arith, item-room y, h .items, h .functions, h .nodes)

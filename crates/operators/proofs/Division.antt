@@ -11,6 +11,7 @@ use borrow.Author.Tests.{le-ltb, ne-eqb}
 use mir.Syntax.{Width}
 use mir.Val.{bits, hbits, toZ, ofZ, SFits}
 use mir.ValLaws.{toZ-ofZ, pow-bits}
+use Rattle.definitions.specs.Numbers.{zeroDivisor}
 use Rattle.definitions.specs.Operators.{gives, faults, residue, reduced, isZero, quotient}
 use Rattle.operators.proofs.Residues.{reduced-held}
 
@@ -71,7 +72,7 @@ module _ (w : Width) where
       ∙ rw (le-ltb (2 ^ hbits w) (2 ^ hbits w) (omega arith)) (ap negsuc (omega (arith, pow-bits w)))
 
   module _ (x y : ℤ) (f : SFits w x) (g : SFits w y) where
-    pub zero-quotient : ofZ w y ≡ 0 → faults 17 ≡ quotient w x y
+    pub zero-quotient : ofZ w y ≡ 0 → faults zeroDivisor ≡ quotient w x y
     unfolding quotient isZero
     zero-quotient e = rw (is-zero y g e) refl
 

@@ -10,8 +10,8 @@ use lib.IntN.{ℤ, pos, negsuc, negℤ, subℕ, _+ℤ_, _-ℤ_, _*ℤ_, -ℤ-+�
 use lib.Dec.{ltb}
 use borrow.Author.Tests.{ltb-true, ltb-false}
 use mir.Syntax.{Width}
-use mir.Val.{bits, toZ, ofZ, SFits}
-use mir.ValLaws.{toZ-ofZ, half-full}
+use mir.Val.{bits, hbits, sel, toZ, ofZ, Fits, SFits}
+use mir.ValLaws.{toZ-ofZ, ofZ-toZ, toZ-fits, half-full, pow-bits}
 use Rattle.definitions.specs.Operators.{residue, reduced}
 
 -- two numbers with the same remainder modulo m
@@ -184,3 +184,21 @@ module _ (w : Width) where
   pub reduced-held : (z : ℤ) → SFits w z → reduced w z ≡ z
   unfolding reduced
   reduced-held z f = ap (toZ w) (residue-held z f) ∙ toZ-ofZ w z f
+
+  -- what any number is read as is held by the width, so it is its own remainder, read back
+  read-held-by : (n : ℕ) (t : Bool) → ltb n (2 ^ hbits w) ≡ t → SFits w (sel t (pos n) (negsuc (2 ^ bits w - suc n)))
+  read-held-by n true e = record { sfits = ltb-true n (2 ^ hbits w) e }
+  read-held-by n false e =
+      let h : 2 ^ hbits w ≤ n = ltb-false n (2 ^ hbits w) e in
+      let p : 0 < 2 ^ hbits w = pow-pos (hbits w) in
+      record { sfits = omega (arith, pow-bits w) }
+
+  pub read-held : (n : ℕ) → SFits w (toZ w n)
+  read-held n = read-held-by n (ltb n (2 ^ hbits w)) refl
+
+  pub reduced-read : (n : ℕ) → reduced w (toZ w n) ≡ toZ w n
+  reduced-read n = reduced-held (toZ w n) (read-held n)
+
+  -- bits of the width, read and reduced, are the same bits
+  pub residue-read : (n : ℕ) → Fits w n → residue w (toZ w n) ≡ n
+  residue-read n f = residue-held (toZ w n) (toZ-fits w n f) ∙ ofZ-toZ w n f

@@ -1,6 +1,6 @@
 // The six operators. A sum, a difference and a product are worked out on the bits and wrap there.
 ghost use mathlib.Core.Path.{_≡_};
-ghost use Prim.Native.Nat.{_+_, _*_, _%_, _^_};
+ghost use Prim.Native.Nat.{_*_, _%_, _^_};
 ghost use lib.IntN.{_+ℤ_, _-ℤ_, _*ℤ_};
 ghost use lib.Signed.{ltZ};
 ghost use mir.Syntax.{w32};
@@ -9,7 +9,7 @@ ghost use Rattle.operators.specs.Results.{computedOf};
 use crate::Computed;
 use crate::bits::bits_of;
 use crate::bits::number_of;
-use crate::codes;
+use definitions::numbers;
 
 pub(crate) fn add(x: i32, y: i32) -> i32
     ensures { λ r. ⌜ r ≡ reduced w32 (x +ℤ y) ⌝ }
@@ -41,7 +41,7 @@ pub(crate) fn divide(x: i32, y: i32) -> Computed
     ensures { λ r. ⌜ computedOf r ≡ quotient w32 x y ⌝ }
 {
     if y == 0 {
-        return Computed::Fault(codes::ZERO_DIVISOR);
+        return Computed::Fault(numbers::ZERO_DIVISOR);
     }
     if y == -1 {
         if x == -0x8000_0000 {

@@ -9,5 +9,3 @@ pub const MULTIPLY: u16 = 2;
 pub const DIVIDE: u16 = 3;
 // "less"
 pub const LESS: u16 = 4;
-// The number of the run fault "zero divisor".
-pub const ZERO_DIVISOR: u16 = 17;

@@ -7,6 +7,7 @@ use native.Mathlib.Decide.{ℕ-discrete, decLt}
 use lib.ListN.{length}
 use lib.Dec.{leb, eqb}
 use borrow.Author.Tests.{le-leb, eq-eqb}
+use Rattle.definitions.specs.Sizes.{translationBytes}
 use Rattle.definitions.specs.Records.{startOf}
 use Rattle.definitions.specs.Numbers.{oversize, badRecord}
 use Rattle.definitions.specs.Verdicts.{firstOf}
@@ -79,7 +80,7 @@ module _ (b : List ℕ) (accepted : sheetVerdict b ≡ Accepted) where
   unfolding fileShape
   translation-shaped =
       let t = translation b in
-      let size = require-true (leb (length t) 40960) oversize 0 (le-leb (length t) 40960 (omega (arith, translation-limit b accepted))) in
+      let size = require-true (leb (length t) translationBytes) oversize 0 (le-leb (length t) translationBytes (omega (arith, translation-limit b accepted))) in
       let each = first-all (due t) (shape Translation t) shape-passes in
       let filled = require-true (eqb (startOf t (due t)) (length t)) badRecord (due t) (eq-eqb (startOf t (due t)) (length t) (translation-filled b accepted)) in
       rw (size, then-accepted Accepted (firstOf (due t) (shape Translation t)) refl, each, filled) (then-accepted Accepted Accepted refl)

@@ -27,10 +27,11 @@ use Rattle.accepted.proofs.Names.{reading-below, parameter-below, call-below, b
 use Rattle.accepted.proofs.Trees.{child-below}
 use Rattle.accepted.proofs.Clauses.{clause-below, clauses-limit}
 use Rattle.accepted.proofs.Patterns.{in-clause, clause-within-below, scrutinee-is, pattern-held}
+use Rattle.operators.proofs.Residues.{residue-below}
 use Rattle.readback.specs.TranslatedNode.{translatedFields}
 use Rattle.readback.proofs.Made.{Short}
 use Rattle.readback.proofs.Fields.{Fit, fit-none, fit-more, fit-below, clause-words}
-use Rattle.readback.proofs.Signed.{residue-below, number-fit}
+use Rattle.readback.proofs.Signed.{number-fit}
 use Rattle.readback.proofs.Labels.{label-below, actuals-limit, actuals-below}
 
 -- fields that can be written
@@ -108,7 +109,7 @@ module _ (b : List ℕ) (accepted : sheetVerdict b ≡ Accepted) where
 
     fields-writable : (nd : SheetNode) → sheetNodeOf b k ≡ nd → Writable (translatedFields b k nd)
     unfolding translatedFields words32
-    fields-writable (number z) e = record { short = record { short = omega arith }; fit = number-fit (residue w32 z) (residue-below z) }
+    fields-writable (number z) e = record { short = record { short = omega arith }; fit = number-fit (residue w32 z) (residue-below w32 z) }
     fields-writable (reading i) e =
         writable-one i (omega (arith, reading-below b accepted k h e, readings-limit Sheet b (sheet-shape b accepted)))
     fields-writable (parameter i) e =

@@ -82,3 +82,20 @@ module _ {A : Type 0} (test : ℕ → Bool) (at : ℕ → A) where
       let f = count-reached n l test h in
       let s : getElem? (picked n test at) l ≡ some (at (f .at)) = rw (f .holds .1) at (picked-element n (f .at) (f .below) (f .holds .0)) in
       record { at = f .at; below = f .below; holds = record { passes = f .holds .0; before = f .holds .1; is = cc } }
+
+  -- what is picked is what a table of the numbers that pass lists
+  module _ (number : ℕ → ℕ) where
+    abbrev tabled : ℕ → List A
+    tabled n = joined n (λ j. at (number j) ∷ [])
+
+    tabled-step : (n : ℕ) (t : Bool) → (t ≡ true → number (countOf n test) ≡ n) → picked n test at ≡ tabled (countOf n test)
+        → picked n test at ++ cond t (at n ∷ []) [] ≡ tabled (cond t (suc (countOf n test)) (countOf n test))
+    unfolding joined
+    tabled-step n true e q = rw (q, e refl) refl
+    tabled-step n false e q = append-nil (picked n test at) ∙ q
+
+    pub picked-tabled : (n : ℕ) → ((k : ℕ) → k < n → test k ≡ true → number (countOf k test) ≡ k)
+        → picked n test at ≡ joined (countOf n test) (λ j. at (number j) ∷ [])
+    unfolding joined countOf
+    picked-tabled zero e = refl
+    picked-tabled (suc n) e = tabled-step n (test n) (e n (omega arith)) (picked-tabled n (λ k h. e k (omega arith)))

@@ -51,27 +51,39 @@ module _ (b : List ℕ) (k : ℕ) where
       → translationNode (bytesOf (recordWords (translatedKind nd) (translatedFields b k nd))) ≡ translatedNode b k nd
   unfolding translationNode translatedKind translatedFields translatedNode
   node-read (number z) n f =
-      rw (kind-read 48 (words32 (residue w32 z)) (omega arith)) (ap TranslationNodes.number (rw (n z refl) at (signed-read 48 (nodeRecord b k) 4)))
-  node-read (reading i) n f = rw (kind-read 49 (i ∷ []) (omega arith), field-read 49 (i ∷ []) f 0) refl
+      rw (kind-read TranslationKinds.number (words32 (residue w32 z)) (omega arith)) (ap TranslationNodes.number (rw (n z refl) at (signed-read TranslationKinds.number (nodeRecord b k) 4)))
+  node-read (reading i) n f = rw (kind-read TranslationKinds.reading (i ∷ []) (omega arith), field-read TranslationKinds.reading (i ∷ []) f 0) refl
   node-read (parameter i) n f =
       let fs = formalOf b (ownerOf Sheet b k) i ∷ [] in
-      rw (kind-read 50 fs (omega arith), field-read 50 fs f 0) refl
+      rw (kind-read TranslationKinds.formal fs (omega arith), field-read TranslationKinds.formal fs f 0) refl
   node-read (patternVariable i) n f =
       let fs = scrutineeOf b k ∷ suc i ∷ [] in
-      rw (kind-read 51 fs (omega arith), field-read 51 fs f 0, field-read 51 fs f 1) refl
+      rw (kind-read TranslationKinds.select fs (omega arith), field-read TranslationKinds.select fs f 0, field-read TranslationKinds.select fs f 1) refl
   node-read (operator o l r) n f =
       let fs = o ∷ l ∷ r ∷ [] in
-      rw (kind-read 52 fs (omega arith), field-read 52 fs f 0, field-read 52 fs f 1, field-read 52 fs f 2) refl
+      rw (
+        kind-read TranslationKinds.operator fs (omega arith),
+        field-read TranslationKinds.operator fs f 0,
+        field-read TranslationKinds.operator fs f 1,
+        field-read
+            TranslationKinds.operator fs f 2,
+      ) refl
   node-read (conditional m p q) n f =
       let fs = m ∷ p ∷ q ∷ [] in
-      rw (kind-read 53 fs (omega arith), field-read 53 fs f 0, field-read 53 fs f 1, field-read 53 fs f 2) refl
+      rw (
+        kind-read TranslationKinds.conditional fs (omega arith),
+        field-read TranslationKinds.conditional fs f 0,
+        field-read TranslationKinds.conditional fs f 1,
+        field-read
+            TranslationKinds.conditional fs f 2,
+      ) refl
   node-read (call g ns) n f =
       let fs = labelOf b g k ∷ g ∷ [] in
-      rw (kind-read 54 fs (omega arith), field-read 54 fs f 0, field-read 54 fs f 1) refl
+      rw (kind-read TranslationKinds.call fs (omega arith), field-read TranslationKinds.call fs f 0, field-read TranslationKinds.call fs f 1) refl
   node-read (build c ns) n f =
-      rw (kind-read 55 (c ∷ ns) (omega arith), field-read 55 (c ∷ ns) f 0, fields-after 55 c ns f) refl
+      rw (kind-read TranslationKinds.tuple (c ∷ ns) (omega arith), field-read TranslationKinds.tuple (c ∷ ns) f 0, fields-after TranslationKinds.tuple c ns f) refl
   node-read (caseOf m cs) n f =
-      rw (kind-read 56 (m ∷ clauseWords cs) (omega arith), field-read 56 (m ∷ clauseWords cs) f 0, clauses-read 56 m cs f) refl
+      rw (kind-read TranslationKinds.caseOf (m ∷ clauseWords cs) (omega arith), field-read TranslationKinds.caseOf (m ∷ clauseWords cs) f 0, clauses-read TranslationKinds.caseOf m cs f) refl
 
 module _ (b : List ℕ) (accepted : sheetVerdict b ≡ Accepted) where
   -- the functions' runs are the sheet's

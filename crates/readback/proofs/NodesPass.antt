@@ -8,6 +8,7 @@ use native.Mathlib.Omega.{arith}
 use lib.ListN.{length, getD, getElem?}
 use borrow.Author.Tests.{lt-ltb, le-leb}
 use mir.Syntax.{w32}
+use Rattle.definitions.specs.TranslationKinds
 use Rattle.definitions.specs.Bytes.{words32, bytesOf}
 use Rattle.definitions.specs.Records.{kindOf, fieldCount}
 use Rattle.definitions.specs.Kinds.{row, rows, rowIn, rowOf, allows}
@@ -21,7 +22,8 @@ use Rattle.definitions.specs.Checks.{sheetVerdict}
 use Rattle.definitions.specs.Translate.{recordWords, labelOf, formalOf, formals, scrutineeOf, clauseWords, translation}
 use Rattle.definitions.specs.declared.Layout.the-variants.{Sheet, Translation}
 use Rattle.definitions.specs.declared.Verdict.the-variants.{Accepted}
-use Rattle.laws.proofs.Shape.{due-node, within-both, counts-other}
+use Rattle.laws.proofs.Ranges.{within-both}
+use Rattle.laws.proofs.Shape.{due-node, counts-other}
 use Rattle.accepted.specs.Child.{Child, left, right, condition, ifNonzero, ifZero, component, scrutinee, clause}
 use Rattle.accepted.proofs.Owners.{owner-below}
 use Rattle.accepted.proofs.Sections.{arity-limit}
@@ -29,7 +31,8 @@ use Rattle.accepted.proofs.Checks.{sheet-shape}
 use Rattle.accepted.proofs.Names.{reading-below, parameter-below, call-below, build-below, build-count, operator-code}
 use Rattle.accepted.proofs.Trees.{child-below}
 use Rattle.accepted.proofs.Clauses.{clauses-least, clauses-limit}
-use Rattle.accepted.proofs.TranslationNames.{select-mentions, select-mention, operator-mentions, operator-mention, conditional-mentions, conditional-mention, tuple-mentions, tuple-mention, case-mentions, case-mention}
+use Rattle.accepted.proofs.TranslationNames.{select-mentions, select-mention, operator-mentions, operator-mention, conditional-mentions, conditional-mention}
+use Rattle.accepted.proofs.TranslationNames.{tuple-mentions, tuple-mention, case-mentions, case-mention}
 use Rattle.readback.specs.TranslatedNode.{translatedKind, translatedFields}
 use Rattle.readback.proofs.Fields.{Fit, element-is, kind-read, count-read, field-read, noClause, clause-words, clause-node, clause-count-read}
 use Rattle.readback.proofs.Fitting.{formal-in-range, scrutinee-below, node-writable}
@@ -39,21 +42,21 @@ use Rattle.readback.proofs.SectionsPass.{none-below}
 
 -- the nodes that a record written as words names are below n
 module _ (n : ℕ) (fs : List ℕ) (f : Fit fs) where
-  select-below : length fs ≡ 2 → getD fs 0 0 < n → (j : ℕ) → j < children (bytesOf (recordWords 51 fs))
-      → child (bytesOf (recordWords 51 fs)) j < n
+  select-below : length fs ≡ 2 → getD fs 0 0 < n → (j : ℕ) → j < children (bytesOf (recordWords TranslationKinds.select fs))
+      → child (bytesOf (recordWords TranslationKinds.select fs)) j < n
   select-below l p j h =
-      let rec = bytesOf (recordWords 51 fs) in
-      let k : kindOf rec ≡ 51 = kind-read 51 fs (omega arith) in
-      let m : j ≡ 0 = omega (arith, h, select-mentions rec k (count-read 51 fs ∙ l)) in
-      rw (m, select-mention rec k 0, field-read 51 fs f 0) p
+      let rec = bytesOf (recordWords TranslationKinds.select fs) in
+      let k : kindOf rec ≡ TranslationKinds.select = kind-read TranslationKinds.select fs (omega arith) in
+      let m : j ≡ 0 = omega (arith, h, select-mentions rec k (count-read TranslationKinds.select fs ∙ l)) in
+      rw (m, select-mention rec k 0, field-read TranslationKinds.select fs f 0) p
 
-  operator-below : length fs ≡ 3 → getD fs 1 0 < n → getD fs 2 0 < n → (j : ℕ) → j < children (bytesOf (recordWords 52 fs))
-      → child (bytesOf (recordWords 52 fs)) j < n
+  operator-below : length fs ≡ 3 → getD fs 1 0 < n → getD fs 2 0 < n → (j : ℕ) → j < children (bytesOf (recordWords TranslationKinds.operator fs))
+      → child (bytesOf (recordWords TranslationKinds.operator fs)) j < n
   operator-below l p q j h =
-      let rec = bytesOf (recordWords 52 fs) in
-      let k : kindOf rec ≡ 52 = kind-read 52 fs (omega arith) in
-      let m : j < 2 = rw (operator-mentions rec k (count-read 52 fs ∙ l)) at h in
-      rw (operator-mention rec k j, field-read 52 fs f (1 + j)) (either j m)
+      let rec = bytesOf (recordWords TranslationKinds.operator fs) in
+      let k : kindOf rec ≡ TranslationKinds.operator = kind-read TranslationKinds.operator fs (omega arith) in
+      let m : j < 2 = rw (operator-mentions rec k (count-read TranslationKinds.operator fs ∙ l)) at h in
+      rw (operator-mention rec k j, field-read TranslationKinds.operator fs f (1 + j)) (either j m)
     where
       either : (j : ℕ) → j < 2 → getD fs (1 + j) 0 < n
       either zero h = p
@@ -61,13 +64,13 @@ module _ (n : ℕ) (fs : List ℕ) (f : Fit fs) where
       either (suc (suc j)) h = absurd (omega arith)
 
   conditional-below : length fs ≡ 3 → getD fs 0 0 < n → getD fs 1 0 < n → getD fs 2 0 < n → (j : ℕ)
-      → j < children (bytesOf (recordWords 53 fs))
-      → child (bytesOf (recordWords 53 fs)) j < n
+      → j < children (bytesOf (recordWords TranslationKinds.conditional fs))
+      → child (bytesOf (recordWords TranslationKinds.conditional fs)) j < n
   conditional-below l p q r j h =
-      let rec = bytesOf (recordWords 53 fs) in
-      let k : kindOf rec ≡ 53 = kind-read 53 fs (omega arith) in
-      let m : j < 3 = rw (conditional-mentions rec k (count-read 53 fs ∙ l)) at h in
-      rw (conditional-mention rec k j, field-read 53 fs f j) (either j m)
+      let rec = bytesOf (recordWords TranslationKinds.conditional fs) in
+      let k : kindOf rec ≡ TranslationKinds.conditional = kind-read TranslationKinds.conditional fs (omega arith) in
+      let m : j < 3 = rw (conditional-mentions rec k (count-read TranslationKinds.conditional fs ∙ l)) at h in
+      rw (conditional-mention rec k j, field-read TranslationKinds.conditional fs f j) (either j m)
     where
       either : (j : ℕ) → j < 3 → getD fs j 0 < n
       either zero h = p
@@ -77,25 +80,25 @@ module _ (n : ℕ) (fs : List ℕ) (f : Fit fs) where
 
 module _ (n : ℕ) where
   tuple-below : (c : ℕ) (ns : List ℕ) → Fit (c ∷ ns) → ((i x : ℕ) → getElem? ns i ≡ some x → x < n)
-      → (j : ℕ) → j < children (bytesOf (recordWords 55 (c ∷ ns))) → child (bytesOf (recordWords 55 (c ∷ ns))) j < n
+      → (j : ℕ) → j < children (bytesOf (recordWords TranslationKinds.tuple (c ∷ ns))) → child (bytesOf (recordWords TranslationKinds.tuple (c ∷ ns))) j < n
   tuple-below c ns f p j h =
-      let rec = bytesOf (recordWords 55 (c ∷ ns)) in
-      let k : kindOf rec ≡ 55 = kind-read 55 (c ∷ ns) (omega arith) in
-      let m : j < length ns = omega (arith, h, tuple-mentions rec k, count-read 55 (c ∷ ns)) in
+      let rec = bytesOf (recordWords TranslationKinds.tuple (c ∷ ns)) in
+      let k : kindOf rec ≡ TranslationKinds.tuple = kind-read TranslationKinds.tuple (c ∷ ns) (omega arith) in
+      let m : j < length ns = omega (arith, h, tuple-mentions rec k, count-read TranslationKinds.tuple (c ∷ ns)) in
       let e : 1 + j ≡ suc j = omega arith in
-      rw (tuple-mention rec k j, e, field-read 55 (c ∷ ns) f (suc j)) (p j (getD ns j 0) (element-is 0 ns j m))
+      rw (tuple-mention rec k j, e, field-read TranslationKinds.tuple (c ∷ ns) f (suc j)) (p j (getD ns j 0) (element-is 0 ns j m))
 
   case-below : (m : ℕ) (cs : List Clause) → Fit (m ∷ clauseWords cs) → m < n
       → ((i : ℕ) (c : Clause) → getElem? cs i ≡ some c → c .node < n)
-      → (j : ℕ) → j < children (bytesOf (recordWords 56 (m ∷ clauseWords cs))) → child (bytesOf (recordWords 56 (m ∷ clauseWords cs))) j < n
+      → (j : ℕ) → j < children (bytesOf (recordWords TranslationKinds.caseOf (m ∷ clauseWords cs))) → child (bytesOf (recordWords TranslationKinds.caseOf (m ∷ clauseWords cs))) j < n
   case-below m cs f p q j h =
       let fs = m ∷ clauseWords cs in
-      let rec = bytesOf (recordWords 56 fs) in
-      let k : kindOf rec ≡ 56 = kind-read 56 fs (omega arith) in
-      let c = clause-count-read 56 m cs in
-      let w : fieldCount rec ≡ 1 + 2 * clauses rec = omega (arith, count-read 56 fs, clause-words cs, c) in
+      let rec = bytesOf (recordWords TranslationKinds.caseOf fs) in
+      let k : kindOf rec ≡ TranslationKinds.caseOf = kind-read TranslationKinds.caseOf fs (omega arith) in
+      let c = clause-count-read TranslationKinds.caseOf m cs in
+      let w : fieldCount rec ≡ 1 + 2 * clauses rec = omega (arith, count-read TranslationKinds.caseOf fs, clause-words cs, c) in
       let l : j < suc (length cs) = omega (arith, h, case-mentions rec k w, c) in
-      rw (case-mention rec k j, field-read 56 fs f (2 * j)) (either j l)
+      rw (case-mention rec k j, field-read TranslationKinds.caseOf fs f (2 * j)) (either j l)
     where
       either : (j : ℕ) → j < suc (length cs) → getD (m ∷ clauseWords cs) (2 * j) 0 < n
       either zero l = p
@@ -105,7 +108,7 @@ module _ (n : ℕ) where
 
 module _ (b : List ℕ) (accepted : sheetVerdict b ≡ Accepted) (k : ℕ) (h : k < nodes b) where
   -- what is left to show of a node's record
-  node-pass : (kind : ℕ) (fs : List ℕ) → nodeRecord (translation b) k ≡ bytesOf (recordWords kind fs) → 48 ≤ kind → kind ≤ 56
+  node-pass : (kind : ℕ) (fs : List ℕ) → nodeRecord (translation b) k ≡ bytesOf (recordWords kind fs) → TranslationKinds.number ≤ kind → kind ≤ TranslationKinds.caseOf
       → allows (rowOf kind) (4 + 2 * length fs) ≡ true
       → (kindOf (bytesOf (recordWords kind fs)) ≡ kind → operatorCode (bytesOf (recordWords kind fs)) ≡ true)
       → (kindOf (bytesOf (recordWords kind fs)) ≡ kind → (j : ℕ) → j < children (bytesOf (recordWords kind fs)) → child (bytesOf (recordWords kind fs)) j < nodes (translation b))
@@ -119,7 +122,8 @@ module _ (b : List ℕ) (accepted : sheetVerdict b ≡ Accepted) (k : ℕ) (h : 
       record {
         there = there;
         small = omega arith;
-        due = sym (due-node Translation t r kind (firstNode t) 48 (λ p. omega (arith, p)) refl (omega arith) refl l) ∙ le-leb (kind - 48) 8 (omega arith);
+        due = sym (due-node Translation t r kind (firstNode t) TranslationKinds.number (λ p. omega (arith, p)) refl (omega arith) refl l) ∙ le-leb (kind -
+            TranslationKinds.number) 8 (omega arith);
         allowed = allowed;
         code = code e;
         counts = sym (counts-other Translation t rec r kind (λ p. omega (arith, p)) (sym e) (λ p. omega (arith, p, l)) (λ p. omega (arith, p, l)) (λ p. omega (arith, p, l)));
@@ -136,51 +140,51 @@ module _ (b : List ℕ) (accepted : sheetVerdict b ≡ Accepted) (k : ℕ) (h : 
   unfolding translatedKind translatedFields words32 rowOf rows rowIn row allows operatorCode namesInRange everyOther fromFirst fromSecond
   by-kind (number z) e r f =
       let fs = words32 (residue w32 z) in
-      let rec = bytesOf (recordWords 48 fs) in
-      node-pass 48 fs r (omega arith) (omega arith) refl (λ q. rw q refl)
-      (λ q. none-below (translation b) rec (no-mention rec 48 q refl refl refl)) (λ q. rw q refl)
+      let rec = bytesOf (recordWords TranslationKinds.number fs) in
+      node-pass TranslationKinds.number fs r (omega arith) (omega arith) refl (λ q. rw q refl)
+      (λ q. none-below (translation b) rec (no-mention rec TranslationKinds.number q refl refl refl)) (λ q. rw q refl)
   by-kind (reading i) e r f =
       let fs = i ∷ [] in
-      let rec = bytesOf (recordWords 49 fs) in
-      node-pass 49 fs r (omega arith) (omega arith) refl (λ q. rw q refl)
-      (λ q. none-below (translation b) rec (no-mention rec 49 q refl refl refl))
-      (λ q. rw (q, field-read 49 fs f 0, translation-readings b accepted) (lt-ltb i (readings b) (reading-below b accepted k h e)))
+      let rec = bytesOf (recordWords TranslationKinds.reading fs) in
+      node-pass TranslationKinds.reading fs r (omega arith) (omega arith) refl (λ q. rw q refl)
+      (λ q. none-below (translation b) rec (no-mention rec TranslationKinds.reading q refl refl refl))
+      (λ q. rw (q, field-read TranslationKinds.reading fs f 0, translation-readings b accepted) (lt-ltb i (readings b) (reading-below b accepted k h e)))
   by-kind (parameter i) e r f =
       let g = ownerOf Sheet b k in
       let fs = formalOf b g i ∷ [] in
-      let rec = bytesOf (recordWords 50 fs) in
-      node-pass 50 fs r (omega arith) (omega arith) refl (λ q. rw q refl)
-      (λ q. none-below (translation b) rec (no-mention rec 50 q refl refl refl))
-      (λ q. rw (q, field-read 50 fs f 0, translation-items b accepted)
+      let rec = bytesOf (recordWords TranslationKinds.formal fs) in
+      node-pass TranslationKinds.formal fs r (omega arith) (omega arith) refl (λ q. rw q refl)
+      (λ q. none-below (translation b) rec (no-mention rec TranslationKinds.formal q refl refl refl))
+      (λ q. rw (q, field-read TranslationKinds.formal fs f 0, translation-items b accepted)
       (lt-ltb (formalOf b g i) (formals b)
       (formal-in-range b accepted g i (owner-below Sheet b (sheet-shape b accepted) k h) (parameter-below b accepted k h e))))
   by-kind (patternVariable i) e r f =
       let fs = scrutineeOf b k ∷ suc i ∷ [] in
-      node-pass 51 fs r (omega arith) (omega arith) refl (λ q. rw q refl)
+      node-pass TranslationKinds.select fs r (omega arith) (omega arith) refl (λ q. rw q refl)
       (λ q. select-below (nodes (translation b)) fs f refl (rw (translation-nodes b accepted) (scrutinee-below b accepted k h e)))
       (λ q. rw q refl)
   by-kind (operator o x y) e r f =
       let fs = o ∷ x ∷ y ∷ [] in
-      node-pass 52 fs r (omega arith) (omega arith) refl
-      (λ q. rw (q, field-read 52 fs f 0) (within-both 0 5 o (omega arith) (operator-code b accepted k h e)))
+      node-pass TranslationKinds.operator fs r (omega arith) (omega arith) refl
+      (λ q. rw (q, field-read TranslationKinds.operator fs f 0) (within-both 0 5 o (omega arith) (operator-code b accepted k h e)))
       (λ q. operator-below (nodes (translation b)) fs f refl (child-there e left) (child-there e right))
       (λ q. rw q refl)
   by-kind (conditional n x y) e r f =
       let fs = n ∷ x ∷ y ∷ [] in
-      node-pass 53 fs r (omega arith) (omega arith) refl (λ q. rw q refl)
+      node-pass TranslationKinds.conditional fs r (omega arith) (omega arith) refl (λ q. rw q refl)
       (λ q. conditional-below (nodes (translation b)) fs f refl (child-there e condition) (child-there e ifNonzero) (child-there e ifZero))
       (λ q. rw q refl)
   by-kind (call g ns) e r f =
       let fs = labelOf b g k ∷ g ∷ [] in
-      let rec = bytesOf (recordWords 54 fs) in
-      node-pass 54 fs r (omega arith) (omega arith) refl (λ q. rw q refl)
-      (λ q. none-below (translation b) rec (no-mention rec 54 q refl refl refl))
-      (λ q. rw (q, field-read 54 fs f 1, translation-functions b accepted) (lt-ltb g (functions b) (call-below b accepted k h e)))
+      let rec = bytesOf (recordWords TranslationKinds.call fs) in
+      node-pass TranslationKinds.call fs r (omega arith) (omega arith) refl (λ q. rw q refl)
+      (λ q. none-below (translation b) rec (no-mention rec TranslationKinds.call q refl refl refl))
+      (λ q. rw (q, field-read TranslationKinds.call fs f 1, translation-functions b accepted) (lt-ltb g (functions b) (call-below b accepted k h e)))
   by-kind (build c ns) e r f =
       let m = build-count b accepted k h e in
       let a = arity-limit b (sheet-shape b accepted) c (build-below b accepted k h e) in
-      node-pass 55 (c ∷ ns) r (omega arith) (omega arith)
-      (row-allows (rowOf 55) (4 + 2 * length (c ∷ ns)) (omega arith) (omega (arith, m, a)) (omega arith))
+      node-pass TranslationKinds.tuple (c ∷ ns) r (omega arith) (omega arith)
+      (row-allows (rowOf TranslationKinds.tuple) (4 + 2 * length (c ∷ ns)) (omega arith) (omega (arith, m, a)) (omega arith))
       (λ q. rw q refl)
       (λ q. tuple-below (nodes (translation b)) c ns f (λ i x p. child-there e (component i p)))
       (λ q. rw q refl)
@@ -188,8 +192,8 @@ module _ (b : List ℕ) (accepted : sheetVerdict b ≡ Accepted) (k : ℕ) (h : 
       let w = clause-words cs in
       let l = clauses-least b accepted k h e in
       let g = clauses-limit b accepted k h e in
-      node-pass 56 (n ∷ clauseWords cs) r (omega arith) (omega arith)
-      (row-allows (rowOf 56) (4 + 2 * length (n ∷ clauseWords cs)) (omega (arith, w, l)) (omega (arith, w, g)) (omega (arith, w, l)))
+      node-pass TranslationKinds.caseOf (n ∷ clauseWords cs) r (omega arith) (omega arith)
+      (row-allows (rowOf TranslationKinds.caseOf) (4 + 2 * length (n ∷ clauseWords cs)) (omega (arith, w, l)) (omega (arith, w, g)) (omega (arith, w, l)))
       (λ q. rw q refl)
       (λ q. case-below (nodes (translation b)) n cs f (child-there e scrutinee) (λ i c p. child-there e (clause i p refl)))
       (λ q. rw q refl)

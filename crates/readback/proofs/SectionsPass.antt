@@ -7,6 +7,7 @@ use native.Mathlib.Omega.{arith}
 use lib.ListN.{length}
 use lib.Dec.{eqb}
 use borrow.Author.Tests.{le-leb, eq-eqb}
+use Rattle.definitions.specs.Sizes.{mostNodes}
 use Rattle.definitions.specs.Bytes.{bytesOf}
 use Rattle.definitions.specs.Records.{kindOf}
 use Rattle.definitions.specs.TranslationKinds
@@ -19,7 +20,8 @@ use Rattle.definitions.specs.Checks.{sheetVerdict}
 use Rattle.definitions.specs.Translate.{recordWords, formalOf, formals, actuals, headWords, functionWords, translation}
 use Rattle.definitions.specs.declared.Layout.the-variants.{Sheet, Translation}
 use Rattle.definitions.specs.declared.Verdict.the-variants.{Accepted}
-use Rattle.laws.proofs.Shape.{due-section, section-function, section-formal, within-both, counts-run, counts-other}
+use Rattle.laws.proofs.Ranges.{within-both}
+use Rattle.laws.proofs.Shape.{due-section, section-function, section-formal, counts-run, counts-other}
 use Rattle.accepted.proofs.Sums.{sum-same}
 use Rattle.accepted.proofs.Head.{readings-limit, functions-least, functions-limit, nodes-least, nodes-limit}
 use Rattle.accepted.proofs.Sections.{node-count-least, node-counts-sum}
@@ -51,12 +53,12 @@ module _ (b : List ℕ) (accepted : sheetVerdict b ≡ Accepted) where
       let f : 1 ≤ functions t = rw (translation-functions b accepted) (functions-least Sheet b s) in
       let g : functions t ≤ 64 = rw (translation-functions b accepted) (functions-limit Sheet b s) in
       let n : 1 ≤ nodes t = rw (translation-nodes b accepted) (nodes-least Sheet b s) in
-      let o : nodes t ≤ 1024 = rw (translation-nodes b accepted) (nodes-limit Sheet b s) in
+      let o : nodes t ≤ mostNodes = rw (translation-nodes b accepted) (nodes-limit Sheet b s) in
       rw (
         within-both 0 32 (readings t) (omega arith) i,
         within-both 0 512 (items t) (omega arith) m,
         within-both 1 64 (functions t) f g,
-        within-both 1 1024 (nodes t) n o,
+        within-both 1 mostNodes (nodes t) n o,
       ) refl
 
   pub head-passes : Passes (translation b) 0 TranslationKinds.head (readings b ∷ formals b ∷ functions b ∷ nodes b ∷ [])
@@ -64,7 +66,7 @@ module _ (b : List ℕ) (accepted : sheetVerdict b ≡ Accepted) where
   head-passes =
       let fs = readings b ∷ formals b ∷ functions b ∷ nodes b ∷ [] in
       let rec = bytesOf (recordWords TranslationKinds.head fs) in
-      let k : kindOf rec ≡ 33 = kind-read 33 fs (omega arith) in
+      let k : kindOf rec ≡ TranslationKinds.head = kind-read TranslationKinds.head fs (omega arith) in
       record {
         there = head-written b accepted;
         small = omega arith;
@@ -72,7 +74,7 @@ module _ (b : List ℕ) (accepted : sheetVerdict b ≡ Accepted) where
         allowed = refl;
         code = rw k refl;
         counts = head-counts;
-        named = names-there (translation b) 0 rec (none-below (translation b) rec (no-mention rec 33 k refl refl refl)) (rw k refl);
+        named = names-there (translation b) 0 rec (none-below (translation b) rec (no-mention rec TranslationKinds.head k refl refl refl)) (rw k refl);
       }
 
   -- a function's counts: its own is not 0, and all sum to the nodes
@@ -102,18 +104,18 @@ module _ (b : List ℕ) (accepted : sheetVerdict b ≡ Accepted) where
       let t = translation b in
       let fs = nodeCount Sheet b f ∷ [] in
       let rec = bytesOf (recordWords TranslationKinds.function fs) in
-      let k : kindOf rec ≡ 34 = kind-read 34 fs (omega arith) in
+      let k : kindOf rec ≡ TranslationKinds.function = kind-read TranslationKinds.function fs (omega arith) in
       let l : f < functions t = rw (translation-functions b accepted) h in
       record {
         there = function-written b accepted f h;
         small = omega arith;
         due =
-            sym (due-section Translation t (1 + f) 34 (firstNode t) 34 (λ e. omega (arith, e)) refl (omega (arith, l))
+            sym (due-section Translation t (1 + f) TranslationKinds.function (firstNode t) TranslationKinds.function (λ e. omega (arith, e)) refl (omega (arith, l))
             (section-function Translation t (1 + f) (functions t) refl refl (omega (arith, l))));
         allowed = refl;
         code = rw k refl;
-        counts = sym (counts-run Translation t rec (1 + f) 34 (λ e. omega (arith, e)) (sym k) true refl (sym (run-counts f h)));
-        named = names-there t (1 + f) rec (none-below t rec (no-mention rec 34 k refl refl refl)) (rw k refl);
+        counts = sym (counts-run Translation t rec (1 + f) TranslationKinds.function (λ e. omega (arith, e)) (sym k) true refl (sym (run-counts f h)));
+        named = names-there t (1 + f) rec (none-below t rec (no-mention rec TranslationKinds.function k refl refl refl)) (rw k refl);
       }
 
   -- an actual is a node
@@ -122,9 +124,9 @@ module _ (b : List ℕ) (accepted : sheetVerdict b ≡ Accepted) where
   formal-mention f i g j h =
       let fs = actuals b f i in
       let rec = bytesOf (formalPart b f i) in
-      let k : kindOf rec ≡ 35 = kind-read 35 fs (omega arith) in
-      let l : j < length fs = rw (list-mentions rec k, count-read 35 fs) at h in
-      rw (list-mention rec k j, field-read 35 fs (formal-writable b accepted f i g .fit) j, translation-nodes b accepted)
+      let k : kindOf rec ≡ TranslationKinds.formalList = kind-read TranslationKinds.formalList fs (omega arith) in
+      let l : j < length fs = rw (list-mentions rec k, count-read TranslationKinds.formalList fs) at h in
+      rw (list-mention rec k j, field-read TranslationKinds.formalList fs (formal-writable b accepted f i g .fit) j, translation-nodes b accepted)
       (actuals-below b accepted f i j g (element-is 0 fs j l))
 
   pub formal-passes : (f i : ℕ) → f < functions b → i < parameters b f
@@ -135,7 +137,7 @@ module _ (b : List ℕ) (accepted : sheetVerdict b ≡ Accepted) where
       let fs = actuals b f i in
       let r = 1 + functions t + formalOf b f i in
       let rec = bytesOf (formalPart b f i) in
-      let k : kindOf rec ≡ 35 = kind-read 35 fs (omega arith) in
+      let k : kindOf rec ≡ TranslationKinds.formalList = kind-read TranslationKinds.formalList fs (omega arith) in
       let l : formalOf b f i < items t = rw (translation-items b accepted) (formal-in-range b accepted f i h g) in
       let m = actuals-limit b accepted f i in
       let n = nodes-limit Sheet b (sheet-shape b accepted) in
@@ -143,10 +145,10 @@ module _ (b : List ℕ) (accepted : sheetVerdict b ≡ Accepted) where
         there = formal-written b accepted f i h g;
         small = omega arith;
         due =
-            sym (due-section Translation t r 35 (firstNode t) 35 (λ e. omega (arith, e)) refl (omega (arith, l))
+            sym (due-section Translation t r TranslationKinds.formalList (firstNode t) TranslationKinds.formalList (λ e. omega (arith, e)) refl (omega (arith, l))
             (section-formal Translation t r (functions t) refl refl (omega arith)));
-        allowed = row-allows (rowOf 35) (4 + 2 * length fs) (omega arith) (omega (arith, m, n)) (omega arith);
+        allowed = row-allows (rowOf TranslationKinds.formalList) (4 + 2 * length fs) (omega arith) (omega (arith, m, n)) (omega arith);
         code = rw k refl;
-        counts = sym (counts-other Translation t rec r 35 (λ e. omega (arith, e)) (sym k) (λ e. omega (arith, e)) (λ e. omega (arith, e)) (λ e. omega (arith, e)));
+        counts = sym (counts-other Translation t rec r TranslationKinds.formalList (λ e. omega (arith, e)) (sym k) (λ e. omega (arith, e)) (λ e. omega (arith, e)) (λ e. omega (arith, e)));
         named = names-there t r rec (formal-mention f i g) (rw k refl);
       }

@@ -45,12 +45,12 @@ abbrev listedArguments : List ℕ → ℕ → ℕ
 listedArguments b k = sumOf (functions b) (λ f. cond (calls b f k) (parameters b f) 0)
 
 -- a node that is no call has none
-no-arguments : (m : ℕ) (p : ℕ → ℕ) (rec : List ℕ) → eqb (kindOf rec) SheetKinds.call ≡ false
+pub no-arguments : (m : ℕ) (p : ℕ → ℕ) (rec : List ℕ) → eqb (kindOf rec) SheetKinds.call ≡ false
     → sumOf m (λ f. cond (eqb (kindOf rec) SheetKinds.call && eqb (field rec 0) f) (p f) 0) ≡ 0
 no-arguments m p rec e = rw e (sum-constant m 0 ∙ omega arith)
 
 -- a call has as many as its function has parameters
-call-arguments : (m : ℕ) (p : ℕ → ℕ) (rec : List ℕ) → eqb (kindOf rec) SheetKinds.call ≡ true
+pub call-arguments : (m : ℕ) (p : ℕ → ℕ) (rec : List ℕ) → eqb (kindOf rec) SheetKinds.call ≡ true
     → sumOf m (λ f. cond (eqb (kindOf rec) SheetKinds.call && eqb (field rec 0) f) (p f) 0) ≤ p (field rec 0)
 call-arguments m p rec e = rw e (sum-chosen m (field rec 0) p)
 

@@ -4,6 +4,8 @@ use Prim.Native.Nat.{ℕ}
 use mathlib.Core.List.{List, [], _∷_, map}
 use lib.IntN.{ℤ, pos, negsuc}
 use lib.ListN.{length}
+use Rattle.definitions.specs.Ranges.{within}
+use Rattle.definitions.specs.Numbers.{isRefusal}
 use Rattle.definitions.specs.Run.{Answer}
 use Rattle.report.specs.Decimals.{digit, digitsWithin, decimal, signed, integer}
 use Rattle.report.specs.Lines.{numberWord, constructorWord, endWord, refusedWord, stepsWord, cellsWord, placeWord, lineEnd}
@@ -57,7 +59,7 @@ lines : map line
     ∷ answer 6 (pos 18446744073709551615) 0 0
     ∷ [])
     ≡ sLine ∷ negativeLine ∷ longestLine ∷ constructorLine ∷ stopLine ∷ faultLine ∷ emptyLine ∷ placeLine ∷ []
-unfolding digit digitsWithin decimal signed integer numberWord constructorWord endWord refusedWord stepsWord cellsWord placeWord lineEnd counts countedLine refusalLine lineOf line
+unfolding digit digitsWithin decimal signed integer numberWord constructorWord endWord refusedWord stepsWord cellsWord placeWord lineEnd counts countedLine refusalLine lineOf line isRefusal within
 lines = refl
 
 longest : length longestLine ≡ 48

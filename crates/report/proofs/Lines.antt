@@ -5,7 +5,8 @@ use mathlib.Core.Bool.{Bool, true, false}
 use mathlib.Core.List.{List}
 use native.Mathlib.Omega.{arith}
 use lib.ListN.{length, length-append}
-use borrow.Author.Tests.{ne-eqb, le-leb, lt-leb}
+use borrow.Author.Tests.{ne-eqb}
+use Rattle.definitions.specs.Numbers.{isNumber, isConstructor, isRefusal}
 use Rattle.cells.specs.Answers.{answerOf}
 use Rattle.cells.specs.declared.answer.Answer.{Answer}
 use Rattle.cells.proofs.Writing.{over-front}
@@ -53,27 +54,27 @@ module _ (a : Answer) (s : Shown) (out : List ℕ) (r : ℕ) (out′ : List ℕ)
   puts-as : (bytes : List ℕ) → bytes ≡ line (answerOf a) → length bytes ≤ lineBytes → Wrote out 0 bytes r out′ → PutsLine a out r out′
   puts-as bytes f h w = record { wrote = rw f at w; short = rw f at h }
 
-  pub puts-number : s .number ≡ 0 → Wrote out 0 (countedLine numberWord (signed (s .negative) (s .size)) (a .steps) (a .cells)) r out′ → PutsLine a out r out′
+  pub puts-number : s .number ≡ isNumber → Wrote out 0 (countedLine numberWord (signed (s .negative) (s .size)) (a .steps) (a .cells)) r out′ → PutsLine a out r out′
   unfolding lineOf numberWord
   puts-number h = puts-as _ (rw h at as-shown) (counted-length a s b numberWord (signed (s .negative) (s .size)) (omega arith) (signed-length (s .negative) (s .size) (b .size)))
 
-  pub puts-constructor : s .number ≡ 100 → Wrote out 0 (countedLine constructorWord (signed (s .negative) (s .size)) (a .steps) (a .cells)) r out′
+  pub puts-constructor : s .number ≡ isConstructor → Wrote out 0 (countedLine constructorWord (signed (s .negative) (s .size)) (a .steps) (a .cells)) r out′
       → PutsLine a out r out′
   unfolding lineOf constructorWord
   puts-constructor h =
       puts-as _ (rw h at as-shown)
       (counted-length a s b constructorWord (signed (s .negative) (s .size)) (omega arith) (signed-length (s .negative) (s .size) (b .size)))
 
-  pub puts-refusal : (s .number ≡ 0 → ⊥) → (s .number ≡ 100 → ⊥) → s .number ≤ 10 → Wrote out 0 (refusalLine (s .number) (signed (s .negative) (s .size))) r out′
+  pub puts-refusal : (s .number ≡ isNumber → ⊥) → (s .number ≡ isConstructor → ⊥) → isRefusal (s .number) ≡ true → Wrote out 0 (refusalLine (s .number) (signed (s .negative) (s .size))) r out′
       → PutsLine a out r out′
   unfolding lineOf
-  puts-refusal h i j = puts-as _ (rw (ne-eqb (s .number) 0 h, ne-eqb (s .number) 100 i, le-leb (s .number) 10 j) at as-shown) (refusal-length a s b)
+  puts-refusal h i j = puts-as _ (rw (ne-eqb (s .number) isNumber h, ne-eqb (s .number) isConstructor i, j) at as-shown) (refusal-length a s b)
 
-  pub puts-end : (s .number ≡ 0 → ⊥) → (s .number ≡ 100 → ⊥) → 10 < s .number → Wrote out 0 (countedLine endWord (signed false (s .number)) (a .steps) (a .cells)) r out′
+  pub puts-end : (s .number ≡ isNumber → ⊥) → (s .number ≡ isConstructor → ⊥) → isRefusal (s .number) ≡ false → Wrote out 0 (countedLine endWord (signed false (s .number)) (a .steps) (a .cells)) r out′
       → PutsLine a out r out′
   unfolding lineOf endWord signed
   puts-end h i j =
-      puts-as _ (rw (ne-eqb (s .number) 0 h, ne-eqb (s .number) 100 i, lt-leb (s .number) 10 j) at as-shown)
+      puts-as _ (rw (ne-eqb (s .number) isNumber h, ne-eqb (s .number) isConstructor i, j) at as-shown)
       (counted-length a s b endWord (decimal (s .number)) (omega arith) (omega (arith, decimal-length 4 (s .number) (omega (arith, b .number)))))
 
 -- the space has room for every line

@@ -3,8 +3,8 @@
 use Prim.Native.Nat.{ℕ}
 use mathlib.Core.List.{List, [], _∷_, _++_}
 use mathlib.Core.Bool.{cond}
-use lib.Dec.{eqb, leb}
-use Rattle.definitions.specs.Numbers.{isNumber, isConstructor, badAllowance}
+use lib.Dec.{eqb}
+use Rattle.definitions.specs.Numbers.{isNumber, isConstructor, isRefusal}
 use Rattle.definitions.specs.Run.{Answer}
 use Rattle.report.specs.Decimals.{decimal, integer}
 
@@ -51,12 +51,12 @@ countedLine word shown steps cells = word ++ shown ++ counts steps cells
 unfoldable pub refusalLine : ℕ → List ℕ → List ℕ
 refusalLine number place = refusedWord ++ decimal number ++ placeWord ++ place ++ lineEnd
 
--- the line, by the outcome's number; by the table refusals are those up to 10, and stops and run faults those above
+-- the line, by the outcome's number: of a number, a constructor, a refusal, and else of a stop or a run fault
 unfoldable pub lineOf : ℕ → List ℕ → ℕ → ℕ → List ℕ
 lineOf number shown steps cells =
     cond (eqb number isNumber) (countedLine numberWord shown steps cells)
     (cond (eqb number isConstructor) (countedLine constructorWord shown steps cells)
-    (cond (leb number badAllowance) (refusalLine number shown) (countedLine endWord (decimal number) steps cells)))
+    (cond (isRefusal number) (refusalLine number shown) (countedLine endWord (decimal number) steps cells)))
 
 unfoldable pub line : Answer → List ℕ
 line a = lineOf (a .outcome) (integer (a .value)) (a .steps) (a .cells)

@@ -13,8 +13,9 @@ use crate::decimals::put_decimal;
 use crate::decimals::put_signed;
 use crate::shown::show;
 use cells::answer::Answer;
-use cells::numbers::CONSTRUCTOR;
-use cells::numbers::NUMBER;
+use definitions::numbers::CONSTRUCTOR;
+use definitions::numbers::NUMBER;
+use definitions::numbers::is_refusal;
 
 // How many bytes the space for a line has. The longest line of a run, `number -2147483648 steps 4294967295 cells 65535`, has
 // 48 with its end; whatever an `Answer` holds, its line fits the space.
@@ -22,9 +23,6 @@ pub const LINE_BYTES: usize = 64;
 
 // The space that a line is written in.
 pub type Line = [u8; LINE_BYTES];
-
-// The greatest number of a refusal, "bad allowance"; those of stops and run faults are above it.
-const LAST_REFUSAL: u16 = 10;
 
 // Writes the steps, the cells and the line end.
 fn put_counts(out: &mut [u8], at: usize, steps: u32, cells: u16) -> usize
@@ -77,7 +75,7 @@ fn put_line(a: Answer, out: &mut [u8]) -> usize
     if number == CONSTRUCTOR {
         return put_counted(out, b"constructor ", s.negative, s.size, a.steps, a.cells);
     }
-    if number <= LAST_REFUSAL {
+    if is_refusal(number) {
         return put_refusal(out, number, s.negative, s.size);
     }
     put_counted(out, b"end ", false, number as usize, a.steps, a.cells)

@@ -3,8 +3,8 @@ ghost use mathlib.Core.Path.{_≡_};
 ghost use lib.IntN.{natAbs};
 ghost use Rattle.report.specs.Writing.{Shows};
 use cells::answer::Outcome;
-use cells::numbers::CONSTRUCTOR;
-use cells::numbers::NUMBER;
+use definitions::numbers::CONSTRUCTOR;
+use definitions::numbers::NUMBER;
 
 // The outcome's number, and the sign and the size of its value.
 pub(crate) struct Shown {

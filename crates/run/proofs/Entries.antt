@@ -1,4 +1,4 @@
--- Laws of making the table of nodes: an entry's parts, and the table while it is filled.
+-- Laws of filling the table of nodes: an entry's parts, and the table while it is filled.
 use mathlib.Core.Path.{_≡_, refl, sym, ap, _∙_}
 use Prim.Native.Nat.{ℕ, _+_, _*_, _/_, _%_, _≤_, _<_}
 use mathlib.Core.List.{List}
@@ -10,6 +10,8 @@ use lib.ListN.{length, getD, set, length-set}
 use mir.Syntax.{w32}
 use mir.Val.{toZ, SFits}
 use mir.ValLaws.{toZ-ofZ}
+use Rattle.definitions.specs.Sizes.{translationBytes, mostNodes}
+use Rattle.definitions.specs.TranslationKinds as kinds
 use Rattle.definitions.specs.Bytes.{word}
 use Rattle.definitions.specs.Records.{whole, startOf, recordAt, recordOf, kindOf, field, fieldCount}
 use Rattle.definitions.specs.Operators.{residue}
@@ -25,7 +27,7 @@ use Rattle.accepted.proofs.TranslationNames.{formal-below, translation-call-bel
 use Rattle.file_records.specs.Index.{Indexed, Opened, startIn}
 use Rattle.file_records.proofs.Indices.{start-inside, indexed-record}
 use Rattle.format.proofs.RunTables.{entry-more}
-use Rattle.run.specs.NodeTable.{Parts, EntryOf, ReadingOf, NodeTable, ReadingsIn, ListEntry, ReadingEntry}
+use Rattle.run.specs.NodeTable.{tableEntries, Parts, EntryOf, NodeTable, ListEntry}
 use Rattle.run.specs.States.{Ready}
 use Rattle.run.proofs.NodeKinds.{is-formal, is-call, node-is}
 
@@ -47,7 +49,7 @@ fields-limit b shaped r h =
     let i = whole-is b (startOf b r) w .inside in
     let n = recorded b r w in
     let f = record-fields Translation b shaped r h in
-    let l : length b ≤ 40960 = within-limit Translation b shaped in
+    let l : length b ≤ translationBytes = within-limit Translation b shaped in
     omega arith
 
 -- the entry of a node with a list of nodes
@@ -66,7 +68,7 @@ list-entry b index kind first r start count x rec o h es hs er ec t =
     }
 
 -- a number of 32 bits from its bits
-bits-back : (z : ℤ) → SFits w32 z → toZ w32 (residue w32 z) ≡ z
+pub bits-back : (z : ℤ) → SFits w32 z → toZ w32 (residue w32 z) ≡ z
 unfolding residue
 bits-back (pos n) f =
     let h : n < 2147483648 = f .sfits in
@@ -80,111 +82,78 @@ bits-back (negsuc n) f =
 pub split : (x : ℕ) → x / 65536 % 4294967296 ≡ x / 65536 % 65536 + 65536 * (x / 4294967296 % 65536)
 split x = omega arith
 
-halves : (n : ℕ) → n < 4294967296 → n % 65536 + 65536 * (n / 65536) ≡ n
+pub halves : (n : ℕ) → n < 4294967296 → n % 65536 + 65536 * (n / 65536) ≡ n
 halves n h = omega arith
 
--- the entry of a node that names a reading
-pub reading-entry : (rs : List ℤ) (i n x : ℕ) (y z : ℤ) → SFits w32 z → y ≡ z → z ≡ getD rs i (pos 0) → n ≡ residue w32 y → n < 4294967296
-    → Parts x 49 (n % 65536) (n / 65536) 0 → ReadingEntry rs i x
-reading-entry rs i n x y z f ey ez en hn t =
-    let e : x / 65536 % 4294967296 ≡ residue w32 z = split x ∙ rw (t .part-1, t .part-2) refl ∙ halves n hn ∙ en ∙ ap (residue w32) ey in
-    record { part-0 = t .part-0; number = ap (toZ w32) e ∙ bits-back z f ∙ ez }
-
 -- an entry by its parts, by the kind of the node
-module _ (b rec : List ℕ) (rs : List ℤ) (k kind x first : ℕ) (er : rec ≡ nodeRecord b k) (e : kind ≡ kindOf rec) (ef : first ≡ field rec 0) where
+module _ (b rec : List ℕ) (k kind x first : ℕ) (er : rec ≡ nodeRecord b k) (e : kind ≡ kindOf rec) (ef : first ≡ field rec 0) where
   kind-is : kind ≡ kindOf (nodeRecord b k)
   kind-is = e ∙ ap kindOf er
 
   first-is : first ≡ field (nodeRecord b k) 0
   first-is = ef ∙ ap (λ l. field l 0) er
 
-  no-number : (kind ≡ 49 → ⊥) → ReadingOf b rs k x
-  no-number n = record { number = λ q. absurd (n (kind-is ∙ q)) }
-
-  pub entry-of-reading : kind ≡ 49 → ReadingEntry rs first x → EntryOf b k x × ReadingOf b rs k x
-  entry-of-reading n t =
-      let q : kindOf (nodeRecord b k) ≡ 49 = sym kind-is ∙ n in (
-        record {
-          kind = t .part-0 ∙ sym q;
-          first = λ d. absurd (d q);
-          second = λ d. absurd (d .no-reading q);
-          third = λ d. absurd (d .no-reading q);
-          actuals = λ d. absurd (omega (arith, q, d));
-          body = λ d. absurd (omega (arith, q, d));
-          list = λ d. absurd (omega (arith, q, d));
-        },
-        record { number = λ d. t .number ∙ ap (λ i. getD rs i (pos 0)) first-is },
-      )
-
-  pub entry-of-formal : (r : ℕ) → kind ≡ 50 → r ≡ 1 + functions b + first → ListEntry b kind first r x → EntryOf b k x × ReadingOf b rs k x
+  pub entry-of-formal : (r : ℕ) → kind ≡ kinds.formal → r ≡ 1 + functions b + first → ListEntry b kind first r x → EntryOf b k x
   entry-of-formal r n g t =
-      let q : kindOf (nodeRecord b k) ≡ 50 = sym kind-is ∙ n in (
-        record {
-          kind = t .part-0 ∙ kind-is;
-          first = λ d. t .part-1 ∙ first-is;
-          second = λ d. absurd (d .no-formal q);
-          third = λ d. absurd (d .no-formal q);
-          actuals = λ d. rw (g, first-is) at (t .list);
-          body = λ d. absurd (omega (arith, q, d));
-          list = λ d. absurd (omega (arith, q, d));
-        },
-        no-number (λ d. omega (arith, n, d)),
-      )
+      let q : kindOf (nodeRecord b k) ≡ kinds.formal = sym kind-is ∙ n in
+      record {
+        kind = t .part-0 ∙ kind-is;
+        first = t .part-1 ∙ first-is;
+        second = λ d. absurd (d .no-formal q);
+        third = λ d. absurd (d .no-formal q);
+        actuals = λ d. rw (g, first-is) at (t .list);
+        body = λ d. absurd (omega (arith, q, d));
+        list = λ d. absurd (omega (arith, q, d));
+      }
 
-  pub entry-of-call : (f y : ℕ) → kind ≡ 54 → f ≡ field rec 1 → y ≡ bodyOf Translation b f → Parts x kind first 0 y → EntryOf b k x × ReadingOf b rs k x
+  pub entry-of-call : (f y : ℕ) → kind ≡ kinds.call → f ≡ field rec 1 → y ≡ bodyOf Translation b f → Parts x kind first 0 y → EntryOf b k x
   entry-of-call f y n g ey t =
-      let q : kindOf (nodeRecord b k) ≡ 54 = sym kind-is ∙ n in (
-        record {
-          kind = t .part-0 ∙ kind-is;
-          first = λ d. t .part-1 ∙ first-is;
-          second = λ d. absurd (d .no-call q);
-          third = λ d. absurd (d .no-call q);
-          actuals = λ d. absurd (omega (arith, q, d));
-          body = λ d. t .part-3 ∙ ey ∙ ap (bodyOf Translation b) (g ∙ ap (λ l. field l 1) er);
-          list = λ d. absurd (omega (arith, q, d));
-        },
-        no-number (λ d. omega (arith, n, d)),
-      )
+      let q : kindOf (nodeRecord b k) ≡ kinds.call = sym kind-is ∙ n in
+      record {
+        kind = t .part-0 ∙ kind-is;
+        first = t .part-1 ∙ first-is;
+        second = λ d. absurd (d .no-call q);
+        third = λ d. absurd (d .no-call q);
+        actuals = λ d. absurd (omega (arith, q, d));
+        body = λ d. t .part-3 ∙ ey ∙ ap (bodyOf Translation b) (g ∙ ap (λ l. field l 1) er);
+        list = λ d. absurd (omega (arith, q, d));
+      }
 
-  pub entry-of-list : (r : ℕ) → 55 ≤ kind → r ≡ firstNode b + k → ListEntry b kind first r x → EntryOf b k x × ReadingOf b rs k x
+  pub entry-of-list : (r : ℕ) → kinds.tuple ≤ kind → r ≡ firstNode b + k → ListEntry b kind first r x → EntryOf b k x
   entry-of-list r n g t =
-      let q = kind-is in (
-        record {
-          kind = t .part-0 ∙ kind-is;
-          first = λ d. t .part-1 ∙ first-is;
-          second = λ d. absurd (let l = d .no-list in omega arith);
-          third = λ d. absurd (let l = d .no-list in omega arith);
-          actuals = λ d. absurd (omega (arith, q, n, d));
-          body = λ d. absurd (omega (arith, q, n, d));
-          list = λ d. rw g at (t .list);
-        },
-        no-number (λ d. omega (arith, n, d)),
-      )
+      let q = kind-is in
+      record {
+        kind = t .part-0 ∙ kind-is;
+        first = t .part-1 ∙ first-is;
+        second = λ d. absurd (let l = d .no-list in omega arith);
+        third = λ d. absurd (let l = d .no-list in omega arith);
+        actuals = λ d. absurd (omega (arith, q, n, d));
+        body = λ d. absurd (omega (arith, q, n, d));
+        list = λ d. rw g at (t .list);
+      }
 
-  pub entry-of-fields : (y z : ℕ) → (kind ≡ 49 → ⊥) → (kind ≡ 50 → ⊥) → (kind ≡ 54 → ⊥) → kind < 55 → y ≡ field rec 1 → z ≡ field rec 2
-      → Parts x kind first y z → EntryOf b k x × ReadingOf b rs k x
-  entry-of-fields y z n0 n1 n2 l ey ez t =
-      let q = kind-is in (
-        record {
-          kind = t .part-0 ∙ kind-is;
-          first = λ d. t .part-1 ∙ first-is;
-          second = λ d. t .part-2 ∙ ey ∙ ap (λ l. field l 1) er;
-          third = λ d. t .part-3 ∙ ez ∙ ap (λ l. field l 2) er;
-          actuals = λ d. absurd (n1 (q ∙ d));
-          body = λ d. absurd (n2 (q ∙ d));
-          list = λ d. absurd (omega (arith, q, l, d));
-        },
-        no-number n0,
-      )
+  pub entry-of-fields : (y z : ℕ) → (kind ≡ kinds.formal → ⊥) → (kind ≡ kinds.call → ⊥) → kind < kinds.tuple → y ≡ field rec 1 → z ≡ field rec 2
+      → Parts x kind first y z → EntryOf b k x
+  entry-of-fields y z n1 n2 l ey ez t =
+      let q = kind-is in
+      record {
+        kind = t .part-0 ∙ kind-is;
+        first = t .part-1 ∙ first-is;
+        second = λ d. t .part-2 ∙ ey ∙ ap (λ l. field l 1) er;
+        third = λ d. t .part-3 ∙ ez ∙ ap (λ l. field l 2) er;
+        actuals = λ d. absurd (n1 (q ∙ d));
+        body = λ d. absurd (n2 (q ∙ d));
+        list = λ d. absurd (omega (arith, q, l, d));
+      }
 
 -- what the entry of a node asks
 module _ (b index ends rec : List ℕ) (k kind : ℕ) (ready : Ready b index ends) (h : k < nodes b) (er : rec ≡ nodeRecord b k) (e : kind ≡ kindOf rec) where
-  pub formal-record : (first y f : ℕ) → kind ≡ 50 → first ≡ field rec 0 → y ≡ first → f ≡ 1 + functions b → f + y < due b
+  pub formal-record : (first y f : ℕ) → kind ≡ kinds.formal → first ≡ field rec 0 → y ≡ first → f ≡ 1 + functions b → f + y < due b
   formal-record first y f n ef ey eg =
-      let l = formal-below b (ready .accepted) k h (is-formal b rec k (node-is b rec k kind 50 h er e n)) in omega arith
+      let l = formal-below b (ready .accepted) k h (is-formal b rec k (node-is b rec k kind kinds.formal h er e n)) in omega arith
 
-  pub function-there : (f : ℕ) → kind ≡ 54 → f ≡ field rec 1 → f < functions b
-  function-there f n ef = rw ef (translation-call-below b (ready .accepted) k h (is-call b rec k (node-is b rec k kind 54 h er e n)))
+  pub function-there : (f : ℕ) → kind ≡ kinds.call → f ≡ field rec 1 → f < functions b
+  function-there f n ef = rw ef (translation-call-below b (ready .accepted) k h (is-call b rec k (node-is b rec k kind kinds.call h er e n)))
 
 -- where the record of a formal and of a node stands
 pub formal-place : (b : List ℕ) (first y f : ℕ) → y ≡ first → f ≡ 1 + functions b → f + y ≡ 1 + functions b + first
@@ -200,15 +169,15 @@ pub opens : (b index ends : List ℕ) → Ready b index ends → Opened Translat
 opens b index ends ready = record { accepted = translation-shape b (ready .accepted); index = ready .index }
 
 -- the first k entries are right
-pub record Filling (b : List ℕ) (rs : List ℤ) (tab : List ℕ) (count k : ℕ) : Type 0 where
+pub record Filling (b tab : List ℕ) (count k : ℕ) : Type 0 where
   pub reached : k ≤ count
   pub counted : count ≡ nodes b
-  pub room : count ≤ 1024
-  pub size : length tab ≡ 1024
-  pub entry : (i : ℕ) → i < k → EntryOf b i (getD tab i 0) × ReadingOf b rs i (getD tab i 0)
+  pub room : count ≤ mostNodes
+  pub size : length tab ≡ tableEntries
+  pub entry : (i : ℕ) → i < k → EntryOf b i (getD tab i 0)
 
-pub filling-begins : (b index ends : List ℕ) (rs : List ℤ) (tab : List ℕ) (count : ℕ) → Ready b index ends → count ≡ nodes b → length tab ≡ 1024 → Filling b rs tab count 0
-filling-begins b index ends rs tab count ready e s =
+pub filling-begins : (b index ends tab : List ℕ) (count : ℕ) → Ready b index ends → count ≡ nodes b → length tab ≡ tableEntries → Filling b tab count 0
+filling-begins b index ends tab count ready e s =
     record {
       reached = omega arith;
       counted = e;
@@ -217,24 +186,22 @@ filling-begins b index ends rs tab count ready e s =
       entry = λ i h. absurd (not-suc-le-zero h);
     }
 
-module _ (b : List ℕ) (rs : List ℤ) (tab : List ℕ) (count k : ℕ) (w : Filling b rs tab count k) where
+module _ (b tab : List ℕ) (count k : ℕ) (w : Filling b tab count k) where
   pub filling-below : k < count → k < nodes b
   filling-below h = let c = w .counted in omega arith
 
-  pub filling-room : (x : ℕ) → k < count → x ≡ k → x < 1024
+  pub filling-room : (x : ℕ) → k < count → x ≡ k → x < tableEntries
   filling-room x h e = let c = w .room in omega arith
 
-  pub filling-goes-on : (y x : ℕ) → k < count → y ≡ k → EntryOf b k x × ReadingOf b rs k x → Filling b rs (set tab y x) count (k + 1)
+  pub filling-goes-on : (y x : ℕ) → k < count → y ≡ k → EntryOf b k x → Filling b (set tab y x) count (k + 1)
   filling-goes-on y x h e g =
       rw e (record {
         reached = omega arith;
         counted = w .counted;
         room = w .room;
         size = length-set tab k x ∙ w .size;
-        entry = entry-more (λ i v. EntryOf b i v × ReadingOf b rs i v) tab k x (omega (arith, w .size, w .room, h)) (w .entry) g;
+        entry = entry-more (EntryOf b) tab k x (omega (arith, w .size, w .room, h)) (w .entry) g;
       })
 
-  pub filled : count ≤ k → NodeTable b tab × ReadingsIn b rs tab
-  filled h =
-      let c = w .counted in
-      (record { entry = λ i l. w .entry i (omega arith) .0 }, record { reading = λ i l. w .entry i (omega arith) .1 })
+  pub filled : count ≤ k → NodeTable b tab × (length tab ≡ tableEntries)
+  filled h = let c = w .counted in (record { entry = λ i l. w .entry i (omega arith) }, w .size)

@@ -4,14 +4,16 @@ pub mod Labels
 pub mod Runs
 pub mod LookUps
 pub mod Outcomes
+pub mod Packing
 pub mod Falls
 pub mod Endings
 pub mod NodeKinds
 pub mod Steps
+pub mod Counting
 pub mod NumberSteps
 pub mod ConstructorSteps
 pub mod Nodes
-pub mod Formals
 pub mod Answering
 pub mod Entries
+pub mod ReadingEntries
 pub mod EntryReads

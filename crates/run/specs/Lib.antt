@@ -1,4 +1,5 @@
 pub mod Lent
 pub mod NodeTable
+pub mod Packed
 pub mod States
 pub mod Promise

@@ -1,71 +1,65 @@
 // The run of a translation (document 01, "Run").
-ghost use Rattle.run.specs.States.{Ready};
+ghost use mathlib.Core.Path.{_≡_};
+ghost use lib.ListN.{length};
+ghost use Rattle.run.specs.NodeTable.{tableEntries, FileRead, Readable};
 ghost use Rattle.run.specs.Promise.{Runs};
 
 mod answers;
 mod look_up;
 mod node_table;
-mod numbers;
+mod packed;
 mod state;
 mod visit;
 
 use crate::answers::answered;
-use crate::look_up::body;
-use crate::node_table::node_table;
+use crate::look_up::first_body;
+use crate::node_table::TABLE_ENTRIES;
+use crate::node_table::Table;
+use crate::node_table::fill_nodes;
+use crate::node_table::set_readings;
+use crate::packed::opened;
+use crate::state::LEFT;
+use crate::state::MADE;
 use crate::visit::visit;
 use allowances::allowed;
 use cells::answer::Answer;
 use cells::answer::refused;
 use definitions::Verdict;
+use definitions::numbers;
+use definitions::sizes::MOST_FUNCTIONS;
+use definitions::sizes::MOST_RECORDS;
 use file_layout::layout;
 use file_records::records::wide;
-use format::translation::read_translation;
+use format::translation::fill_translation;
 
-// Runs a translation on a list of readings, with allowances of steps, nesting and cells, in lent cells of 4 bytes. The answer
-// is the rule's, and the lent bytes start with the cells made and stay as they were past them; or it is the refusal, and the
-// lent bytes stay as they were.
-pub fn run(
-    file: &[u8],
-    readings: &[i32],
-    steps: u32,
-    nesting: u32,
-    most: u32,
-    cells: &mut [u8],
-) -> Answer
-    ensures { λ r. ⌜ Runs (now (file .entry)) (now (readings .entry)) steps nesting most (now (cells .entry)) r (now (cells .exit)) ⌝ }
+// Reads a translation into a lent table. Of a refused file only the verdict counts.
+fn read_file(file: &[u8], table: &mut Table) -> Verdict
+    requires { ⌜ length (now table) ≡ tableEntries ⌝ }
+    ensures { λ v. ⌜ FileRead (now (file .entry)) v (now (table .exit)) ⌝ }
 {
-    let read = read_translation(file);
-    let verdict = read.verdict;
-    let index = read.starts;
-    let ends = read.ends;
-    match verdict {
-        Verdict::Refused { number, place } => refused(number, place),
-        Verdict::Accepted => run_accepted(
-            file,
-            &index,
-            &ends,
-            readings,
-            steps,
-            nesting,
-            most,
-            cells,
-        ),
-    }
+    let mut starts = [0u16; MOST_RECORDS];
+    let mut ends = [0u16; MOST_FUNCTIONS];
+    let verdict = fill_translation(file, &mut starts, &mut ends);
+    let Verdict::Accepted = verdict else {
+        return verdict;
+    };
+    fill_nodes(table, file, &starts, &ends);
+    Verdict::Accepted
 }
 
-// Runs an accepted translation.
-fn run_accepted(
+// Runs the translation that a table holds: the readings come into the table here.
+fn run_table(
     file: &[u8],
-    index: &[u16; 1601],
-    ends: &[u16; 64],
+    table: &mut Table,
     readings: &[i32],
     steps: u32,
     nesting: u32,
     most: u32,
-    cells: &mut [u8],
+    cells: &mut &mut [u8],
 ) -> Answer
-    requires { ⌜ Ready (now file) (now index) (now ends) ⌝ }
-    ensures { λ r. ⌜ Runs (now (file .entry)) (now (readings .entry)) steps nesting most (now (cells .entry)) r (now (cells .exit)) ⌝ }
+    requires { ⌜ Readable (now file) (now table) ⌝ }
+    ensures { λ r. ⌜ Runs (now (file .entry)) (now (readings .entry)) steps nesting most (now (now (cells .entry))) r (now (now (cells .exit)))
+        × (now (cells .exit) .ptr ≡ now (cells .entry) .ptr) ⌝ }
 {
     if readings.len() != wide(layout::readings(file)) {
         return refused(numbers::BAD_READINGS, 0);
@@ -73,10 +67,32 @@ fn run_accepted(
     if !allowed(nesting, most, cells.len()) {
         return refused(numbers::BAD_ALLOWANCE, 0);
     }
-    let first = body(file, index, ends, 0);
-    let nest = nesting as u16;
-    let room = most as u16;
-    let tab = node_table(file, index, ends, readings);
-    let end = visit(file, &tab, cells, room, nest, first, 0, steps, 0);
-    answered(file, index, end, steps)
+    set_readings(table, readings);
+    let limits = nesting + 0x1_0000 * most;
+    let first = first_body(file) as u32;
+    let mut counts = [steps, 0u32];
+    let x = visit(&file, table, cells, &mut counts, limits, first);
+    answered(table, opened(x, counts[LEFT], counts[MADE]), steps)
+}
+
+// Runs a translation on a list of readings, with allowances of steps, nesting and cells, in lent cells of 4 bytes. The answer
+// is the rule's, and the lent bytes start with the cells made and stay as they were past them; or it is the refusal, and the
+// lent bytes stay as they were. The slice behind `cells` stays the same.
+pub fn run(
+    file: &[u8],
+    readings: &[i32],
+    steps: u32,
+    nesting: u32,
+    most: u32,
+    cells: &mut &mut [u8],
+) -> Answer
+    ensures { λ r. ⌜ Runs (now (file .entry)) (now (readings .entry)) steps nesting most (now (now (cells .entry))) r (now (now (cells .exit)))
+        × (now (cells .exit) .ptr ≡ now (cells .entry) .ptr) ⌝ }
+{
+    let mut table = [0u64; TABLE_ENTRIES];
+    let verdict = read_file(file, &mut table);
+    match verdict {
+        Verdict::Refused { number, place } => refused(number, place),
+        Verdict::Accepted => run_table(file, &mut table, readings, steps, nesting, most, cells),
+    }
 }

@@ -1,18 +1,21 @@
-// The table of nodes: what a visit reads of a node's record, in one number of 64 bits.
+// The table of a run: what a visit reads of a node's record, in one number of 64 bits for each node, and after the nodes the
+// readings.
 ghost use mathlib.Core.Path.{_≡_};
-ghost use Prim.Native.Nat.{_/_, _%_, _<_};
-ghost use lib.ListN.{getD};
-ghost use mir.Syntax.{w32};
-ghost use mir.Val.{toZ};
+ghost use Prim.Native.Nat.{_≤_, _<_};
+ghost use lib.ListN.{length, getD};
+ghost use Rattle.definitions.specs.Sizes.{mostNodes, mostReadings};
 ghost use Rattle.definitions.specs.Layouts.{nodes, due};
 ghost use Rattle.definitions.specs.declared.Layout.the-variants.{Translation};
 ghost use Rattle.file_records.specs.Index.{Opened};
-ghost use Rattle.run.specs.NodeTable.{Parts, ListEntry, ReadingEntry, EntryOf, ReadingOf, NodeTable, ReadingsIn};
+ghost use Rattle.run.specs.NodeTable.{tableEntries, kindPart, firstPart, secondPart, thirdPart, numberPart, readingIn, Parts, ListEntry, EntryOf, NodeTable, ReadingsSet};
 ghost use Rattle.run.specs.States.{Ready};
 use crate::look_up::body;
 use crate::look_up::node_record;
-use crate::look_up::reading;
 use definitions::Layout;
+use definitions::sizes::Ends;
+use definitions::sizes::MOST_NODES;
+use definitions::sizes::MOST_READINGS;
+use definitions::sizes::Starts;
 use file_layout::layout::first_item;
 use file_layout::layout::first_node;
 use file_layout::layout::nodes;
@@ -26,8 +29,12 @@ use file_records::records::wide;
 use operators::bits::bits_of;
 use operators::bits::number_of;
 
-// The entry with these parts.
-fn entry_with(a: u16, b: u16, c: u16, d: u16) -> u64
+pub(crate) const TABLE_ENTRIES: usize = MOST_NODES + MOST_READINGS;
+
+pub(crate) type Table = [u64; TABLE_ENTRIES];
+
+// The number with these parts.
+pub(crate) fn entry_with(a: u16, b: u16, c: u16, d: u16) -> u64
     ensures { λ r. ⌜ Parts r a b c d ⌝ }
 {
     let low = a as u64 + 0x1_0000 * b as u64;
@@ -36,7 +43,7 @@ fn entry_with(a: u16, b: u16, c: u16, d: u16) -> u64
 }
 
 // The entry of a node whose list of nodes stands in record `r`.
-fn list_entry(b: &[u8], index: &[u16; 1601], kind: u16, first: u16, r: usize) -> u64
+fn list_entry(b: &[u8], index: &Starts, kind: u16, first: u16, r: usize) -> u64
     requires { ⌜ Opened Translation (now b) (now index) × (r < due (now b)) ⌝ }
     ensures { λ x. ⌜ ListEntry (now (b .entry)) kind first r x ⌝ }
 {
@@ -45,27 +52,14 @@ fn list_entry(b: &[u8], index: &[u16; 1601], kind: u16, first: u16, r: usize) ->
     entry_with(kind, first, start, count)
 }
 
-// The entry of a node that names reading `i`.
-fn reading_entry(readings: &[i32], i: u16) -> u64
-    ensures { λ x. ⌜ ReadingEntry (now (readings .entry)) i x ⌝ }
-{
-    let bits = bits_of(reading(readings, i));
-    let low = (bits % 0x1_0000) as u16;
-    let high = (bits / 0x1_0000) as u16;
-    entry_with(translation_kinds::READING, low, high, 0)
-}
-
 // The entry of node `k` of an accepted translation.
-fn entry_at(b: &[u8], index: &[u16; 1601], ends: &[u16; 64], readings: &[i32], k: u16) -> u64
+fn entry_at(b: &[u8], index: &Starts, ends: &Ends, k: u16) -> u64
     requires { ⌜ Ready (now b) (now index) (now ends) × (k < nodes (now b)) ⌝ }
-    ensures { λ x. ⌜ EntryOf (now (b .entry)) k x × ReadingOf (now (b .entry)) (now (readings .entry)) k x ⌝ }
+    ensures { λ x. ⌜ EntryOf (now (b .entry)) k x ⌝ }
 {
     let rec = node_record(b, index, k);
     let kind = kind(rec);
     let first = field(rec, 0);
-    if kind == translation_kinds::READING {
-        return reading_entry(readings, first);
-    }
     if kind == translation_kinds::FORMAL {
         let r = first_item(Layout::Translation, b) + wide(first);
         return list_entry(b, index, kind, first, r);
@@ -80,62 +74,77 @@ fn entry_at(b: &[u8], index: &[u16; 1601], ends: &[u16; 64], readings: &[i32], k
     entry_with(kind, first, field(rec, 1), field(rec, 2))
 }
 
-// The table of nodes of an accepted translation.
-pub(crate) fn node_table(
-    b: &[u8],
-    index: &[u16; 1601],
-    ends: &[u16; 64],
-    readings: &[i32],
-) -> [u64; 1024]
-    requires { ⌜ Ready (now b) (now index) (now ends) ⌝ }
-    ensures { λ r. ⌜ NodeTable (now (b .entry)) r × ReadingsIn (now (b .entry)) (now (readings .entry)) r ⌝ }
+// Fills a table with the nodes of an accepted translation.
+pub(crate) fn fill_nodes(tab: &mut Table, b: &[u8], index: &Starts, ends: &Ends)
+    requires { ⌜ Ready (now b) (now index) (now ends) × (length (now tab) ≡ tableEntries) ⌝ }
+    ensures { λ _. ⌜ NodeTable (now (b .entry)) (now (tab .exit)) × (length (now (tab .exit)) ≡ tableEntries) ⌝ }
 {
     let count = nodes(b);
-    let mut tab = [0u64; 1024];
     let mut k: u16 = 0;
     while k < count {
-        tab[wide(k)] = entry_at(b, index, ends, readings, k);
+        let x = entry_at(b, index, ends, k);
+        tab[wide(k)] = x;
         k += 1;
     }
-    tab
+}
+
+// Sets the readings in a table.
+pub(crate) fn set_readings(tab: &mut Table, readings: &[i32])
+    requires { ⌜ (length (now tab) ≡ tableEntries) × (length (now readings) ≤ mostReadings) ⌝ }
+    ensures { λ _. ⌜ ReadingsSet (now (tab .entry)) (now (readings .entry)) (now (tab .exit)) ⌝ }
+{
+    let mut i: usize = 0;
+    while i < readings.len() {
+        let bits = bits_of(readings[i]);
+        tab[MOST_NODES + i] = bits as u64;
+        i += 1;
+    }
 }
 
 // The entry of node `k`.
-pub(crate) fn entry(tab: &[u64; 1024], k: u16) -> u64
-    requires { ⌜ k < 1024 ⌝ }
+pub(crate) fn entry(tab: &Table, k: u16) -> u64
+    requires { ⌜ k < mostNodes ⌝ }
     ensures { λ r. ⌜ r ≡ getD (now (tab .entry)) k 0 ⌝ }
 {
     tab[wide(k)]
 }
 
+// Reading `i`.
+pub(crate) fn reading(tab: &Table, i: u16) -> i32
+    requires { ⌜ i < mostReadings ⌝ }
+    ensures { λ r. ⌜ r ≡ readingIn (now (tab .entry)) i ⌝ }
+{
+    number_of((tab[MOST_NODES + wide(i)] % 0x1_0000_0000) as u32)
+}
+
 // The kind, and the first, the second and the third field of an entry.
 pub(crate) fn kind_in(x: u64) -> u16
-    ensures { λ r. ⌜ r ≡ x % 65536 ⌝ }
+    ensures { λ r. ⌜ r ≡ kindPart x ⌝ }
 {
     (x % 0x1_0000) as u16
 }
 
 pub(crate) fn first_in(x: u64) -> u16
-    ensures { λ r. ⌜ r ≡ x / 65536 % 65536 ⌝ }
+    ensures { λ r. ⌜ r ≡ firstPart x ⌝ }
 {
     (x / 0x1_0000 % 0x1_0000) as u16
 }
 
 pub(crate) fn second_in(x: u64) -> u16
-    ensures { λ r. ⌜ r ≡ x / 4294967296 % 65536 ⌝ }
+    ensures { λ r. ⌜ r ≡ secondPart x ⌝ }
 {
     (x / 0x1_0000_0000 % 0x1_0000) as u16
 }
 
 pub(crate) fn third_in(x: u64) -> u16
-    ensures { λ r. ⌜ r ≡ x / 281474976710656 % 65536 ⌝ }
+    ensures { λ r. ⌜ r ≡ thirdPart x ⌝ }
 {
     (x / 0x1_0000_0000_0000 % 0x1_0000) as u16
 }
 
 // The number of an entry: its first two fields as a signed 32-bit number.
 pub(crate) fn number_in(x: u64) -> i32
-    ensures { λ r. ⌜ r ≡ toZ w32 (x / 65536 % 4294967296) ⌝ }
+    ensures { λ r. ⌜ r ≡ numberPart x ⌝ }
 {
     number_of((x / 0x1_0000 % 0x1_0000_0000) as u32)
 }

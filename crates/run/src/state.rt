@@ -2,7 +2,7 @@
 ghost use mathlib.Core.Path.{_≡_};
 ghost use lib.IntN.{pos};
 ghost use Rattle.definitions.specs.Rule.{integer, constructor, value, ended};
-ghost use Rattle.run.specs.States.{Leaves, givenOf};
+ghost use Rattle.run.specs.States.{endingOf, givenOf};
 use operators::Computed;
 
 // A value: a number, or a constructor with node and context.
@@ -17,58 +17,53 @@ pub enum Outcome {
     Ended(u16),
 }
 
+// The counts of a run, the steps left and the cells made, and where each stands.
+pub type Counts = [u32; 2];
+
+pub const LEFT: usize = 0;
+
+pub const MADE: usize = 1;
+
 pub struct State {
     pub outcome: Outcome,
     pub left: u32,
-    pub made: u16,
+    pub made: u32,
 }
 
-// The state after a visit that a stop or a run fault ends.
-pub(crate) fn ended(number: u16, left: u32, made: u16) -> State
-    ensures { λ r. ⌜ Leaves r (ended number) left made ⌝ }
+// The outcome of a visit that a stop or a run fault ends.
+pub(crate) fn ended(number: u16) -> Outcome
+    ensures { λ r. ⌜ endingOf r ≡ ended number ⌝ }
 {
-    State {
-        outcome: Outcome::Ended(number),
-        left,
-        made,
-    }
+    Outcome::Ended(number)
 }
 
-// The state after a visit that ends with a number.
-pub(crate) fn number(z: i32, left: u32, made: u16) -> State
-    ensures { λ r. ⌜ Leaves r (value (integer z)) left made ⌝ }
+// The outcome of a visit that ends with a number.
+pub(crate) fn number(z: i32) -> Outcome
+    ensures { λ r. ⌜ endingOf r ≡ value (integer z) ⌝ }
 {
-    State {
-        outcome: Outcome::Value(Value::Number(z)),
-        left,
-        made,
-    }
+    Outcome::Value(Value::Number(z))
 }
 
-// The state after a visit that ends with the number that a tag is.
-pub(crate) fn tag(t: u16, left: u32, made: u16) -> State
-    ensures { λ r. ⌜ Leaves r (value (integer (pos t))) left made ⌝ }
+// The outcome of a visit that ends with the number that a tag is.
+pub(crate) fn tag(t: u16) -> Outcome
+    ensures { λ r. ⌜ endingOf r ≡ value (integer (pos t)) ⌝ }
 {
-    number(t as i32, left, made)
+    number(t as i32)
 }
 
-// The state after a visit that ends with a constructor.
-pub(crate) fn constructor(node: u16, context: u16, left: u32, made: u16) -> State
-    ensures { λ r. ⌜ Leaves r (value (constructor node context)) left made ⌝ }
+// The outcome of a visit that ends with a constructor.
+pub(crate) fn constructor(node: u16, context: u16) -> Outcome
+    ensures { λ r. ⌜ endingOf r ≡ value (constructor node context) ⌝ }
 {
-    State {
-        outcome: Outcome::Value(Value::Constructor { node, context }),
-        left,
-        made,
-    }
+    Outcome::Value(Value::Constructor { node, context })
 }
 
-// The state after a visit that ends with what an operator gives.
-pub(crate) fn given(c: Computed, left: u32, made: u16) -> State
-    ensures { λ r. ⌜ Leaves r (givenOf c) left made ⌝ }
+// The outcome of a visit that ends with what an operator gives.
+pub(crate) fn given(c: Computed) -> Outcome
+    ensures { λ r. ⌜ endingOf r ≡ givenOf c ⌝ }
 {
     match c {
-        Computed::Number(z) => number(z, left, made),
-        Computed::Fault(n) => ended(n, left, made),
+        Computed::Number(z) => number(z),
+        Computed::Fault(n) => ended(n),
     }
 }

@@ -1,22 +1,28 @@
 // The visits of a run: of a node, and by its kind of a formal, a selection, a case and the rest. They call each other while the steps
-// left fall. `tab` is the table of nodes, `most` the cell allowance.
-ghost use Prim.Native.Nat.{_<_};
-ghost use Rattle.definitions.specs.Layouts.{nodes, nodeRecord};
+// left fall. `tab` is the table of the run; `counts` has the steps left and the cells made; `limits` has the visits that may still
+// be nested below and the cell allowance above; `at` has the node below and the context above.
 ghost use Rattle.definitions.specs.TranslationKinds as kinds;
-ghost use Rattle.run.specs.States.{Equipped, NodeIs, Remains, Visits, Evaluates};
+ghost use Rattle.run.specs.States.{Visitable, Evaluable, Visits, Evaluates};
 use crate::look_up::Found;
 use crate::look_up::branch;
+use crate::look_up::cell_in;
 use crate::look_up::clause;
+use crate::look_up::found_at;
 use crate::look_up::listed;
+use crate::node_table::Table;
 use crate::node_table::entry;
 use crate::node_table::first_in;
 use crate::node_table::kind_in;
 use crate::node_table::number_in;
+use crate::node_table::reading;
 use crate::node_table::second_in;
 use crate::node_table::third_in;
-use crate::numbers;
+use crate::packed::opened;
+use crate::packed::packed;
+use crate::state::Counts;
+use crate::state::LEFT;
+use crate::state::MADE;
 use crate::state::Outcome;
-use crate::state::State;
 use crate::state::Value;
 use crate::state::constructor;
 use crate::state::ended;
@@ -24,281 +30,253 @@ use crate::state::given;
 use crate::state::number;
 use crate::state::tag;
 use cells::cell::add_cell;
-use cells::cell::cell_at;
+use cells::cell::pair_of;
+use definitions::numbers;
 use file_layout::translation_kinds;
-use file_records::records::record_at;
-use file_records::records::wide;
+use file_records::records::wide32;
 use operators::compute;
 
-// Visits node `k` under context `w`, with so many visits that may still be nested, steps left and cells made.
+// Visits a node under a context: the two stops, the step counted, and the node by its kind.
 pub(crate) fn visit(
-    b: &[u8],
-    tab: &[u64; 1024],
-    cells: &mut [u8],
-    most: u16,
-    nest: u16,
-    k: u16,
-    w: u16,
-    left: u32,
-    made: u16,
-) -> State
-    requires { ⌜ Equipped (now b) (now tab) × (k < nodes (now b)) ⌝ }
-    ensures { λ r. ⌜ Visits (now (b .entry)) (now (tab .entry)) most nest k w left made (now (cells .entry)) r (now (cells .exit)) ⌝ }
+    b: &&[u8],
+    tab: &Table,
+    cells: &mut &mut [u8],
+    counts: &mut Counts,
+    limits: u32,
+    at: u32,
+) -> u64
+    requires { ⌜ Visitable (now (now b)) (now tab) at (now counts) ⌝ }
+    ensures { λ r. ⌜ Visits (now (now (b .entry))) (now (tab .entry)) limits at (now (counts .entry)) (now (cells .entry)) r (now (counts .exit)) (now (cells .exit)) ⌝ }
 {
+    let left = counts[LEFT];
     if left == 0 {
-        return ended(numbers::NO_STEP, left, made);
+        return packed(ended(numbers::NO_STEP));
     }
-    if nest == 0 {
-        return ended(numbers::NO_NESTING, left, made);
+    if limits % 0x1_0000 == 0 {
+        return packed(ended(numbers::NO_NESTING));
     }
-    let inner = nest - 1;
-    let rest = left - 1;
-    visit_formal(b, tab, cells, most, inner, k, w, rest, made)
-}
-
-// A formal: visits the actual that the head label names, under the tail, in a loop while that is a formal too. A node that is
-// no formal is worked out.
-fn visit_formal(
-    b: &[u8],
-    tab: &[u64; 1024],
-    cells: &mut [u8],
-    most: u16,
-    mut nest: u16,
-    mut k: u16,
-    mut w: u16,
-    mut left: u32,
-    made: u16,
-) -> State
-    requires { ⌜ Equipped (now b) (now tab) × (k < nodes (now b)) ⌝ }
-    ensures { λ r. ⌜ Evaluates (now (b .entry)) (now (tab .entry)) most nest k w left made (now (cells .entry)) r (now (cells .exit)) ⌝ }
-{
-    let mut node = entry(tab, k);
-    while kind_in(node) == translation_kinds::FORMAL {
-        if w == 0 {
-            return ended(numbers::NO_ACTUAL, left, made);
-        }
-        let cell = cell_at(cells, w);
-        let label = (cell % 0x1_0000) as u16;
-        let found = listed(b, second_in(node), third_in(node), label);
-        let Found::Node(n) = found else {
-            return ended(numbers::NO_ACTUAL, left, made);
-        };
-        let tail = (cell / 0x1_0000) as u16;
-        if left == 0 || nest == 0 {
-            return visit(b, tab, cells, most, nest, n, tail, left, made);
-        }
-        nest -= 1;
-        k = n;
-        w = tail;
-        left -= 1;
-        node = entry(tab, k);
-    }
-    evaluate(b, tab, cells, most, nest, k, w, left, made)
-}
-
-// Works out node `k`, no formal, once its step is counted.
-fn evaluate(
-    b: &[u8],
-    tab: &[u64; 1024],
-    cells: &mut [u8],
-    most: u16,
-    nest: u16,
-    k: u16,
-    w: u16,
-    left: u32,
-    made: u16,
-) -> State
-    requires { ⌜ Equipped (now b) (now tab) × (k < nodes (now b)) × Remains (now b) k ⌝ }
-    ensures { λ r. ⌜ Evaluates (now (b .entry)) (now (tab .entry)) most nest k w left made (now (cells .entry)) r (now (cells .exit)) ⌝ }
-{
+    counts[LEFT] = left - 1;
+    let limits = limits - 1;
+    let k = (at % 0x1_0000) as u16;
     let node = entry(tab, k);
     let kind = kind_in(node);
-    if kind <= translation_kinds::READING {
-        return number(number_in(node), left, made);
+    if kind == translation_kinds::NUMBER {
+        return packed(number(number_in(node)));
+    }
+    if kind == translation_kinds::FORMAL {
+        return visit_formal(b, tab, cells, counts, limits, at);
     }
     if kind == translation_kinds::TUPLE {
-        return constructor(k, w, left, made);
+        return packed(constructor(k, (at / 0x1_0000) as u16));
     }
     if kind == translation_kinds::CALL {
-        return visit_call(b, tab, cells, most, nest, k, w, left, made);
+        return visit_call(b, tab, cells, counts, limits, at);
     }
     if kind == translation_kinds::SELECT {
-        return visit_select(b, tab, cells, most, nest, k, w, left, made);
+        return visit_select(b, tab, cells, counts, limits, at);
     }
     if kind == translation_kinds::OPERATOR {
-        return visit_operator(b, tab, cells, most, nest, k, w, left, made);
+        return visit_operator(b, tab, cells, counts, limits, at);
+    }
+    if kind == translation_kinds::READING {
+        return packed(number(reading(tab, first_in(node))));
     }
     if kind == translation_kinds::CONDITIONAL {
-        return visit_conditional(b, tab, cells, most, nest, k, w, left, made);
+        return visit_conditional(b, tab, cells, counts, limits, at);
     }
-    visit_case(b, tab, cells, most, nest, k, w, left, made)
+    visit_case(b, tab, cells, counts, limits, at)
+}
+
+// A formal: visits the actual that the head label names, under the tail.
+fn visit_formal(
+    b: &&[u8],
+    tab: &Table,
+    cells: &mut &mut [u8],
+    counts: &mut Counts,
+    limits: u32,
+    at: u32,
+) -> u64
+    requires { ⌜ Evaluable (now (now b)) (now tab) at (now counts) kinds.formal ⌝ }
+    ensures { λ r. ⌜ Evaluates (now (now (b .entry))) (now (tab .entry)) limits at (now (counts .entry)) (now (cells .entry)) r (now (counts .exit)) (now (cells .exit)) ⌝ }
+{
+    let w = (at / 0x1_0000) as u16;
+    if w == 0 {
+        return packed(ended(numbers::NO_ACTUAL));
+    }
+    let node = entry(tab, (at % 0x1_0000) as u16);
+    let cell = cell_in(*cells, w);
+    let label = (cell % 0x1_0000) as u16;
+    let found = listed(*b, second_in(node), third_in(node), label);
+    let Found::Node(n) = found else {
+        return packed(ended(numbers::NO_ACTUAL));
+    };
+    let tail = (cell / 0x1_0000) as u16;
+    visit(b, tab, cells, counts, limits, pair_of(n, tail))
 }
 
 // A selection: index 0 is the tag, i is field i - 1 under the tuple's own context.
 fn visit_select(
-    b: &[u8],
-    tab: &[u64; 1024],
-    cells: &mut [u8],
-    most: u16,
-    nest: u16,
-    k: u16,
-    w: u16,
-    left: u32,
-    made: u16,
-) -> State
-    requires { ⌜ Equipped (now b) (now tab) × NodeIs (now b) (nodeRecord (now b) k) k kinds.select ⌝ }
-    ensures { λ r. ⌜ Evaluates (now (b .entry)) (now (tab .entry)) most nest k w left made (now (cells .entry)) r (now (cells .exit)) ⌝ }
+    b: &&[u8],
+    tab: &Table,
+    cells: &mut &mut [u8],
+    counts: &mut Counts,
+    limits: u32,
+    at: u32,
+) -> u64
+    requires { ⌜ Evaluable (now (now b)) (now tab) at (now counts) kinds.select ⌝ }
+    ensures { λ r. ⌜ Evaluates (now (now (b .entry))) (now (tab .entry)) limits at (now (counts .entry)) (now (cells .entry)) r (now (counts .exit)) (now (cells .exit)) ⌝ }
 {
+    let k = (at % 0x1_0000) as u16;
+    let w = (at / 0x1_0000) as u16;
     let n = first_in(entry(tab, k));
-    let tuple = visit(b, tab, cells, most, nest, n, w, left, made);
-    let outcome = tuple.outcome;
+    let tuple = visit(b, tab, cells, counts, limits, pair_of(n, w));
+    let state = opened(tuple, counts[LEFT], counts[MADE]);
+    let outcome = state.outcome;
     let Outcome::Value(value) = outcome else {
         return tuple;
     };
-    let left = tuple.left;
-    let made = tuple.made;
     let Value::Constructor { node, context: v } = value else {
-        return ended(numbers::CONSTRUCTOR_WANTED, left, made);
+        return packed(ended(numbers::CONSTRUCTOR_WANTED));
     };
     let i = second_in(entry(tab, k));
     let fields = entry(tab, node);
     if i == 0 {
-        return tag(first_in(fields), left, made);
+        return packed(tag(first_in(fields)));
     }
-    let found = listed(b, second_in(fields), third_in(fields), i);
+    let found = listed(*b, second_in(fields), third_in(fields), i);
     let Found::Node(m) = found else {
-        return ended(numbers::NO_FIELD, left, made);
+        return packed(ended(numbers::NO_FIELD));
     };
-    visit(b, tab, cells, most, nest, m, v, left, made)
+    visit(b, tab, cells, counts, limits, pair_of(m, v))
 }
 
 // An operator: the left operand has to be a number before the right is visited.
 fn visit_operator(
-    b: &[u8],
-    tab: &[u64; 1024],
-    cells: &mut [u8],
-    most: u16,
-    nest: u16,
-    k: u16,
-    w: u16,
-    left: u32,
-    made: u16,
-) -> State
-    requires { ⌜ Equipped (now b) (now tab) × NodeIs (now b) (nodeRecord (now b) k) k kinds.operator ⌝ }
-    ensures { λ r. ⌜ Evaluates (now (b .entry)) (now (tab .entry)) most nest k w left made (now (cells .entry)) r (now (cells .exit)) ⌝ }
+    b: &&[u8],
+    tab: &Table,
+    cells: &mut &mut [u8],
+    counts: &mut Counts,
+    limits: u32,
+    at: u32,
+) -> u64
+    requires { ⌜ Evaluable (now (now b)) (now tab) at (now counts) kinds.operator ⌝ }
+    ensures { λ r. ⌜ Evaluates (now (now (b .entry))) (now (tab .entry)) limits at (now (counts .entry)) (now (cells .entry)) r (now (counts .exit)) (now (cells .exit)) ⌝ }
 {
+    let k = (at % 0x1_0000) as u16;
+    let w = (at / 0x1_0000) as u16;
     let n = second_in(entry(tab, k));
-    let first = visit(b, tab, cells, most, nest, n, w, left, made);
-    let outcome = first.outcome;
+    let first = visit(b, tab, cells, counts, limits, pair_of(n, w));
+    let state = opened(first, counts[LEFT], counts[MADE]);
+    let outcome = state.outcome;
     let Outcome::Value(value) = outcome else {
         return first;
     };
-    let left = first.left;
-    let made = first.made;
     let Value::Number(x) = value else {
-        return ended(numbers::NUMBER_WANTED, left, made);
+        return packed(ended(numbers::NUMBER_WANTED));
     };
     let m = third_in(entry(tab, k));
-    let second = visit(b, tab, cells, most, nest, m, w, left, made);
-    let outcome = second.outcome;
+    let second = visit(b, tab, cells, counts, limits, pair_of(m, w));
+    let state = opened(second, counts[LEFT], counts[MADE]);
+    let outcome = state.outcome;
     let Outcome::Value(value) = outcome else {
         return second;
     };
-    let left = second.left;
-    let made = second.made;
     let Value::Number(y) = value else {
-        return ended(numbers::NUMBER_WANTED, left, made);
+        return packed(ended(numbers::NUMBER_WANTED));
     };
-    given(compute(first_in(entry(tab, k)), x, y), left, made)
+    packed(given(compute(first_in(entry(tab, k)), x, y)))
 }
 
 // An if: nonzero takes the second node, zero the third.
 fn visit_conditional(
-    b: &[u8],
-    tab: &[u64; 1024],
-    cells: &mut [u8],
-    most: u16,
-    nest: u16,
-    k: u16,
-    w: u16,
-    left: u32,
-    made: u16,
-) -> State
-    requires { ⌜ Equipped (now b) (now tab) × NodeIs (now b) (nodeRecord (now b) k) k kinds.conditional ⌝ }
-    ensures { λ r. ⌜ Evaluates (now (b .entry)) (now (tab .entry)) most nest k w left made (now (cells .entry)) r (now (cells .exit)) ⌝ }
+    b: &&[u8],
+    tab: &Table,
+    cells: &mut &mut [u8],
+    counts: &mut Counts,
+    limits: u32,
+    at: u32,
+) -> u64
+    requires { ⌜ Evaluable (now (now b)) (now tab) at (now counts) kinds.conditional ⌝ }
+    ensures { λ r. ⌜ Evaluates (now (now (b .entry))) (now (tab .entry)) limits at (now (counts .entry)) (now (cells .entry)) r (now (counts .exit)) (now (cells .exit)) ⌝ }
 {
+    let k = (at % 0x1_0000) as u16;
+    let w = (at / 0x1_0000) as u16;
     let n = first_in(entry(tab, k));
-    let condition = visit(b, tab, cells, most, nest, n, w, left, made);
-    let outcome = condition.outcome;
+    let condition = visit(b, tab, cells, counts, limits, pair_of(n, w));
+    let state = opened(condition, counts[LEFT], counts[MADE]);
+    let outcome = state.outcome;
     let Outcome::Value(value) = outcome else {
         return condition;
     };
-    let left = condition.left;
-    let made = condition.made;
     let Value::Number(z) = value else {
-        return ended(numbers::NUMBER_WANTED, left, made);
+        return packed(ended(numbers::NUMBER_WANTED));
     };
     let node = entry(tab, k);
     let m = branch(z, second_in(node), third_in(node));
-    visit(b, tab, cells, most, nest, m, w, left, made)
+    visit(b, tab, cells, counts, limits, pair_of(m, w))
 }
 
 // A call: one cell more, and the body under it.
 fn visit_call(
-    b: &[u8],
-    tab: &[u64; 1024],
-    cells: &mut [u8],
-    most: u16,
-    nest: u16,
-    k: u16,
-    w: u16,
-    left: u32,
-    made: u16,
-) -> State
-    requires { ⌜ Equipped (now b) (now tab) × NodeIs (now b) (nodeRecord (now b) k) k kinds.call ⌝ }
-    ensures { λ r. ⌜ Evaluates (now (b .entry)) (now (tab .entry)) most nest k w left made (now (cells .entry)) r (now (cells .exit)) ⌝ }
+    b: &&[u8],
+    tab: &Table,
+    cells: &mut &mut [u8],
+    counts: &mut Counts,
+    limits: u32,
+    at: u32,
+) -> u64
+    requires { ⌜ Evaluable (now (now b)) (now tab) at (now counts) kinds.call ⌝ }
+    ensures { λ r. ⌜ Evaluates (now (now (b .entry))) (now (tab .entry)) limits at (now (counts .entry)) (now (cells .entry)) r (now (counts .exit)) (now (cells .exit)) ⌝ }
 {
-    if most <= made {
-        return ended(numbers::NO_CELL, left, made);
+    let count = counts[MADE];
+    if limits / 0x1_0000 <= count {
+        return packed(ended(numbers::NO_CELL));
     }
-    let node = entry(tab, k);
-    add_cell(cells, wide(made), first_in(node), w);
-    let n = made + 1;
-    let body = third_in(node);
-    visit(b, tab, cells, most, nest, body, n, left, n)
+    let node = entry(tab, (at % 0x1_0000) as u16);
+    let w = (at / 0x1_0000) as u16;
+    add_cell(*cells, wide32(count), first_in(node), w);
+    counts[MADE] = count + 1;
+    let context = (count + 1) as u16;
+    visit(
+        b,
+        tab,
+        cells,
+        counts,
+        limits,
+        pair_of(third_in(node), context),
+    )
 }
 
 // A case: the scrutinee, then the first clause with its tag.
 fn visit_case(
-    b: &[u8],
-    tab: &[u64; 1024],
-    cells: &mut [u8],
-    most: u16,
-    nest: u16,
-    k: u16,
-    w: u16,
-    left: u32,
-    made: u16,
-) -> State
-    requires { ⌜ Equipped (now b) (now tab) × NodeIs (now b) (nodeRecord (now b) k) k kinds.caseOf ⌝ }
-    ensures { λ r. ⌜ Evaluates (now (b .entry)) (now (tab .entry)) most nest k w left made (now (cells .entry)) r (now (cells .exit)) ⌝ }
+    b: &&[u8],
+    tab: &Table,
+    cells: &mut &mut [u8],
+    counts: &mut Counts,
+    limits: u32,
+    at: u32,
+) -> u64
+    requires { ⌜ Evaluable (now (now b)) (now tab) at (now counts) kinds.caseOf ⌝ }
+    ensures { λ r. ⌜ Evaluates (now (now (b .entry))) (now (tab .entry)) limits at (now (counts .entry)) (now (cells .entry)) r (now (counts .exit)) (now (cells .exit)) ⌝ }
 {
+    let k = (at % 0x1_0000) as u16;
+    let w = (at / 0x1_0000) as u16;
     let n = first_in(entry(tab, k));
-    let scrutinee = visit(b, tab, cells, most, nest, n, w, left, made);
-    let outcome = scrutinee.outcome;
+    let scrutinee = visit(b, tab, cells, counts, limits, pair_of(n, w));
+    let state = opened(scrutinee, counts[LEFT], counts[MADE]);
+    let outcome = state.outcome;
     let Outcome::Value(value) = outcome else {
         return scrutinee;
     };
-    let left = scrutinee.left;
-    let made = scrutinee.made;
     let Value::Constructor { node, context: _ } = value else {
-        return ended(numbers::CONSTRUCTOR_WANTED, left, made);
+        return packed(ended(numbers::CONSTRUCTOR_WANTED));
     };
     let tag = first_in(entry(tab, node));
-    let place = second_in(entry(tab, k));
-    let found = clause(record_at(b, wide(place)), tag);
+    let list = entry(tab, k);
+    let place = clause(*b, second_in(list), third_in(list), tag);
+    let found = found_at(*b, place);
     let Found::Node(m) = found else {
-        return ended(numbers::NO_CLAUSE, left, made);
+        return packed(ended(numbers::NO_CLAUSE));
     };
-    visit(b, tab, cells, most, nest, m, w, left, made)
+    visit(b, tab, cells, counts, limits, pair_of(m, w))
 }

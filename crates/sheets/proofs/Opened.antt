@@ -4,6 +4,7 @@ use Rattle.definitions.specs.Lists
 use Rattle.definitions.specs.Records
 use Rattle.definitions.specs.Layouts
 use Rattle.definitions.specs.Kinds
+use Rattle.definitions.specs.Ranges
 use Rattle.definitions.specs.Verdicts
 use Rattle.definitions.specs.Shape
 use Rattle.definitions.specs.References
@@ -30,7 +31,7 @@ unfolding
     Layouts.sectionKind Layouts.isDue Layouts.runEnd Layouts.bodyOf Layouts.ownerOf
     Kinds.row Kinds.rows Kinds.rowIn Kinds.rowOf Kinds.allows
     Verdicts._andThen_ Verdicts.require Verdicts.firstOf
-    Shape.within Shape.headCounts Shape.runCounts Shape.counts Shape.operatorCode Shape.shapeAt Shape.shape
+    Ranges.within Shape.headCounts Shape.runCounts Shape.counts Shape.operatorCode Shape.shapeAt Shape.shape
     Shape.fileShape
     References.fromFirst References.fromSecond References.everyOther References.childCount References.childField
     References.children References.child References.clauses References.clauseConstructor References.namesInRange
@@ -53,8 +54,8 @@ unfolding
     Rule.evaluated Rule.visited
     Cells.cellOf Cells.underTail Cells.formalByCells Cells.withCell Cells.whereCell Cells.callByCells Cells.byCells
     Cells.evaluation Cells.cellWords Cells.cellBytes
-    Run.endingOutcome Run.endingNode Run.endingContext Run.answerOf Run.refusal Run.runVerdict Run.answerAfter
-    Run.runAnswer Run.cellsOver Run.bytesAfter Run.runCells
+    Run.endingOutcome Run.endingNode Run.endingContext Run.answerOf Run.ruleEnd Run.ruleAnswer Run.ruleCells
+    Run.refusal Run.runVerdict Run.answerAfter Run.runAnswer Run.cellsOver Run.bytesAfter Run.runCells
     Evaluator.numberDue Evaluator.constructorDue Evaluator.clauseDue Evaluator.closureDue Evaluator.endBy
     Evaluator.endWithin Evaluator.ownWithin
     Sheets.S Sheets.unusedDivision Sheets.divisionByZero Sheets.headOfOnes Sheets.negativeDivision Sheets.overflow

@@ -1,8 +1,7 @@
 -- The order of refusals, tried on files with several faults: one statement over the list, by one computation.
 use mathlib.Core.Path.{_≡_, refl}
-use mathlib.Core.List.{List, map}
+use mathlib.Core.List.{map}
 use Rattle.definitions.specs.Checks.{sheetVerdict}
-use Rattle.definitions.specs.declared.Verdict.{Verdict}
 use Rattle.sheets.specs.Orders.{Order, orders}
 use Rattle.sheets.proofs.Opened.{opened}
 

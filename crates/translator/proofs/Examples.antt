@@ -13,6 +13,7 @@ use Rattle.definitions.specs.Lists
 use Rattle.definitions.specs.Records
 use Rattle.definitions.specs.Layouts
 use Rattle.definitions.specs.Kinds
+use Rattle.definitions.specs.Ranges
 use Rattle.definitions.specs.Verdicts
 use Rattle.definitions.specs.Shape
 use Rattle.definitions.specs.References
@@ -34,7 +35,7 @@ unfolding
     Layouts.sectionKind Layouts.isDue Layouts.runEnd Layouts.bodyOf Layouts.ownerOf
     Kinds.row Kinds.rows Kinds.rowIn Kinds.rowOf Kinds.allows
     Verdicts._andThen_ Verdicts.require Verdicts.firstOf
-    Shape.within Shape.headCounts Shape.runCounts Shape.counts Shape.operatorCode Shape.shapeAt Shape.shape
+    Ranges.within Shape.headCounts Shape.runCounts Shape.counts Shape.operatorCode Shape.shapeAt Shape.shape
     Shape.fileShape
     References.fromFirst References.fromSecond References.everyOther References.childCount References.childField
     References.children References.child References.clauses References.namesInRange References.inRange

@@ -1,43 +1,65 @@
 -- Laws of the steps that write the head, the functions and the formals: the words written are those of the definition.
-use mathlib.Core.Path.{_≡_, refl, sym, _∙_}
-use Prim.Native.Nat.{ℕ, _+_, _≤_, _<_}
+use mathlib.Core.Path.{_≡_, refl, sym, ap, _∙_}
+use Prim.Native.Nat.{ℕ, _+_, _-_, _≤_, _<_}
 use mathlib.Core.List.{List, [], _∷_}
-use mathlib.Core.Bool.{Bool, true, false, cond}
 use native.Mathlib.Omega.{arith}
 use lib.ListN.{length, getD}
+use Rattle.definitions.specs.Sizes.{mostNodes}
 use Rattle.definitions.specs.Records.{recordAt, recordOf, field}
 use Rattle.definitions.specs.TranslationKinds
-use Rattle.definitions.specs.Lists.{countOf}
-use Rattle.definitions.specs.Layouts.{readings, items, functions, nodes, firstFunction, firstNode, due, nodeRecord}
+use Rattle.definitions.specs.Lists.{joined}
+use Rattle.definitions.specs.Layouts.{readings, functions, nodes, firstFunction, firstNode, due, nodeRecord}
+use Rattle.definitions.specs.References.{parameters}
 use Rattle.definitions.specs.Translate.{calls, recordWords, actuals, formals, headWords, functionWords}
 use Rattle.definitions.specs.declared.Layout.the-variants.{Sheet}
+use Rattle.laws.proofs.Lists.{sum-more}
+use Rattle.accepted.proofs.Head.{nodes-limit}
 use Rattle.readback.proofs.Joined.{picked-length}
 use Rattle.file_records.specs.Index.{Opened, startIn}
 use Rattle.file_records.proofs.Indices.{indexed-field}
 use Rattle.translator.specs.Writing.{Wrote}
-use Rattle.translator.specs.Tables.{FirstFormals, FormalAt, marked}
-use Rattle.translator.proofs.Writing.{wrote-nothing, wrote-then, wrote-record}
-use Rattle.translator.proofs.SheetTables.{marked-calls, node-reached}
+use Rattle.translator.specs.Tables.{Sums, callCount, firstCall, FormalAt}
+use Rattle.translator.proofs.Writing.{wrote-then, wrote-record}
+use Rattle.translator.proofs.SheetTables.{node-reached}
+use Rattle.translator.proofs.CallOrder.{place-within, ordered-node, ordered-actuals}
 
--- the argument of a node that calls function f, and nothing of another
-module _ (b starts callees : List ℕ) (f i k : ℕ) (w : FormalAt b starts callees i k) (t : Bool) (e : t ≡ marked callees f k) where
-  called : t ≡ calls b f k
-  called = e ∙ marked-calls b callees f k (w .table .called) (w .below)
+-- the argument at position i of the call in a place
+abbrev pub argumentOf : List ℕ → List ℕ → ℕ → ℕ → List ℕ
+argumentOf b order i place = field (nodeRecord b (getD order place 0)) (1 + i) ∷ []
 
-  pub actual-none : (out : List ℕ) (at : ℕ) → t ≡ false → Wrote out at (cond (calls b f k) (field (nodeRecord b k) (1 + i) ∷ []) []) at out
-  actual-none out at g = rw (← called, g) (wrote-nothing out at)
+-- the formal of function f at position i: the calls of f are at the places from x to y
+module _ (b starts firsts order : List ℕ) (f i x y : ℕ) (w : FormalAt b starts firsts order f i) (e : x ≡ getD firsts f 0) (g : y ≡ getD firsts (f + 1) 0) where
+  first-is : x ≡ firstCall b f
+  first-is = e ∙ w .tables .first .entry f (omega (arith, w .below))
 
-  pub actual-some : (out : List ℕ) (at first x n : ℕ) (o rec : List ℕ) → t ≡ true → first ≡ firstNode b → rec ≡ recordAt b (startIn starts (first + k)) → x ≡ field rec (1 + i)
-      → Wrote out at (x ∷ []) n o → Wrote out at (cond (calls b f k) (field (nodeRecord b k) (1 + i) ∷ []) []) n o
-  actual-some out at first x n o rec g p q r v =
-      let there : rec ≡ nodeRecord b k = node-reached b starts k first rec (w .table .file) (w .below) p q in
-      let y : x ≡ field (nodeRecord b k) (1 + i) = r ∙ rw there refl in
-      rw (← called, g, ← y) v
+  end-is : y ≡ firstCall b f + callCount b f
+  end-is = g ∙ w .tables .first .entry (f + 1) (omega (arith, w .below)) ∙ sum-more f (callCount b)
 
--- a formal has as many actuals as its function has calls
-pub actuals-count : (b : List ℕ) (f i c : ℕ) → c ≡ countOf (nodes b) (calls b f) → c ≡ length (actuals b f i)
-unfolding actuals
-actuals-count b f i c e = e ∙ sym (picked-length (calls b f) (λ k. field (nodeRecord b k) (1 + i)) (nodes b))
+  count-is : y - x ≡ callCount b f
+  count-is = omega (arith, first-is, end-is)
+
+  pub range-right : x ≤ y
+  range-right = omega (arith, first-is, end-is)
+
+  pub place-small : (j : ℕ) → j < y - x → x + j < mostNodes
+  place-small j h =
+      omega (arith, first-is, count-is, h, place-within b f j (w .below) (omega (arith, count-is, h)), nodes-limit Sheet b (w .tables .file .accepted))
+
+  -- the argument of the call in a place
+  pub argument-read : (j first node u v : ℕ) (rec : List ℕ) → j < y - x → first ≡ firstNode b → node ≡ getD order (x + j) 0
+      → rec ≡ recordAt b (startIn starts (first + node)) → u ≡ field rec (1 + i) → v ≡ u → v ∷ [] ≡ argumentOf b order i (x + j)
+  argument-read j first node u v rec h p q r s t =
+      let n : node ≡ getD order (firstCall b f + j) 0 = q ∙ ap (λ (m : ℕ). getD order (m + j) 0) first-is in
+      let l : node < nodes b = omega (arith, n, ordered-node b order (w .tables .ordered) f j (omega (arith, count-is, h))) in
+      rw (t, s, node-reached b starts node first rec (w .tables .file) l p r, q) refl
+
+  -- all of them
+  pub actuals-are : joined (y - x) (λ j. argumentOf b order i (x + j)) ≡ actuals b f i
+  actuals-are = rw (count-is, first-is) (sym (ordered-actuals b order (w .tables .ordered) f i))
+
+  pub actuals-length : y - x ≡ length (actuals b f i)
+  unfolding actuals
+  actuals-length = count-is ∙ sym (picked-length (calls b f) (λ k. field (nodeRecord b k) (1 + i)) (nodes b))
 
 -- a function's record
 pub function-words : (b starts : List ℕ) (first f x : ℕ) (rec : List ℕ) → Opened Sheet b starts → f < functions b → first ≡ firstFunction Sheet b
@@ -48,17 +70,17 @@ function-words b starts first f x rec o h e p q =
     rw (y, e) refl
 
 -- the number of all formals, by the table
-pub formals-read : (b firsts : List ℕ) (c x : ℕ) → FirstFormals b firsts → c ≡ functions b → x ≡ getD firsts c 0 → x ≡ formals b
+pub formals-read : (b formals′ : List ℕ) (c x : ℕ) → Sums (functions b) (parameters b) formals′ → c ≡ functions b → x ≡ getD formals′ c 0 → x ≡ formals b
 unfolding formals
-formals-read b firsts c x w e f = f ∙ rw (e, w .entry (functions b) (omega arith)) refl
+formals-read b formals′ c x w e f = f ∙ rw (e, w .entry (functions b) (omega arith)) refl
 
 -- the head
 pub wrote-head : (b out : List ℕ) (at : ℕ) (n0 : ℕ) (o0 : List ℕ) (x n1 : ℕ) (o1 : List ℕ) (y n2 : ℕ) (o2 : List ℕ) (z n3 : ℕ) (o3 : List ℕ) (u n4 : ℕ) (o4 : List ℕ)
-    → Wrote out at (12 ∷ 33 ∷ []) n0 o0 → Wrote o0 n0 (x ∷ []) n1 o1 → Wrote o1 n1 (y ∷ []) n2 o2 → Wrote o2 n2 (z ∷ []) n3 o3 → Wrote o3 n3 (u ∷ []) n4 o4
+    → Wrote out at (12 ∷ TranslationKinds.head ∷ []) n0 o0 → Wrote o0 n0 (x ∷ []) n1 o1 → Wrote o1 n1 (y ∷ []) n2 o2 → Wrote o2 n2 (z ∷ []) n3 o3 → Wrote o3 n3 (u ∷ []) n4 o4
     → x ≡ readings b → y ≡ formals b → z ≡ functions b → u ≡ nodes b → Wrote out at (headWords b) n4 o4
 unfolding headWords
 wrote-head b out at n0 o0 x n1 o1 y n2 o2 z n3 o3 u n4 o4 s p q r t e f g h =
     rw (← e, ← f, ← g, ← h)
-    (wrote-record out at 33 4 n0 o0 (x ∷ y ∷ z ∷ u ∷ []) n4 o4 s
+    (wrote-record out at TranslationKinds.head 4 n0 o0 (x ∷ y ∷ z ∷ u ∷ []) n4 o4 s
     (wrote-then o0 n0 (x ∷ y ∷ z ∷ []) n3 o3 (u ∷ []) n4 o4
     (wrote-then o0 n0 (x ∷ y ∷ []) n2 o2 (z ∷ []) n3 o3 (wrote-then o0 n0 (x ∷ []) n1 o1 (y ∷ []) n2 o2 p q) r) t) refl)

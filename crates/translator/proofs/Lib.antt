@@ -1,5 +1,7 @@
 pub mod Writing
 pub mod SheetTables
+pub mod CallLabels
+pub mod CallOrder
 pub mod FormalSteps
 pub mod NodeSteps
 pub mod Promises

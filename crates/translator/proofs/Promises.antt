@@ -1,16 +1,17 @@
 -- How the promise comes about: the reader's refusal, an output that is too short, or the translation written.
-use mathlib.Core.Path.{_≡_, refl, sym, _∙_}
-use Prim.Native.Nat.{ℕ, _+_, _*_, _≤_, _<_}
-use mathlib.Core.List.{List, _++_}
+use mathlib.Core.Path.{_≡_, refl, sym, ap, _∙_}
+use Prim.Native.Nat.{ℕ, _+_, _*_, _≤_}
+use mathlib.Core.List.{List}
+use mathlib.Core.Bool.{Bool, true, false}
 use native.Mathlib.Omega.{arith}
 use native.Mathlib.Nat.{zero-add}
-use lib.ListN.{length, drop}
-use lib.Seq.{sets, sets-eq}
+use lib.ListN.{length}
+use lib.Seq.{sets-eq}
 use lib.Dec.{leb}
-use borrow.Author.Tests.{le-leb, lt-leb}
-use Rattle.definitions.specs.Bytes.{bytesOf}
+use borrow.Author.Tests.{le-leb, leb-true}
+use Rattle.definitions.specs.Sizes.{translationBytes}
 use Rattle.definitions.specs.Numbers.{shortOutput}
-use Rattle.definitions.specs.Verdicts.{_andThen_, require}
+use Rattle.definitions.specs.Verdicts.{require}
 use Rattle.definitions.specs.Checks.{sheetVerdict}
 use Rattle.definitions.specs.Translate.{translationWords, translation}
 use Rattle.definitions.specs.declared.Verdict.{Verdict}
@@ -21,12 +22,13 @@ use Rattle.readback.proofs.Words.{bytes-length}
 use Rattle.readback.proofs.Size.{translation-limit}
 use Rattle.format.specs.Readers.{ReadSheet}
 use Rattle.translator.specs.Promise.{translationRefusal, answerOf, outputOf, Translates}
-use Rattle.translator.specs.Writing.{Wrote, lastPlace}
+use Rattle.translator.specs.Writing.{Wrote}
 use Rattle.translator.specs.Tables.{ReadTables}
 use Rattle.translator.specs.declared.Translated.the-variants as answers
 
 -- the reader's refusal
-pub reader-refuses : (b out starts ends owners : List ℕ) (v : Verdict) (n p : ℕ) → ReadSheet b v starts ends owners → v ≡ Refused n p → Translates b out (answers.Refused n p) out
+pub reader-refuses : (b out starts ends owners : List ℕ) (v : Verdict) (n p : ℕ) → ReadSheet b v starts ends owners → v ≡ Refused n p
+    → Translates b out (answers.Refused n p) out
 unfolding translationRefusal answerOf outputOf
 reader-refuses b out starts ends owners v n p w e =
     let r : sheetVerdict b ≡ Refused n p = sym (w .verdict) ∙ e in
@@ -36,40 +38,47 @@ reader-refuses b out starts ends owners v n p w e =
 pub reader-accepts : (b starts ends owners : List ℕ) (v : Verdict) → ReadSheet b v starts ends owners → v ≡ Accepted → ReadTables b starts ends owners
 reader-accepts b starts ends owners v w e =
     let a : sheetVerdict b ≡ Accepted = sym (w .verdict) ∙ e in
-    record { accepted = a; file = record { accepted = sheet-shape b a; index = w .index e }; runs = w .runs e; owned = w .owned e }
+    record {
+      sheet = record { accepted = a; file = record { accepted = sheet-shape b a; index = w .index e } };
+      runs = w .runs e;
+      owned = w .owned e;
+    }
 
 -- an accepted sheet: the length that the writer answers, and the output that it leaves
-module _ (b starts ends owners : List ℕ) (w : ReadTables b starts ends owners) where
+module _ (b : List ℕ) (accepted : sheetVerdict b ≡ Accepted) where
   written-length : length (translation b) ≡ 2 * length (translationWords b)
   unfolding translation
   written-length = bytes-length (translationWords b)
 
-  counted : 0 + 2 * length (translationWords b) ≤ lastPlace
-  counted = omega (arith, translation-limit b (w .accepted), written-length)
+  counted : 0 + 2 * length (translationWords b) ≤ translationBytes
+  counted = omega (arith, translation-limit b accepted, written-length)
 
   length-answered : (o : List ℕ) (n : ℕ) (p : List ℕ) → Wrote o 0 (translationWords b) n p → n ≡ length (translation b)
   length-answered o n p v = omega (arith, v .place counted, written-length)
 
-  refusal-by : (out : List ℕ) → translationRefusal b (length out) ≡ require (leb (length (translation b)) (length out)) shortOutput 0
-  unfolding translationRefusal
-  refusal-by out = then-accepted (sheetVerdict b) _ (w .accepted)
+  pub greatest-fits : (room : ℕ) → translationBytes ≤ room → true ≡ leb (length (translation b)) room
+  greatest-fits room h = sym (le-leb (length (translation b)) room (omega (arith, h, counted, written-length)))
 
-  pub output-short : (o out : List ℕ) (n : ℕ) (p : List ℕ) → Wrote o 0 (translationWords b) n p → length out < n → Translates b out (answers.Refused 8 0) out
+  pub length-fits : (o : List ℕ) (n : ℕ) (p : List ℕ) (room : ℕ) → Wrote o 0 (translationWords b) n p → leb n room ≡ leb (length (translation b)) room
+  length-fits o n p room v = ap (λ (m : ℕ). leb m room) (length-answered o n p v)
+
+  refusal-by : (out : List ℕ) (t : Bool) → t ≡ leb (length (translation b)) (length out) → translationRefusal b (length out) ≡ require t shortOutput 0
+  unfolding translationRefusal
+  refusal-by out t e = then-accepted (sheetVerdict b) _ accepted ∙ rw (← e) refl
+
+  pub output-short : (out : List ℕ) (t : Bool) → t ≡ leb (length (translation b)) (length out) → t ≡ false → Translates b out (answers.Refused shortOutput 0) out
   unfolding answerOf outputOf require
-  output-short o out n p v h =
-      let s : length out < length (translation b) = omega (arith, h, length-answered o n p v) in
-      let r : translationRefusal b (length out) ≡ Refused 8 0 = refusal-by out ∙ rw (lt-leb (length (translation b)) (length out) s) refl in
+  output-short out t e f =
+      let r : translationRefusal b (length out) ≡ Refused shortOutput 0 = refusal-by out t e ∙ rw f refl in
       record { answer = rw r refl; output = rw r refl }
 
-  pub output-written : (o out : List ℕ) (n : ℕ) (p : List ℕ) (m : ℕ) (q : List ℕ) → Wrote o 0 (translationWords b) n p → n ≤ length out → Wrote out 0 (translationWords b) m q
-      → Translates b out (answers.Length n) q
+  pub output-written : (out : List ℕ) (t : Bool) (n : ℕ) (o : List ℕ) → t ≡ leb (length (translation b)) (length out) → t ≡ true → Wrote out 0 (translationWords b) n o
+      → Translates b out (answers.Length n) o
   unfolding answerOf outputOf require translation
-  output-written o out n p m q v h u =
-      let l : n ≡ length (translation b) = length-answered o n p v in
-      let s : length (translation b) ≤ length out = omega (arith, h, l) in
-      let r : translationRefusal b (length out) ≡ Accepted = refusal-by out ∙ rw (le-leb (length (translation b)) (length out) s) refl in
-      let k : 0 + length (translation b) ≤ length out = omega arith in
+  output-written out t n o e f v =
+      let r : translationRefusal b (length out) ≡ Accepted = refusal-by out t e ∙ rw f refl in
+      let k : 0 + length (translation b) ≤ length out = omega (arith, leb-true (length (translation b)) (length out) (sym e ∙ f)) in
       record {
-        answer = rw (r, ← l) refl;
-        output = rw r (u .output counted ∙ sets-eq (translation b) out 0 k ∙ rw zero-add refl);
+        answer = rw (r, ← length-answered out n o v) refl;
+        output = rw r (v .output counted ∙ sets-eq (translation b) out 0 k ∙ rw zero-add refl);
       }

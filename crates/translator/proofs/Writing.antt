@@ -1,19 +1,20 @@
 -- Laws of writing: nothing, one after the other, one turn more of a loop, one word, and a record.
 use mathlib.Core.Path.{_≡_, refl, sym, ap, _∙_}
-use Prim.Native.Nat.{ℕ, zero, suc, _+_, _*_, _%_, _/_, _≤_, _<_}
+use Prim.Native.Nat.{ℕ, zero, suc, _+_, _*_, _%_, _/_, _≤_}
 use mathlib.Core.List.{List, [], _∷_, _++_}
 use native.Mathlib.Omega.{arith}
 use native.Mathlib.Numerals.{add-one}
 use native.Mathlib.Nat.{add-zero}
 use lib.ListN.{length, set, length-append, length-set}
 use lib.Seq.{sets}
+use Rattle.definitions.specs.Sizes.{translationBytes}
 use Rattle.definitions.specs.Bytes.{bytesOf, wordBytes}
 use Rattle.definitions.specs.Records.{kindOf, field, fieldCount}
 use Rattle.definitions.specs.Lists.{joined, listed}
 use Rattle.definitions.specs.Translate.{recordWords}
 use Rattle.laws.proofs.Lists.{listed-length}
 use Rattle.readback.proofs.Words.{bytes-length, bytes-append}
-use Rattle.translator.specs.Writing.{Wrote, fieldWords, lastPlace}
+use Rattle.translator.specs.Writing.{Wrote, fieldWords}
 
 -- two runs of stores, one after the other, are one
 sets-append : (vs ws l : List ℕ) (i : ℕ) → sets (sets l i vs) (i + length vs) ws ≡ sets l i (vs ++ ws)
@@ -34,13 +35,13 @@ module _ (out : List ℕ) (at : ℕ) (ws : List ℕ) (n : ℕ) (o vs : List ℕ)
   both-length : at + 2 * length (ws ++ vs) ≡ at + 2 * length ws + 2 * length vs
   both-length = omega (arith, length-append ws vs)
 
-  between : at + 2 * length (ws ++ vs) ≤ lastPlace → n ≡ at + 2 * length ws
+  between : at + 2 * length (ws ++ vs) ≤ translationBytes → n ≡ at + 2 * length ws
   between h = w .place (omega (arith, both-length, h))
 
-  goes-on : at + 2 * length (ws ++ vs) ≤ lastPlace → n + 2 * length vs ≤ lastPlace
+  goes-on : at + 2 * length (ws ++ vs) ≤ translationBytes → n + 2 * length vs ≤ translationBytes
   goes-on h = omega (arith, both-length, h, between h)
 
-  both-set : at + 2 * length (ws ++ vs) ≤ lastPlace → p ≡ sets out at (bytesOf (ws ++ vs))
+  both-set : at + 2 * length (ws ++ vs) ≤ translationBytes → p ≡ sets out at (bytesOf (ws ++ vs))
   both-set h =
       let e : at + 2 * length ws ≡ at + length (bytesOf ws) = omega (arith, bytes-length ws) in
       v .output (goes-on h)
@@ -79,7 +80,7 @@ pub wrote-element : (out : List ℕ) (at x y n : ℕ) (o : List ℕ) → x ≡ y
 wrote-element out at x y n o e w = rw e at w
 
 -- no place is counted past the last
-pub wrote-past : (out : List ℕ) (at w : ℕ) → lastPlace ≤ at → Wrote out at (w ∷ []) at out
+pub wrote-past : (out : List ℕ) (at w : ℕ) → translationBytes ≤ at → Wrote out at (w ∷ []) at out
 wrote-past out at w h = record { place = λ k. absurd (omega arith); output = λ k. absurd (omega arith); kept = refl }
 
 -- a record: its length and its kind, then its fields

@@ -1,72 +1,120 @@
--- The translator's tables of an accepted sheet: which function each node calls, and the first formal of each function.
+-- The translator's tables of an accepted sheet (document 01, "Translation"): the label of each call, the calls in order, and
+-- the first formal of each function.
 use mathlib.Core.Path.{_≡_}
 use Prim.Native.Nat.{ℕ, _+_, _≤_, _<_}
 use mathlib.Core.List.{List}
-use mathlib.Core.Bool.{Bool, cond}
-use lib.ListN.{getD}
-use lib.Dec.{eqb}
-use Rattle.definitions.specs.Records.{kindOf, field}
-use Rattle.definitions.specs.SheetKinds
-use Rattle.definitions.specs.Lists.{sumOf}
+use mathlib.Core.Bool.{true}
+use lib.ListN.{length, getD, set}
+use Rattle.definitions.specs.Sizes.{mostFunctions, mostNodes}
+use Rattle.definitions.specs.Lists.{sumOf, countOf}
 use Rattle.definitions.specs.Layouts.{functions, nodes, nodeRecord}
 use Rattle.definitions.specs.References.{parameters}
 use Rattle.definitions.specs.Shape.{fileShape}
 use Rattle.definitions.specs.Checks.{sheetVerdict}
+use Rattle.definitions.specs.Translate.{calls, labelOf}
 use Rattle.definitions.specs.declared.Layout.the-variants.{Sheet}
 use Rattle.definitions.specs.declared.Verdict.the-variants.{Accepted}
 use Rattle.file_records.specs.Index.{Opened}
 use Rattle.format.specs.Readers.{RunEnds, Owners}
 
--- the entry of a node's record: one more than the function that it calls, 0 where it is no call
-unfoldable pub calleeOf : List ℕ → ℕ
-calleeOf rec = cond (eqb (kindOf rec) SheetKinds.call) (1 + field rec 0) 0
+-- "Calls of one function are labelled 0, 1, .. in node order": of the first n nodes, entry k is the label of the call k
+pub record Labels (b labels : List ℕ) (n : ℕ) : Type 0 where
+  pub size : length labels ≡ mostNodes
+  pub entry : (f k : ℕ) → k < n → calls b f k ≡ true → getD labels k 0 ≡ labelOf b f k
 
-pub record Callees (b callees : List ℕ) : Type 0 where
-  pub entry : (k : ℕ) → k < nodes b → getD callees k 0 ≡ calleeOf (nodeRecord b k)
+-- entry f is the number of calls of function f among the first n nodes
+pub record Counts (b counts : List ℕ) (n : ℕ) : Type 0 where
+  pub size : length counts ≡ mostFunctions
+  pub entry : (f : ℕ) → f < functions b → getD counts f 0 ≡ countOf n (calls b f)
 
--- whether the entry of node k says that it calls function f
-unfoldable pub marked : List ℕ → ℕ → ℕ → Bool
-marked callees f k = eqb (getD callees k 0) (1 + f)
+-- call k of function f labelled: its label is the count of that function, which is then one more
+pub record LabelledOne (f k : ℕ) (labels counts labels′ counts′ : List ℕ) : Type 0 where
+  pub label : labels′ ≡ set labels k (getD counts f 0)
+  pub count : counts′ ≡ set counts f (getD counts f 0 + 1)
 
--- entry f is the number of the formals of the functions before f; the last entry is the number of all
-pub record FirstFormals (b firsts : List ℕ) : Type 0 where
-  pub entry : (f : ℕ) → f ≤ functions b → getD firsts f 0 ≡ sumOf f (parameters b)
+-- entry f is the sum of the terms before f; entry n is the sum of all n
+pub record Sums (n : ℕ) (at : ℕ → ℕ) (sums : List ℕ) : Type 0 where
+  pub entry : (f : ℕ) → f ≤ n → getD sums f 0 ≡ sumOf f at
+
+-- the number of calls of function f, and of the functions before it
+abbrev pub callCount : List ℕ → ℕ → ℕ
+callCount b f = countOf (nodes b) (calls b f)
+
+abbrev pub firstCall : List ℕ → ℕ → ℕ
+firstCall b f = sumOf f (callCount b)
+
+-- the calls in order of function and label: of the first n nodes, each call stands at its label after its function's first
+pub record Order (b order : List ℕ) (n : ℕ) : Type 0 where
+  pub size : length order ≡ mostNodes
+  pub entry : (f k : ℕ) → k < n → calls b f k ≡ true → getD order (firstCall b f + labelOf b f k) 0 ≡ k
+
+-- an accepted sheet with the index of its records
+pub record AcceptedSheet (b starts : List ℕ) : Type 0 where
+  pub accepted : sheetVerdict b ≡ Accepted
+  pub file : Opened Sheet b starts
+
+-- node k of such a sheet, where the nodes before it are labelled
+pub record LabelAt (b starts labels counts : List ℕ) (k : ℕ) : Type 0 where
+  pub sheet : AcceptedSheet b starts
+  pub labelled : Labels b labels k
+  pub counted : Counts b counts k
+  pub below : k < nodes b
+  pub narrow : k < mostNodes
+
+-- such a sheet with labels and the first call of each function
+pub record Placing (b starts labels firsts : List ℕ) : Type 0 where
+  pub sheet : AcceptedSheet b starts
+  pub labelled : Labels b labels (nodes b)
+  pub first : Sums (functions b) (callCount b) firsts
+
+-- its node k, where the calls before it are in order
+pub record PlaceAt (b starts labels firsts order : List ℕ) (k : ℕ) : Type 0 where
+  pub tables : Placing b starts labels firsts
+  pub ordered : Order b order k
+  pub below : k < nodes b
+  pub narrow : k < mostNodes
+
+-- an opened sheet with its calls in order
+pub record OrderedCalls (b starts firsts order : List ℕ) : Type 0 where
+  pub file : Opened Sheet b starts
+  pub first : Sums (functions b) (callCount b) firsts
+  pub ordered : Order b order (nodes b)
+
+-- function f of such a sheet, and a position
+pub record FormalAt (b starts firsts order : List ℕ) (f i : ℕ) : Type 0 where
+  pub tables : OrderedCalls b starts firsts order
+  pub below : f < functions b
+  pub narrow : f < mostFunctions
+  pub position : i ≤ 65535
 
 -- an accepted sheet with the tables of its reader
 pub record ReadTables (b starts ends owners : List ℕ) : Type 0 where
-  pub accepted : sheetVerdict b ≡ Accepted
-  pub file : Opened Sheet b starts
+  pub sheet : AcceptedSheet b starts
   pub runs : RunEnds Sheet b ends
   pub owned : Owners b owners
 
--- and with the translator's
-pub record Tables (b starts ends owners callees firsts : List ℕ) : Type 0 where
+-- and with the labels and first formals
+pub record NodeTables (b starts ends owners labels formals : List ℕ) : Type 0 where
   pub read : ReadTables b starts ends owners
-  pub called : Callees b callees
-  pub summed : FirstFormals b firsts
+  pub labelled : Labels b labels (nodes b)
+  pub summed : Sums (functions b) (parameters b) formals
 
--- an opened sheet with the table of callees
-pub record CallTable (b starts callees : List ℕ) : Type 0 where
-  pub file : Opened Sheet b starts
-  pub called : Callees b callees
+-- and with the calls in order
+pub record Tables (b starts ends owners labels firsts order formals : List ℕ) : Type 0 where
+  pub node : NodeTables b starts ends owners labels formals
+  pub first : Sums (functions b) (callCount b) firsts
+  pub ordered : Order b order (nodes b)
 
--- a position, and a node k of such a sheet
-pub record FormalAt (b starts callees : List ℕ) (i k : ℕ) : Type 0 where
-  pub table : CallTable b starts callees
+-- node k of an accepted sheet with the tables for nodes, and its record
+pub record NodeRead (b starts ends owners labels formals rec : List ℕ) (k : ℕ) : Type 0 where
+  pub tables : NodeTables b starts ends owners labels formals
   pub below : k < nodes b
-  pub narrow : k < 1024
-  pub position : i ≤ 65535
-
--- node k of an accepted sheet with all tables, and its record
-pub record NodeRead (b starts ends owners callees firsts rec : List ℕ) (k : ℕ) : Type 0 where
-  pub tables : Tables b starts ends owners callees firsts
-  pub below : k < nodes b
-  pub narrow : k < 1024
+  pub narrow : k < mostNodes
   pub there : rec ≡ nodeRecord b k
 
 -- node k of an opened sheet with the tables of owners and of first formals
-pub record OwnerFormals (b owners firsts : List ℕ) (k : ℕ) : Type 0 where
+pub record OwnerFormals (b owners formals : List ℕ) (k : ℕ) : Type 0 where
   pub shaped : fileShape Sheet b ≡ Accepted
   pub owned : Owners b owners
-  pub summed : FirstFormals b firsts
+  pub summed : Sums (functions b) (parameters b) formals
   pub below : k < nodes b

@@ -4,18 +4,16 @@ use Prim.Native.Nat.{ℕ, _+_, _*_, _≤_}
 use mathlib.Core.List.{List, [], _∷_}
 use lib.ListN.{length}
 use lib.Seq.{sets}
+use Rattle.definitions.specs.Sizes.{translationBytes}
 use Rattle.definitions.specs.Bytes.{bytesOf}
 use Rattle.definitions.specs.Records.{field, fieldCount}
 use Rattle.definitions.specs.Lists.{joined}
 
--- "Translation, at most 40,960 bytes": places are counted up to there
-abbrev pub lastPlace : ℕ
-lastPlace = 40960
-
--- words were written at a place: the place after them, the output at exit, and its length, which stays
+-- words were written at a place: the place after them and the output at exit, up to "at most 40,960 bytes", and its length,
+-- which stays
 pub record Wrote (out : List ℕ) (at : ℕ) (words : List ℕ) (after : ℕ) (out′ : List ℕ) : Type 0 where
-  pub place : at + 2 * length words ≤ lastPlace → after ≡ at + 2 * length words
-  pub output : at + 2 * length words ≤ lastPlace → out′ ≡ sets out at (bytesOf words)
+  pub place : at + 2 * length words ≤ translationBytes → after ≡ at + 2 * length words
+  pub output : at + 2 * length words ≤ translationBytes → out′ ≡ sets out at (bytesOf words)
   pub kept : length out′ ≡ length out
 
 -- all fields of a record

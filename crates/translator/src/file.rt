@@ -1,23 +1,31 @@
 // The whole translation: head, functions, formals, nodes.
 ghost use mathlib.Core.Path.{_≡_};
+ghost use lib.ListN.{length};
+ghost use lib.Dec.{leb};
 ghost use Rattle.definitions.specs.Lists.{joined};
 ghost use Rattle.definitions.specs.Layouts.{functions};
+ghost use Rattle.definitions.specs.References.{parameters};
 ghost use Rattle.definitions.specs.Shape.{fileShape};
-ghost use Rattle.definitions.specs.Translate.{headWords, functionWords, translationWords};
+ghost use Rattle.definitions.specs.Translate.{headWords, functionWords, translationWords, translation};
 ghost use Rattle.definitions.specs.declared.Layout.the-variants.{Sheet};
 ghost use Rattle.definitions.specs.declared.Verdict.the-variants.{Accepted};
 ghost use Rattle.file_records.specs.Index.{Opened};
 ghost use Rattle.translator.specs.Writing.{Wrote};
-ghost use Rattle.translator.specs.Tables.{FirstFormals, Tables};
+ghost use Rattle.translator.specs.Tables.{Sums, Tables};
 use crate::formals::put_formals;
 use crate::kinds::FUNCTION;
 use crate::kinds::HEAD;
 use crate::nodes::put_nodes;
-use crate::tables::wide32;
+use crate::tables::OfNodes;
+use crate::tables::Sums;
 use crate::words::put;
 use crate::words::put_one;
 use crate::words::put_start;
 use definitions::Layout;
+use definitions::sizes::Ends;
+use definitions::sizes::Owners;
+use definitions::sizes::Starts;
+use definitions::sizes::TRANSLATION_BYTES;
 use file_layout::layout::first_function;
 use file_layout::layout::functions;
 use file_layout::layout::nodes;
@@ -27,20 +35,20 @@ use file_records::records::indexed;
 use file_records::records::wide;
 
 // Writes the head.
-fn put_head(b: &[u8], firsts: &[u32; 65], out: &mut [u8], at: usize) -> usize
-    requires { ⌜ (fileShape Sheet (now b) ≡ Accepted) × FirstFormals (now b) (now firsts) ⌝ }
+fn put_head(b: &[u8], formals: &Sums, out: &mut [u8], at: usize) -> usize
+    requires { ⌜ (fileShape Sheet (now b) ≡ Accepted) × Sums (functions (now b)) (parameters (now b)) (now formals) ⌝ }
     ensures { λ r. ⌜ Wrote (now (out .entry)) at (headWords (now (b .entry))) r (now (out .exit)) ⌝ }
 {
     let count = wide(functions(b));
     let first = put_start(out, at, HEAD, 4);
     let second = put(out, first, wide(readings(b)));
-    let third = put(out, second, wide32(firsts[count]));
+    let third = put(out, second, wide(formals[count]));
     let fourth = put(out, third, count);
     put(out, fourth, wide(nodes(b)))
 }
 
 // Writes the record of every function.
-fn put_functions(b: &[u8], starts: &[u16; 1601], out: &mut [u8], at: usize) -> usize
+fn put_functions(b: &[u8], starts: &Starts, out: &mut [u8], at: usize) -> usize
     requires { ⌜ Opened Sheet (now b) (now starts) ⌝ }
     ensures { λ r. ⌜ Wrote (now (out .entry)) at (joined (functions (now (b .entry))) (functionWords (now (b .entry)))) r (now (out .exit)) ⌝ }
 {
@@ -63,18 +71,54 @@ fn put_functions(b: &[u8], starts: &[u16; 1601], out: &mut [u8], at: usize) -> u
 // Writes the translation from the output's start on; the answer is its length.
 pub(crate) fn put_file(
     b: &[u8],
-    starts: &[u16; 1601],
-    ends: &[u16; 64],
-    owners: &[u8; 1024],
-    callees: &[u32; 1024],
-    firsts: &[u32; 65],
+    starts: &Starts,
+    ends: &Ends,
+    owners: &Owners,
+    labels: &OfNodes,
+    firsts: &Sums,
+    order: &OfNodes,
+    formals: &Sums,
     out: &mut [u8],
 ) -> usize
-    requires { ⌜ Tables (now b) (now starts) (now ends) (now owners) (now callees) (now firsts) ⌝ }
+    requires { ⌜ Tables (now b) (now starts) (now ends) (now owners) (now labels) (now firsts) (now order) (now formals) ⌝ }
     ensures { λ r. ⌜ Wrote (now (out .entry)) 0 (translationWords (now (b .entry))) r (now (out .exit)) ⌝ }
 {
-    let first_function = put_head(b, firsts, out, 0);
+    let first_function = put_head(b, formals, out, 0);
     let first_formal = put_functions(b, starts, out, first_function);
-    let first_node = put_formals(b, starts, callees, out, first_formal);
-    put_nodes(b, starts, ends, owners, callees, firsts, out, first_node)
+    let first_node = put_formals(b, starts, firsts, order, out, first_formal);
+    put_nodes(b, starts, ends, owners, labels, formals, out, first_node)
+}
+
+// Whether an output of `room` bytes holds the translation. One of the greatest length holds every translation; for another
+// the same writer finds the length, on an output of its own.
+pub(crate) fn fits(
+    b: &[u8],
+    starts: &Starts,
+    ends: &Ends,
+    owners: &Owners,
+    labels: &OfNodes,
+    firsts: &Sums,
+    order: &OfNodes,
+    formals: &Sums,
+    room: usize,
+) -> bool
+    requires { ⌜ Tables (now b) (now starts) (now ends) (now owners) (now labels) (now firsts) (now order) (now formals) ⌝ }
+    ensures { λ r. ⌜ r ≡ leb (length (translation (now (b .entry)))) room ⌝ }
+{
+    if TRANSLATION_BYTES <= room {
+        return true;
+    }
+    let mut own = [0u8; 1];
+    let length = put_file(
+        b,
+        starts,
+        ends,
+        owners,
+        labels,
+        firsts,
+        order,
+        formals,
+        &mut own,
+    );
+    length <= room
 }

@@ -1,7 +1,8 @@
 // The translator: a sheet's bytes in, its translation's bytes out (document 01, "Translation").
 ghost use Rattle.translator.specs.Promise.{Translates};
-ghost use Rattle.translator.specs.Tables.{ReadTables};
+ghost use Rattle.translator.specs.Tables.{ReadTables, Tables};
 
+mod calls;
 mod file;
 mod formals;
 mod kinds;
@@ -9,14 +10,22 @@ mod nodes;
 mod tables;
 mod words;
 
+use crate::calls::first_calls;
+use crate::calls::label_nodes;
+use crate::calls::order_calls;
+use crate::file::fits;
 use crate::file::put_file;
-use crate::tables::callees;
+use crate::tables::OfNodes;
+use crate::tables::Sums;
 use crate::tables::first_formals;
 use definitions::Verdict;
+use definitions::numbers::SHORT_OUTPUT;
+use definitions::sizes::Ends;
+use definitions::sizes::MOST_FUNCTIONS;
+use definitions::sizes::MOST_NODES;
+use definitions::sizes::Owners;
+use definitions::sizes::Starts;
 use format::sheet::read_sheet;
-
-// The refusal "short tray": "output doesn't fit".
-const SHORT_OUTPUT: u16 = 8;
 
 // What translating answers: the translation's length, or the refusal's number and its place.
 pub enum Translated {
@@ -31,37 +40,87 @@ pub fn translate(sheet: &[u8], out: &mut [u8]) -> Translated
 {
     let read = read_sheet(sheet);
     let verdict = read.verdict;
-    let starts = read.starts;
-    let ends = read.ends;
-    let owners = read.owners;
     match verdict {
         Verdict::Refused { number, place } => Translated::Refused { number, place },
-        Verdict::Accepted => translate_accepted(sheet, &starts, &ends, &owners, out),
+        Verdict::Accepted => {
+            translate_accepted(sheet, &read.starts, &read.ends, &read.owners, out)
+        }
     }
 }
 
-// Translates an accepted sheet. The length is known before the output is written: the same writer finds it, on an output
-// of its own.
-fn translate_accepted(
+// Translates an accepted sheet.
+fn translate_accepted<'a>(
     sheet: &[u8],
-    starts: &[u16; 1601],
-    ends: &[u16; 64],
-    owners: &[u8; 1024],
+    starts: &'a Starts,
+    ends: &'a Ends,
+    owners: &'a Owners,
     out: &mut [u8],
 ) -> Translated
     requires { ⌜ ReadTables (now sheet) (now starts) (now ends) (now owners) ⌝ }
     ensures { λ r. ⌜ Translates (now (sheet .entry)) (now (out .entry)) r (now (out .exit)) ⌝ }
 {
-    let called = callees(sheet, starts);
-    let firsts = first_formals(sheet, starts);
-    let mut own = [0u8; 1];
-    let length = put_file(sheet, starts, ends, owners, &called, &firsts, &mut own);
-    if out.len() < length {
-        return Translated::Refused {
-            number: SHORT_OUTPUT,
-            place: 0,
-        };
+    let mut labels = [0u16; MOST_NODES];
+    let mut counts = [0u16; MOST_FUNCTIONS];
+    label_nodes(sheet, starts, &mut labels, &mut counts);
+    let firsts = first_calls(sheet, &counts);
+    let mut order = [0u16; MOST_NODES];
+    order_calls(sheet, starts, &labels, &firsts, &mut order);
+    let formals = first_formals(sheet, starts);
+    write(
+        sheet,
+        starts,
+        ends,
+        owners,
+        &labels,
+        &firsts,
+        &order,
+        &formals,
+        out,
+    )
+}
+
+// Writes the translation by the tables, where the output holds it.
+fn write(
+    sheet: &[u8],
+    starts: &Starts,
+    ends: &Ends,
+    owners: &Owners,
+    labels: &OfNodes,
+    firsts: &Sums,
+    order: &OfNodes,
+    formals: &Sums,
+    out: &mut [u8],
+) -> Translated
+    requires { ⌜ Tables (now sheet) (now starts) (now ends) (now owners) (now labels) (now firsts) (now order) (now formals) ⌝ }
+    ensures { λ r. ⌜ Translates (now (sheet .entry)) (now (out .entry)) r (now (out .exit)) ⌝ }
+{
+    let room = out.len();
+    if fits(
+        sheet,
+        starts,
+        ends,
+        owners,
+        labels,
+        firsts,
+        order,
+        formals,
+        room,
+    ) {
+        let length = put_file(
+            sheet,
+            starts,
+            ends,
+            owners,
+            labels,
+            firsts,
+            order,
+            formals,
+            out,
+        );
+        return Translated::Length(length);
     }
-    put_file(sheet, starts, ends, owners, &called, &firsts, out);
-    Translated::Length(length)
+    Translated::Refused {
+        number: SHORT_OUTPUT,
+        place: 0,
+    }
 }

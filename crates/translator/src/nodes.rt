@@ -6,16 +6,19 @@ ghost use Rattle.definitions.specs.Layouts.{nodes, ownerOf};
 ghost use Rattle.definitions.specs.Translate.{formalOf, scrutineeOf, nodeWords};
 ghost use Rattle.definitions.specs.declared.Layout.the-variants.{Sheet};
 ghost use Rattle.translator.specs.Writing.{Wrote};
-ghost use Rattle.translator.specs.Tables.{Tables, NodeRead, ReadTables, OwnerFormals};
+ghost use Rattle.translator.specs.Tables.{NodeTables, NodeRead, ReadTables, OwnerFormals};
 use crate::kinds::CALL;
 use crate::kinds::FORMAL;
 use crate::kinds::NUMBER;
 use crate::kinds::SELECT;
-use crate::tables::count_calls;
-use crate::tables::wide32;
+use crate::tables::OfNodes;
+use crate::tables::Sums;
 use crate::words::put_copy;
 use crate::words::put_one;
 use crate::words::put_two;
+use definitions::sizes::Ends;
+use definitions::sizes::Owners;
+use definitions::sizes::Starts;
 use file_layout::layout::first_node;
 use file_layout::layout::nodes;
 use file_layout::sheet_kinds;
@@ -26,7 +29,7 @@ use file_records::records::wide;
 use file_records::records::wide8;
 
 // The scrutinee of the case that is the body of node `k`'s function.
-fn scrutinee(b: &[u8], starts: &[u16; 1601], ends: &[u16; 64], owners: &[u8; 1024], k: usize) -> u16
+fn scrutinee(b: &[u8], starts: &Starts, ends: &Ends, owners: &Owners, k: usize) -> u16
     requires { ⌜ ReadTables (now b) (now starts) (now ends) (now owners) × (k < nodes (now b)) ⌝ }
     ensures { λ r. ⌜ r ≡ scrutineeOf (now (b .entry)) k ⌝ }
 {
@@ -35,48 +38,48 @@ fn scrutinee(b: &[u8], starts: &[u16; 1601], ends: &[u16; 64], owners: &[u8; 102
 }
 
 // The formal of the parameter at position `i` of the function that owns node `k`.
-fn formal(b: &[u8], owners: &[u8; 1024], firsts: &[u32; 65], k: usize, i: u16) -> usize
-    requires { ⌜ OwnerFormals (now b) (now owners) (now firsts) k ⌝ }
+fn formal(b: &[u8], owners: &Owners, formals: &Sums, k: usize, i: u16) -> usize
+    requires { ⌜ OwnerFormals (now b) (now owners) (now formals) k ⌝ }
     ensures { λ r. ⌜ r ≡ formalOf (now (b .entry)) (ownerOf Sheet (now (b .entry)) k) i ⌝ }
 {
-    wide32(firsts[wide8(owners[k])]) + wide(i)
+    wide(formals[wide8(owners[k])]) + wide(i)
 }
 
 // Writes node `k`, whose record is `rec`.
 fn put_read(
     b: &[u8],
-    starts: &[u16; 1601],
-    ends: &[u16; 64],
-    owners: &[u8; 1024],
-    callees: &[u32; 1024],
-    firsts: &[u32; 65],
+    starts: &Starts,
+    ends: &Ends,
+    owners: &Owners,
+    labels: &OfNodes,
+    formals: &Sums,
     rec: &[u8],
     k: usize,
     out: &mut [u8],
     at: usize,
 ) -> usize
-    requires { ⌜ NodeRead (now b) (now starts) (now ends) (now owners) (now callees) (now firsts) (now rec) k ⌝ }
+    requires { ⌜ NodeRead (now b) (now starts) (now ends) (now owners) (now labels) (now formals) (now rec) k ⌝ }
     ensures { λ r. ⌜ Wrote (now (out .entry)) at (nodeWords (now (b .entry)) k) r (now (out .exit)) ⌝ }
 {
-    let kd = kind(rec);
-    let x = field(rec, 0);
-    if kd == sheet_kinds::NUMBER {
-        return put_two(out, at, NUMBER, wide(x), wide(field(rec, 1)));
+    let node_kind = kind(rec);
+    let value = field(rec, 0);
+    if node_kind == sheet_kinds::NUMBER {
+        return put_two(out, at, NUMBER, wide(value), wide(field(rec, 1)));
     }
-    if kd == sheet_kinds::PARAMETER {
-        return put_one(out, at, FORMAL, formal(b, owners, firsts, k, x));
+    if node_kind == sheet_kinds::PARAMETER {
+        return put_one(out, at, FORMAL, formal(b, owners, formals, k, value));
     }
-    if kd == sheet_kinds::PATTERN_VARIABLE {
+    if node_kind == sheet_kinds::PATTERN_VARIABLE {
         return put_two(
             out,
             at,
             SELECT,
             wide(scrutinee(b, starts, ends, owners, k)),
-            wide(x) + 1,
+            wide(value) + 1,
         );
     }
-    if kd == sheet_kinds::CALL {
-        return put_two(out, at, CALL, count_calls(callees, x, k), wide(x));
+    if node_kind == sheet_kinds::CALL {
+        return put_two(out, at, CALL, wide(labels[k]), wide(value));
     }
     put_copy(out, at, rec)
 }
@@ -84,16 +87,16 @@ fn put_read(
 // Writes node `k`.
 fn put_node(
     b: &[u8],
-    starts: &[u16; 1601],
-    ends: &[u16; 64],
-    owners: &[u8; 1024],
-    callees: &[u32; 1024],
-    firsts: &[u32; 65],
+    starts: &Starts,
+    ends: &Ends,
+    owners: &Owners,
+    labels: &OfNodes,
+    formals: &Sums,
     k: usize,
     out: &mut [u8],
     at: usize,
 ) -> usize
-    requires { ⌜ Tables (now b) (now starts) (now ends) (now owners) (now callees) (now firsts) × (k < nodes (now b)) ⌝ }
+    requires { ⌜ NodeTables (now b) (now starts) (now ends) (now owners) (now labels) (now formals) × (k < nodes (now b)) ⌝ }
     ensures { λ r. ⌜ Wrote (now (out .entry)) at (nodeWords (now (b .entry)) k) r (now (out .exit)) ⌝ }
 {
     put_read(
@@ -101,8 +104,8 @@ fn put_node(
         starts,
         ends,
         owners,
-        callees,
-        firsts,
+        labels,
+        formals,
         indexed(b, starts, first_node(b) + k),
         k,
         out,
@@ -113,22 +116,22 @@ fn put_node(
 // Writes every node.
 pub(crate) fn put_nodes(
     b: &[u8],
-    starts: &[u16; 1601],
-    ends: &[u16; 64],
-    owners: &[u8; 1024],
-    callees: &[u32; 1024],
-    firsts: &[u32; 65],
+    starts: &Starts,
+    ends: &Ends,
+    owners: &Owners,
+    labels: &OfNodes,
+    formals: &Sums,
     out: &mut [u8],
     at: usize,
 ) -> usize
-    requires { ⌜ Tables (now b) (now starts) (now ends) (now owners) (now callees) (now firsts) ⌝ }
+    requires { ⌜ NodeTables (now b) (now starts) (now ends) (now owners) (now labels) (now formals) ⌝ }
     ensures { λ r. ⌜ Wrote (now (out .entry)) at (joined (nodes (now (b .entry))) (nodeWords (now (b .entry)))) r (now (out .exit)) ⌝ }
 {
     let count = wide(nodes(b));
     let mut next = at;
     let mut k: usize = 0;
     while k < count {
-        next = put_node(b, starts, ends, owners, callees, firsts, k, out, next);
+        next = put_node(b, starts, ends, owners, labels, formals, k, out, next);
         k += 1;
     }
     next

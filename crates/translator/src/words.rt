@@ -3,17 +3,15 @@
 ghost use mathlib.Core.Path.{_≡_};
 ghost use mathlib.Core.List.{[], _∷_};
 ghost use Prim.Native.Nat.{_+_, _*_, _≤_};
-ghost use lib.ListN.{length, set};
+ghost use lib.ListN.{set};
 ghost use Rattle.definitions.specs.Records.{kindOf, fieldCount};
 ghost use Rattle.definitions.specs.Translate.{recordWords};
 ghost use Rattle.translator.specs.Writing.{Wrote, fieldWords};
+use definitions::sizes::TRANSLATION_BYTES;
 use file_records::records::field;
 use file_records::records::field_count;
 use file_records::records::kind;
 use file_records::records::wide;
-
-// "Translation, at most 40,960 bytes".
-const LAST_PLACE: usize = 40960;
 
 // A kind of node of a translation is as far above the sheet's.
 const KIND_STEP: usize = 32;
@@ -31,7 +29,7 @@ fn set_byte(out: &mut [u8], at: usize, x: u8)
 pub(crate) fn put(out: &mut [u8], at: usize, w: usize) -> usize
     ensures { λ r. ⌜ Wrote (now (out .entry)) at (w ∷ []) r (now (out .exit)) ⌝ }
 {
-    if LAST_PLACE <= at {
+    if TRANSLATION_BYTES <= at {
         return at;
     }
     set_byte(out, at, (w % 256) as u8);

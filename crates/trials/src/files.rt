@@ -7,17 +7,16 @@ use crate::text::number_starts;
 use crate::text::signed;
 use crate::text::until;
 use crate::text::word;
+use definitions::sizes::MOST_READINGS;
+use file_writer::SPACE_BYTES;
 use file_writer::Space;
 use file_writer::change;
 use file_writer::put;
 
-// How many bytes a space has.
-pub(crate) const SPACE_BYTES: usize = 40961;
+// How many readings of an entry are taken: some more than a sheet can have.
+pub(crate) const READINGS_ROOM: usize = MOST_READINGS + 8;
 
-// How many readings an entry can have: a sheet has at most 32.
-pub(crate) const READINGS_MOST: usize = 40;
-
-pub(crate) type Readings = [i32; READINGS_MOST];
+pub(crate) type Readings = [i32; READINGS_ROOM];
 
 // A size, or the greatest where it is above that.
 pub(crate) fn within(size: usize, most: usize) -> usize
@@ -124,7 +123,7 @@ pub(crate) fn put_readings(text: &[u8], from: usize, readings: &mut Readings) ->
     let mut i = until(text, from, b'|');
     while i < end {
         if number_starts(text, i) {
-            if count < READINGS_MOST {
+            if count < READINGS_ROOM {
                 readings[count] = signed(text, i);
                 count += 1;
             }

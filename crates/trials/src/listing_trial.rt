@@ -1,5 +1,4 @@
 // A trial of a context listing: a line says what was answered, and the labels that were written.
-use crate::files::SPACE_BYTES;
 use crate::files::copy;
 use crate::files::filled;
 use crate::files::within;
@@ -13,6 +12,7 @@ use cells::listing::Listed;
 use cells::listing::list_context;
 use file_fields::bytes::word;
 use file_records::records::wide;
+use file_writer::SPACE_BYTES;
 use file_writer::Space;
 
 // Lists the context of cell `c` of the first `lent` bytes of cells into the first `room` bytes of an output.

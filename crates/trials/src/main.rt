@@ -27,7 +27,6 @@ mod shown;
 mod text;
 mod translator_trial;
 
-use crate::files::SPACE_BYTES;
 use crate::files::fill;
 use crate::files::put_entry;
 use crate::listing_trial::try_listing;
@@ -39,6 +38,7 @@ use crate::text::line_starts;
 use crate::text::numbered;
 use crate::translator_trial::try_translator;
 use definitions::Layout;
+use file_writer::SPACE_BYTES;
 use file_writer::Space;
 
 // How many bytes are written of the sheet, of the translation and of the cells.

@@ -1,5 +1,4 @@
 // A trial of a reader: a file with some of its words changed is read, and a line says what the reader answers.
-use crate::files::SPACE_BYTES;
 use crate::files::change_words;
 use crate::files::copy;
 use crate::files::within;
@@ -12,6 +11,7 @@ use crate::text::number;
 use crate::text::until;
 use definitions::Layout;
 use definitions::Verdict;
+use file_writer::SPACE_BYTES;
 use file_writer::Space;
 use format::sheet::read_sheet;
 use format::translation::read_translation;

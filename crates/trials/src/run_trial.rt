@@ -1,8 +1,7 @@
 // A trial of a run: a line says what was answered, by the fields of the answer's record, and whether the lent bytes are what
 // they should be.
-use crate::files::READINGS_MOST;
+use crate::files::READINGS_ROOM;
 use crate::files::Readings;
-use crate::files::SPACE_BYTES;
 use crate::files::change_words;
 use crate::files::copy;
 use crate::files::filled;
@@ -18,7 +17,9 @@ use cells::answer::Answer;
 use cells::answer::Outcome;
 use cells::answer::refused;
 use cells::answer::write_answer;
+use definitions::sizes::CELL_BYTES;
 use file_records::records::wide;
+use file_writer::SPACE_BYTES;
 use file_writer::Space;
 use join::translate_and_run;
 use run::run;
@@ -49,66 +50,69 @@ fn read_given(text: &[u8], from: usize, count: usize) -> Given {
     }
 }
 
-// Runs the first `size` bytes of a translation's file.
-fn ran(file: &[u8], size: usize, readings: &[i32], g: Given, cells: &mut [u8]) -> Answer {
+// What a run answered, and the cells that were lent for it.
+struct Answered {
+    answer: Answer,
+    cells: Space,
+}
+
+// Runs the first `size` bytes of a translation's file, with new cells.
+fn ran(file: &[u8], size: usize, readings: &[i32], g: Given) -> Answered {
     let bytes = within(size, file.len());
     let values = within(g.count, readings.len());
-    let lent = within(g.lent, cells.len());
-    run(
+    let lent_bytes = within(g.lent, SPACE_BYTES);
+    let mut cells = filled();
+    let mut lent: &mut [u8] = &mut cells[0..lent_bytes];
+    let answer = run(
         &file[0..bytes],
         &readings[0..values],
         g.steps,
         g.nesting,
         g.most,
-        &mut cells[0..lent],
-    )
+        &mut lent,
+    );
+    Answered { answer, cells }
 }
 
 // The same with whole spaces.
-fn ran_in(file: &Space, size: usize, readings: &Readings, g: Given, cells: &mut Space) -> Answer {
-    ran(file, size, readings, g, cells)
+fn ran_in(file: &Space, size: usize, readings: &Readings, g: Given) -> Answered {
+    ran(file, size, readings, g)
 }
 
-// Translates and runs a sheet in one call.
-fn joined(sheet: &[u8], out: &mut [u8], readings: &[i32], g: Given, cells: &mut [u8]) -> Answer {
+// Translates and runs a sheet in one call, with new cells.
+fn joined(sheet: &[u8], out: &mut [u8], readings: &[i32], g: Given) -> Answered {
     let bytes = within(g.size, sheet.len());
     let tray = within(g.room, out.len());
     let values = within(g.count, readings.len());
-    let lent = within(g.lent, cells.len());
-    translate_and_run(
+    let lent_bytes = within(g.lent, SPACE_BYTES);
+    let mut cells = filled();
+    let mut lent: &mut [u8] = &mut cells[0..lent_bytes];
+    let answer = translate_and_run(
         &sheet[0..bytes],
         &mut out[0..tray],
         &readings[0..values],
         g.steps,
         g.nesting,
         g.most,
-        &mut cells[0..lent],
-    )
+        &mut lent,
+    );
+    Answered { answer, cells }
 }
 
 // The same with whole spaces.
-fn joined_in(
-    sheet: &Space,
-    out: &mut Space,
-    readings: &Readings,
-    g: Given,
-    cells: &mut Space,
-) -> Answer {
-    joined(sheet, out, readings, g, cells)
+fn joined_in(sheet: &Space, out: &mut Space, readings: &Readings, g: Given) -> Answered {
+    joined(sheet, out, readings, g)
 }
 
 // The same in two calls.
-fn in_two_calls(
-    sheet: &Space,
-    out: &mut Space,
-    readings: &Readings,
-    g: Given,
-    cells: &mut Space,
-) -> Answer {
+fn in_two_calls(sheet: &Space, out: &mut Space, readings: &Readings, g: Given) -> Answered {
     let translated = translated_in(sheet, g.size, out, g.room);
     match translated {
-        Translated::Length(n) => ran_in(out, n, readings, g, cells),
-        Translated::Refused { number, place } => refused(number, place),
+        Translated::Length(n) => ran_in(out, n, readings, g),
+        Translated::Refused { number, place } => Answered {
+            answer: refused(number, place),
+            cells: filled(),
+        },
     }
 }
 
@@ -128,7 +132,7 @@ fn output_right(answer: Answer, out: &Space, alone: &Space) -> bool {
 // Whether lent cells start with as many cells of the file of cells as the answer says, and past them are as they were before.
 fn cells_right(answer: Answer, cells: &Space, expected: &Space) -> bool {
     let mut right = filled();
-    copy(expected, 4 * wide(answer.cells), &mut right);
+    copy(expected, CELL_BYTES * wide(answer.cells), &mut right);
     agree(cells, &right)
 }
 
@@ -138,23 +142,22 @@ pub(crate) fn try_joined(text: &[u8], from: usize, base: &Space, expected: &Spac
     let mut sheet = [0u8; SPACE_BYTES];
     copy(base, SPACE_BYTES, &mut sheet);
     change_words(text, from, &mut sheet);
-    let mut readings = [0i32; READINGS_MOST];
+    let mut readings = [0i32; READINGS_ROOM];
     let count = put_readings(text, from, &mut readings);
     let g = read_given(text, from, count);
     let mut out = filled();
-    let mut cells = filled();
-    let answer = joined_in(&sheet, &mut out, &readings, g, &mut cells);
+    let ran = joined_in(&sheet, &mut out, &readings, g);
+    let answer = ran.answer;
     let mut alone = filled();
-    let mut others = filled();
-    let second = in_two_calls(&sheet, &mut alone, &readings, g, &mut others);
+    let second = in_two_calls(&sheet, &mut alone, &readings, g);
     let mut record = [0u8; SPACE_BYTES];
     write_answer(answer, &mut record);
     let mut other = [0u8; SPACE_BYTES];
-    write_answer(second, &mut other);
+    write_answer(second.answer, &mut other);
     show_named(b"  ", text, from, b": ");
     show_record(&record);
     show_whether(
-        cells_right(answer, &cells, expected),
+        cells_right(answer, &ran.cells, expected),
         b", cells",
         b", CELLS WRONG",
     );
@@ -164,7 +167,7 @@ pub(crate) fn try_joined(text: &[u8], from: usize, base: &Space, expected: &Spac
         b", OUTPUT WRONG",
     );
     show_whether(
-        agree(&record, &other) && agree(&cells, &others),
+        agree(&record, &other) && agree(&ran.cells, &second.cells),
         b", the same in two calls\n",
         b", NOT THE SAME IN TWO CALLS\n",
     );
@@ -176,17 +179,17 @@ pub(crate) fn try_run(text: &[u8], from: usize, base: &Space, expected: &Space) 
     let mut translation = [0u8; SPACE_BYTES];
     copy(base, SPACE_BYTES, &mut translation);
     change_words(text, from, &mut translation);
-    let mut readings = [0i32; READINGS_MOST];
+    let mut readings = [0i32; READINGS_ROOM];
     let count = put_readings(text, from, &mut readings);
     let g = read_given(text, from, count);
-    let mut cells = filled();
-    let answer = ran_in(&translation, g.size, &readings, g, &mut cells);
+    let ran = ran_in(&translation, g.size, &readings, g);
+    let answer = ran.answer;
     let mut record = [0u8; SPACE_BYTES];
     write_answer(answer, &mut record);
     show_named(b"  ", text, from, b": ");
     show_record(&record);
     show_whether(
-        cells_right(answer, &cells, expected),
+        cells_right(answer, &ran.cells, expected),
         b", cells right\n",
         b", CELLS WRONG\n",
     );

@@ -1,5 +1,6 @@
 // What the trials write: parts of their text, numbers between words, and refusals.
 use crate::text::entry_end;
+use definitions::sizes::ANSWER_BYTES;
 use file_fields::bytes::word;
 use file_fields::bytes::word32;
 use file_records::records::wide;
@@ -44,10 +45,13 @@ pub(crate) fn show_whether(holds: bool, good: &[u8], bad: &[u8]) {
     }
 }
 
-// The fields of an answer's record. Its length and its kind are not shown where they are 20 and 64.
+// "Record kind 64, 20 bytes".
+const RECORD_KIND: u16 = 64;
+
+// The fields of an answer's record. Its length and its kind are not shown where they are right.
 pub(crate) fn show_record(record: &Space) {
-    show_whether(word(record, 0) == 20, b"", b"WRONG LENGTH ");
-    show_whether(word(record, 2) == 64, b"", b"WRONG KIND ");
+    show_whether(wide(word(record, 0)) == ANSWER_BYTES, b"", b"WRONG LENGTH ");
+    show_whether(word(record, 2) == RECORD_KIND, b"", b"WRONG KIND ");
     show_number(b"outcome ", wide(word(record, 4)), b"");
     let bits = wide32(word32(record, 6));
     if bits < 0x8000_0000 {

@@ -1,11 +1,12 @@
 -- The line of the joined call's answer is the program's, and it stands at the front of its space.
 use mathlib.Core.Path.{_≡_, refl, sym, ap, _∙_}
-use Prim.Native.Nat.{ℕ, _≤_}
+use Prim.Native.Nat.{ℕ, _*_, _≤_}
 use mathlib.Core.List.{List, [], _++_}
 use native.Mathlib.Omega.{arith}
 use lib.IntN.{ℤ}
 use lib.ListN.{length, take, drop, length-append}
 use lib.Seq.{take-at}
+use Rattle.definitions.specs.Sizes.{translationBytes, cellSize}
 use Rattle.definitions.specs.Run as Run
 use Rattle.cells.specs.declared.answer.Answer.{Answer}
 use Rattle.cells.specs.Answers.{answerOf}
@@ -15,12 +16,13 @@ use Rattle.report.specs.Promise.{WritesLine}
 use Rattle.zifnora.specs.Program.{programAnswer, ShowsAnswer}
 
 module _ (sheet buffer : List ℕ) (rs : List ℤ) (cells : List ℕ) (r : Answer) (buffer′ cells′ out : List ℕ) (n : ℕ) (out′ : List ℕ) where
-  program-answer : Joins sheet buffer rs 1000 100 100 cells r buffer′ cells′ → length buffer ≡ 40960 → rs ≡ [] → length cells ≡ 400 → answerOf r ≡ programAnswer sheet
+  program-answer : Joins sheet buffer rs 1000 100 100 cells r buffer′ cells′
+      → length buffer ≡ translationBytes → rs ≡ [] → length cells ≡ cellSize * 100 → answerOf r ≡ programAnswer sheet
   unfolding programAnswer
   program-answer j b e c = j .answer ∙ rw (b, e, c) refl
 
-  pub answer-shown : Joins sheet buffer rs 1000 100 100 cells r buffer′ cells′ → WritesLine r out n out′ → length buffer ≡ 40960 → rs ≡ [] → length cells ≡ 400
-      → ShowsAnswer sheet out n out′
+  pub answer-shown : Joins sheet buffer rs 1000 100 100 cells r buffer′ cells′ → WritesLine r out n out′
+      → length buffer ≡ translationBytes → rs ≡ [] → length cells ≡ cellSize * 100 → ShowsAnswer sheet out n out′
   answer-shown j w b e c =
       let a : answerOf r ≡ programAnswer sheet = program-answer j b e c in
       record {

@@ -1,5 +1,5 @@
--- A word at a place below 40,960 fits, and its two bytes are stored there; at any other place it does not fit, and nothing is
--- stored. Assumes nothing.
+-- A word fits at every place but the last of the space, and its two bytes are stored there; at any other place it does not fit,
+-- and nothing is stored. Assumes nothing.
 use borrow.Author.Needs.{needs}
 use native.Mathlib.Omega.{arith}
 use Rattle.file_writer.proofs.Laws.{word-written, word-unwritten}

@@ -3,13 +3,13 @@ use borrow.Author.Needs.{needs}
 use mathlib.Core.Path.{_≡_, ap, _∙_}
 use Prim.Native.Nat.{_≤_, _<_, _-_}
 use native.Mathlib.Omega.{arith}
-use Rattle.file_writer.specs.Writing.{startOf}
+use Rattle.file_writer.specs.Writing.{walkEnd, startOf}
 use Rattle.file_writer.proofs.Laws.{start-first, start-more}
 use Rattle.file_writer.proofs.start.Statement.{statement}
 use Rattle.file_writer.proofs.start.Tie as tie
 
 abbrev Inv-loop : tie.InvT-loop
-Inv-loop file r at₀ i₀ at i = (i ≤ r) × (at ≡ startOf file i) × (at < 106496)
+Inv-loop file r at₀ i₀ at i = (i ≤ r) × (at ≡ startOf file i) × (at < walkEnd)
 
 abbrev μ-loop : tie.MeasureT-loop
 μ-loop file r at₀ i₀ at i = r - i

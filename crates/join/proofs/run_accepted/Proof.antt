@@ -1,73 +1,99 @@
 -- `join::run_accepted` meets its contract: the refusals 8, 9 and 10, and else the run of what the translator wrote.
 use Rattle.join.proofs.Joining.{join-short, join-readings, join-allowance, written-size, join-answered}
 use borrow.Author.Tests.{not-true, not-false}
+use mathlib.Core.Path.{refl}
 use borrow.Author.Needs.{needs}
 use Rattle.join.proofs.run_accepted.Statement.{statement}
 use Rattle.join.proofs.run_accepted.Tie as tie
+use Rattle.join.proofs.run_accepted.Reads as reads
+use Rattle.join.proofs.run_accepted.Lts as lts
+use Rattle.allowances.proofs.allowed.Reads as allowed-reads
+use Rattle.cells.proofs.answer.refused.Reads as refused-reads
+use Rattle.file_layout.proofs.layout.readings.Reads as readings-reads
+use Rattle.file_records.proofs.records.wide.Reads as wide-reads
+use Rattle.run.proofs.run.Reads as run-reads
+use Rattle.translator.proofs.translate.Reads as translate-reads
 
--- src/lib.rt:65:9
 refused-requires : tie.Need-refused-requires
 refused-requires c κs = search needs
 
--- src/lib.rt:65:9
 returns : tie.Need-returns
-returns c = join-short _ _ _ _ _ _ _ _ (c .before .before .before .before .before .pre .0) _ (c .before .before .before .before .before .pre .1) (c .before .if1 .taken) (c .refused .ensures)
+returns c =
+    let pre = c .before .before .before .before .pre in
+    (join-short _ _ _ _ _ _ _ _ (pre .0) _ (pre .1) (c .before .if1 .taken) (c .refused .ensures), refl)
 
--- src/lib.rt:67:31
 readings-requires : tie.Need-readings-requires
 readings-requires c κs = search needs
 
--- src/lib.rt:67:26
 wide-requires : tie.Need-wide-requires
 wide-requires c κs = search needs
 
--- src/lib.rt:68:9
 refused-requires-2 : tie.Need-refused-requires-2
 refused-requires-2 c κs = search needs
 
--- src/lib.rt:68:9
 returns-2 : tie.Need-returns-2
-returns-2 c = join-readings _ _ _ _ _ _ _ _ (c .before .before .before .before .before .before .before .before .pre .0) _ (c .before .before .before .before .before .before .before .before .pre .1) (c .before .before .before .before .if1 .left) _ _ (c .before .before .before .readings .ensures) (c .before .before .wide .ensures .0) (c .before .if2 .taken) (c .refused2 .ensures)
+returns-2 c =
+    let pre = c .before .before .before .before .before .before .before .pre in
+    let if1 = c .before .before .before .before .if1 in
+    let readings = c .before .before .before .readings in
+    let wide = c .before .before .wide in
+    (join-readings _ _ _ _ _ _ _ _ (pre .0) _ (pre .1) (if1 .left) _ _ (readings .ensures) (wide .ensures .0) (c .before .if2 .taken) (c .refused2 .ensures), refl)
 
--- src/lib.rt:70:9
 allowed-requires : tie.Need-allowed-requires
 allowed-requires c κs = search needs
 
--- src/lib.rt:71:9
 refused-requires-3 : tie.Need-refused-requires-3
 refused-requires-3 c κs = search needs
 
--- src/lib.rt:71:9
 returns-3 : tie.Need-returns-3
-returns-3 c = join-allowance _ _ _ _ (c .before .before .before .before .before .before .before .before .before .before .args .nesting) (c .before .before .before .before .before .before .before .before .before .before .args .most) _ _ (c .before .before .before .before .before .before .before .before .before .before .pre .0) _ (c .before .before .before .before .before .before .before .before .before .before .pre .1) (c .before .before .before .before .before .before .if1 .left) _ _ (c .before .before .before .before .before .readings .ensures) (c .before .before .before .before .wide .ensures .0) _ (c .before .before .before .if2 .left) (c .before .before .allowed .ensures) (not-true _ (c .before .if3 .taken)) (c .refused3 .ensures)
+returns-3 c =
+    let args = c .before .before .before .before .before .before .before .before .before .args in
+    let pre = c .before .before .before .before .before .before .before .before .before .pre in
+    let if1 = c .before .before .before .before .before .before .if1 in
+    let readings = c .before .before .before .before .before .readings in
+    let wide = c .before .before .before .before .wide in
+    let if2 = c .before .before .before .if2 in
+    let allowed = c .before .before .allowed in (
+      join-allowance _ _ _ _ (args .nesting) (args .most) _ _ (pre .0) _ (pre .1) (if1 .left) _ _ (readings .ensures) (wide .ensures .0) _ (if2 .left) (allowed .ensures)
+          (not-true _ (c .before .if3 .taken)) (c .refused3 .ensures),
+      refl,
+    )
 
--- src/lib.rt:73:5
 translate-requires : tie.Need-translate-requires
 translate-requires c κs = search needs
 
--- src/lib.rt:74:9
 slice-reshare-prefix-run : tie.Need-slice-reshare-prefix-run
 slice-reshare-prefix-run c = search needs
 
--- src/lib.rt:74:9
 slice-aggregate-run : tie.Need-slice-aggregate-run
-slice-aggregate-run c = written-size _ _ (c .before .before .before .before .before .before .before .before .before .before .before .before .before .before .pre .0) _ (c .before .before .before .before .before .before .before .before .before .before .before .before .before .before .pre .1) (c .before .before .before .before .before .before .before .before .before .before .if1 .left) _ _ (c .before .before .before .translate .ensures)
+slice-aggregate-run c =
+    let pre = c .before .before .before .before .before .before .before .before .before .before .before .before .before .pre in
+    let if1 = c .before .before .before .before .before .before .before .before .before .before .if1 in
+    let translate = c .before .before .before .translate in
+    written-size _ _ (pre .0) _ (pre .1) (if1 .left) _ _ (translate .ensures)
 
--- src/lib.rt:74:5
 run-requires : tie.Need-run-requires
 run-requires c κs = search needs
 
--- src/lib.rt:51:1
 same-length : tie.Need-same-length
 same-length c = search needs
 
--- src/lib.rt:51:1
-same-length-2 : tie.Need-same-length-2
-same-length-2 c = search needs
-
--- src/lib.rt:51:1
 returns-4 : tie.Need-returns-4
-returns-4 c = join-answered _ _ _ _ (c .before .before .before .before .before .before .before .before .before .before .before .before .before .before .before .before .before .before .args .nesting) (c .before .before .before .before .before .before .before .before .before .before .before .before .before .before .before .before .before .before .args .most) _ _ (c .before .before .before .before .before .before .before .before .before .before .before .before .before .before .before .before .before .before .pre .0) _ (c .before .before .before .before .before .before .before .before .before .before .before .before .before .before .before .before .before .before .pre .1) (c .before .before .before .before .before .before .before .before .before .before .before .before .before .before .if1 .left) _ _ (c .before .before .before .before .before .before .before .before .before .before .before .before .before .readings .ensures) (c .before .before .before .before .before .before .before .before .before .before .before .before .wide .ensures .0) _ _ (c .before .before .before .before .before .before .before .translate .ensures) _ (c .before .before .run .ensures) _ (c .before .before .before .before .before .before .before .before .before .before .before .if2 .left) (c .before .before .before .before .before .before .before .before .before .before .allowed .ensures) (not-false _ (c .before .before .before .before .before .before .before .before .before .if3 .left))
+returns-4 c =
+    let args = c .before .before .before .before .before .before .before .before .before .before .before .before .before .before .before .args in
+    let pre = c .before .before .before .before .before .before .before .before .before .before .before .before .before .before .before .pre in
+    let if1 = c .before .before .before .before .before .before .before .before .before .before .before .before .if1 in
+    let readings = c .before .before .before .before .before .before .before .before .before .before .before .readings in
+    let wide = c .before .before .before .before .before .before .before .before .before .before .wide in
+    let if2 = c .before .before .before .before .before .before .before .before .before .if2 in
+    let allowed = c .before .before .before .before .before .before .before .before .allowed in
+    let if3 = c .before .before .before .before .before .before .before .if3 in
+    let translate = c .before .before .before .before .before .translate in
+    let run = c .run in (
+      join-answered _ _ _ _ (args .nesting) (args .most) _ _ (pre .0) _ (pre .1) (if1 .left) _ _ (readings .ensures) (wide .ensures .0) _ _ (translate .ensures) _
+          (run .ensures .0) _ (if2 .left) (allowed .ensures) (not-false _ (if3 .left)),
+      run .ensures .1,
+    )
 
 pub run-accepted-spec : {M : Type 1} → statement M
 run-accepted-spec =
@@ -87,5 +113,4 @@ run-accepted-spec =
     slice-aggregate-run
     run-requires
     same-length
-    same-length-2
     returns-4)

@@ -19,7 +19,11 @@ same-length c = search needs
 
 returns : tie.Need-returns
 unfolding countedLine
-returns c = wrote-then (wrote-then (c .before .before .before .before .before .before .before .before .before .before .put-word .ensures) (c .before .before .before .before .before .before .put-signed .ensures)) (c .before .before .put-counts .ensures)
+returns c =
+    let put-word = c .before .before .before .before .before .before .before .before .before .before .put-word in
+    let put-signed = c .before .before .before .before .before .before .put-signed in
+    let put-counts = c .before .before .put-counts in
+    wrote-then (wrote-then (put-word .ensures) (put-signed .ensures)) (put-counts .ensures)
 
 pub put-counted-spec : {M : Type 1} → statement M
 put-counted-spec =

@@ -34,7 +34,13 @@ same-length c = search needs
 
 returns : tie.Need-returns
 unfolding counts stepsWord cellsWord lineEnd
-returns c = wrote-then (wrote-then (wrote-then (wrote-then (c .before .before .before .before .before .before .before .before .before .before .before .before .before .before .before .before .before .before .before .before .put-word .ensures) (c .before .before .before .before .before .before .before .before .before .before .before .before .before .before .before .before .put-decimal .ensures)) (c .before .before .before .before .before .before .before .before .before .before .before .put-word2 .ensures)) (c .before .before .before .before .before .before .before .put-decimal2 .ensures)) (c .before .before .put-word3 .ensures)
+returns c =
+    let put-word = c .before .before .before .before .before .before .before .before .before .before .before .before .before .before .before .before .before .before .before .before .put-word in
+    let put-decimal = c .before .before .before .before .before .before .before .before .before .before .before .before .before .before .before .before .put-decimal in
+    let put-word2 = c .before .before .before .before .before .before .before .before .before .before .before .put-word2 in
+    let put-decimal2 = c .before .before .before .before .before .before .before .put-decimal2 in
+    let put-word3 = c .before .before .put-word3 in
+    wrote-then (wrote-then (wrote-then (wrote-then (put-word .ensures) (put-decimal .ensures)) (put-word2 .ensures)) (put-decimal2 .ensures)) (put-word3 .ensures)
 
 pub put-counts-spec : {M : Type 1} → statement M
 put-counts-spec =

@@ -3,36 +3,28 @@ use Rattle.translator.proofs.Promises.{reader-refuses, reader-accepts}
 use borrow.Author.Needs.{needs}
 use Rattle.translator.proofs.translate.Statement.{statement}
 use Rattle.translator.proofs.translate.Tie as tie
-use Rattle.translator.proofs.translate.Reads as reads
-use Rattle.translator.proofs.translate.Lts as lts
-use Rattle.format.proofs.sheet.read_sheet.Reads as read-sheet-reads
-use Rattle.translator.proofs.translate_accepted.Reads as translate-accepted-reads
 
--- src/lib.rt:25:9
 read-sheet-requires : tie.Need-read-sheet-requires
 read-sheet-requires c κs = search needs
 
--- src/lib.rt:31:28
 enum-known-verdict : tie.Need-enum-known-verdict
 enum-known-verdict c = search needs
 
--- src/lib.rt:32:56
 enum-told : tie.Need-enum-told
 enum-told c = search needs
 
--- src/lib.rt:32:30
 translate-accepted-requires : tie.Need-translate-accepted-requires
-translate-accepted-requires c κs = reader-accepts _ _ _ _ _ ((c .before .before .before .before .before .before .before .before .before .read-sheet) .ensures) ((c .before .before .before .before .enum-told) .given .1)
+translate-accepted-requires c κs =
+    let at-enum-told = c .before .before .before .before .before in
+    let at-read-sheet = at-enum-told .before .before in
+    reader-accepts _ _ _ _ _ (at-read-sheet .read-sheet .ensures) (at-enum-told .enum-told .given .1)
 
--- src/lib.rt:22:1
 returns : tie.Need-returns
-returns c = reader-refuses _ _ _ _ _ _ _ _ ((c .before .before .before .before .before .before .read-sheet) .ensures) ((c .before .verdict) .given .1)
+returns c = reader-refuses _ _ _ _ _ _ _ _ (c .before .before .before .read-sheet .ensures) (c .before .verdict .given .1)
 
--- src/lib.rt:22:1
 same-length : tie.Need-same-length
 same-length c = search needs
 
--- src/lib.rt:22:1
 returns-2 : tie.Need-returns-2
 returns-2 c = search needs
 

@@ -1,55 +1,47 @@
--- `translator::translate_accepted` meets its contract: an output that is too short, or the translation written.
-use Rattle.translator.proofs.Promises.{output-short, output-written}
+-- `translator::translate_accepted` meets its contract: the tables are filled, and the translation is written by them.
+use mathlib.Core.Path.{refl}
+use native.Mathlib.Omega.{arith}
+use lib.ListN.{getD-replicate}
+use Rattle.definitions.specs.Sizes.{mostFunctions}
+use Rattle.definitions.specs.declared.Layout.the-variants.{Sheet}
+use Rattle.accepted.proofs.Head.{functions-limit}
+use Rattle.translator.proofs.CallLabels.{none-labelled, none-counted}
 use borrow.Author.Needs.{needs}
 use Rattle.translator.proofs.translate_accepted.Statement.{statement}
 use Rattle.translator.proofs.translate_accepted.Tie as tie
-use Rattle.translator.proofs.translate_accepted.Reads as reads
-use Rattle.translator.proofs.translate_accepted.Lts as lts
-use Rattle.translator.proofs.file.put_file.Reads as put-file-reads
-use Rattle.translator.proofs.tables.callees.Reads as callees-reads
-use Rattle.translator.proofs.tables.first_formals.Reads as first-formals-reads
 
--- src/lib.rt:42:18
-callees-requires : tie.Need-callees-requires
-callees-requires c κs = search needs
+label-nodes-requires : tie.Need-label-nodes-requires
+label-nodes-requires c κs =
+    let sheet = c .before .before .before .before .pre .sheet in
+    let few = functions-limit Sheet _ (sheet .file .accepted) in
+    (sheet, none-labelled _ _ refl, none-counted _ _ refl (λ f h. getD-replicate mostFunctions f 0 0 (omega (arith, h, few))))
 
--- src/lib.rt:43:18
+first-calls-requires : tie.Need-first-calls-requires
+first-calls-requires c κs = search needs
+
+order-calls-requires : tie.Need-order-calls-requires
+order-calls-requires c κs = search needs
+
 first-formals-requires : tie.Need-first-formals-requires
 first-formals-requires c κs = search needs
 
--- src/lib.rt:45:74
-slice-aggregate-put-file : tie.Need-slice-aggregate-put-file
-slice-aggregate-put-file c = search needs
+write-requires : tie.Need-write-requires
+write-requires c κs = search needs
 
--- src/lib.rt:45:9
-put-file-requires : tie.Need-put-file-requires
-put-file-requires c κs = search needs
-
--- src/lib.rt:47:9
-returns : tie.Need-returns
-returns c = output-short _ _ _ _ (c .before .before .before .before .before .before .before .before .before .before .pre) _ _ _ _ ((c .before .before .put-file) .ensures) ((c .if1) .taken)
-
--- src/lib.rt:52:5
-put-file-requires-2 : tie.Need-put-file-requires-2
-put-file-requires-2 c κs = search needs
-
--- src/lib.rt:38:1
 same-length : tie.Need-same-length
 same-length c = search needs
 
--- src/lib.rt:38:1
-returns-2 : tie.Need-returns-2
-returns-2 c = output-written _ _ _ _ (c .before .before .before .before .before .before .before .before .before .before .before .before .before .before .before .before .pre) _ _ _ _ _ _ ((c .before .before .before .before .before .before .before .before .put-file) .ensures) ((c .before .before .before .before .before .before .if1) .left) ((c .before .before .put-file2) .ensures)
+returns : tie.Need-returns
+returns c = search needs
 
 pub translate-accepted-spec : {M : Type 1} → statement M
 translate-accepted-spec =
     tie.close
     (tie.spec
-    callees-requires
+    label-nodes-requires
+    first-calls-requires
+    order-calls-requires
     first-formals-requires
-    slice-aggregate-put-file
-    put-file-requires
-    returns
-    put-file-requires-2
+    write-requires
     same-length
-    returns-2)
+    returns)

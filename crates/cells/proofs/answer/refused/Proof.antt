@@ -6,7 +6,6 @@ use Rattle.cells.proofs.answer.refused.Tie as tie
 use Rattle.cells.proofs.answer.refused.Reads as reads
 use Rattle.cells.proofs.answer.refused.Lts as lts
 
--- src/answers.rt:40:1
 returns : tie.Need-returns
 returns c = refusal-is _ _
 

@@ -47,7 +47,29 @@ same-length : tie.Need-same-length
 same-length c = search needs
 
 returns-2 : tie.Need-returns-2
-returns-2 c = record-written _ _ _ (c .before .before .before .before .before .before .before .before .before .before .before .before .before .before .before .before .before .before .before .before .before .before .before .before .before .before .before .before .before .before .before .before .before .before .before .before .if1 .left) (record-bytes (c .before .before .before .before .before .before .before .before .before .before .before .before .before .before .before .before .before .before .before .before .before .before .before .before .before .before .before .before .before .before .before .before .before .before .before .before .before .before .args .a) _ _ _ _ _ _ _ _ _ _ _ _ _ (c .before .before .before .before .before .before .before .before .before .before .before .before .before .before .before .before .before .before .before .before .before .before .before .before .before .before .outcome-of .ensures) (c .before .before .before .before .before .before .before .before .before .before .before .before .before .before .before .before .before .before .before .before .before .value-bits .ensures) (c .before .before .before .before .before .before .before .before .before .before .before .before .node-of .ensures) (c .before .before .before .before .before .before .before .context-of .ensures) (c .before .before .before .before .before .before .before .before .before .before .before .before .before .before .before .before .before .before .before .before .before .before .before .before .before .before .before .before .before .before .before .before .before .before .put-word .ensures) (c .before .before .before .before .before .before .before .before .before .before .before .before .before .before .before .before .before .before .before .before .before .before .before .before .before .before .before .before .before .before .put-word2 .ensures) (c .before .before .before .before .before .before .before .before .before .before .before .before .before .before .before .before .before .before .before .before .before .before .before .before .before .put-word3 .ensures) (c .before .before .before .before .before .before .before .before .before .before .before .before .before .before .before .before .before .before .before .before .put-word32 .ensures) (c .before .before .before .before .before .before .before .before .before .before .before .before .before .before .before .before .put-word322 .ensures) (c .before .before .before .before .before .before .before .before .before .before .before .put-word4 .ensures) (c .before .before .before .before .before .before .put-word5 .ensures) (c .before .before .put-word6 .ensures))
+returns-2 c =
+    let args = c .before .before .before .before .before .before .before .before .before .before .before .before .before .before .before .before .before .before .before .before .before .before .before .before .before .before .before .before .before .before .before .before .before .before .before .before .before .before .args in
+    let if1 = c .before .before .before .before .before .before .before .before .before .before .before .before .before .before .before .before .before .before .before .before .before .before .before .before .before .before .before .before .before .before .before .before .before .before .before .before .if1 in
+    let put-word =
+    c .before .before .before .before .before .before .before .before .before .before .before .before .before .before .before .before .before .before .before .before .before .before .before .before .before .before .before .before .before .before .before .before .before .before .put-word in
+    let put-word2 =
+    c .before .before .before .before .before .before .before .before .before .before .before .before .before .before .before .before .before .before .before .before .before .before .before .before .before .before .before .before .before .before .put-word2 in
+    let outcome-of =
+    c .before .before .before .before .before .before .before .before .before .before .before .before .before .before .before .before .before .before .before .before .before .before .before .before .before .before .outcome-of in
+    let put-word3 =
+    c .before .before .before .before .before .before .before .before .before .before .before .before .before .before .before .before .before .before .before .before .before .before .before .before .before .put-word3 in
+    let value-bits =
+    c .before .before .before .before .before .before .before .before .before .before .before .before .before .before .before .before .before .before .before .before .before .value-bits in
+    let put-word32 =
+    c .before .before .before .before .before .before .before .before .before .before .before .before .before .before .before .before .before .before .before .before .put-word32 in
+    let put-word322 = c .before .before .before .before .before .before .before .before .before .before .before .before .before .before .before .before .put-word322 in
+    let node-of = c .before .before .before .before .before .before .before .before .before .before .before .before .node-of in
+    let put-word4 = c .before .before .before .before .before .before .before .before .before .before .before .put-word4 in
+    let context-of = c .before .before .before .before .before .before .before .context-of in
+    let put-word5 = c .before .before .before .before .before .before .put-word5 in
+    let put-word6 = c .before .before .put-word6 in
+    record-written _ _ _ (if1 .left) (record-bytes (args .a) _ _ _ _ _ _ _ _ _ _ _ _ _ (outcome-of .ensures) (value-bits .ensures) (node-of .ensures) (context-of .ensures)
+    (put-word .ensures) (put-word2 .ensures) (put-word3 .ensures) (put-word32 .ensures) (put-word322 .ensures) (put-word4 .ensures) (put-word5 .ensures) (put-word6 .ensures))
 
 pub write-answer-spec : {M : Type 1} → statement M
 write-answer-spec =

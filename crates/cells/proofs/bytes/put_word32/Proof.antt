@@ -26,7 +26,10 @@ same-length : tie.Need-same-length
 same-length c = search needs
 
 returns : tie.Need-returns
-returns c = word32-written _ _ _ _ _ (c .before .before .before .before .before .before .before .put-word .ensures) (c .before .before .put-word2 .ensures)
+returns c =
+    let put-word = c .before .before .before .before .before .before .before .put-word in
+    let put-word2 = c .before .before .put-word2 in
+    word32-written _ _ _ _ _ (put-word .ensures) (put-word2 .ensures)
 
 same-length-2 : tie.Need-same-length-2
 same-length-2 c = search needs

@@ -4,85 +4,73 @@ use borrow.Author.Needs.{needs}
 use Rattle.cells.proofs.cell.cell_at.Statement.{statement}
 use Rattle.cells.proofs.cell.cell_at.Tie as tie
 
--- src/cell.rt:62:19
 wide-requires : tie.Need-wide-requires
 wide-requires c κs = search needs
 
--- src/cell.rt:62:15
 mul-end : tie.Need-mul-end
 mul-end c = search needs
 
--- src/cell.rt:65:22
 sub-at : tie.Need-sub-at
 sub-at c = search needs
 
--- src/cell.rt:66:34
 shared-slice-read-field-of : tie.Need-shared-slice-read-field-of
 shared-slice-read-field-of c = search needs
 
--- src/cell.rt:66:51
 add-field-of : tie.Need-add-field-of
 add-field-of c = search needs
 
--- src/cell.rt:66:45
 shared-slice-read-field-of-2 : tie.Need-shared-slice-read-field-of-2
 shared-slice-read-field-of-2 c = search needs
 
--- src/cell.rt:66:17
 field-of-requires : tie.Need-field-of-requires
 field-of-requires c κs = search needs
 
--- src/cell.rt:67:43
 add-field-of-2 : tie.Need-add-field-of-2
 add-field-of-2 c = search needs
 
--- src/cell.rt:67:37
 shared-slice-read-field-of-3 : tie.Need-shared-slice-read-field-of-3
 shared-slice-read-field-of-3 c = search needs
 
--- src/cell.rt:67:58
 add-field-of-3 : tie.Need-add-field-of-3
 add-field-of-3 c = search needs
 
--- src/cell.rt:67:52
 shared-slice-read-field-of-4 : tie.Need-shared-slice-read-field-of-4
 shared-slice-read-field-of-4 c = search needs
 
--- src/cell.rt:67:17
 field-of-requires-2 : tie.Need-field-of-requires-2
 field-of-requires-2 c κs = search needs
 
--- src/cell.rt:68:13
 pair-of-requires : tie.Need-pair-of-requires
 pair-of-requires c κs = search needs
 
--- src/cell.rt:68:13
 returns : tie.Need-returns
-returns c = cell-by-bytes _ _ _ _ _ _ (c .before .before .before .before .before .before .before .before .before .wide .ensures .0) (c .before .before .before .before .before .before .before .before .if1 .taken) (c .before .before .before .before .field-of .ensures) (c .before .field-of2 .ensures) (c .pair-of .ensures)
+returns c =
+    let wide = c .before .before .before .before .before .before .before .before .before .wide in
+    let if1 = c .before .before .before .before .before .before .before .before .if1 in
+    let field-of = c .before .before .before .before .field-of in
+    cell-by-bytes _ _ _ _ _ _ (wide .ensures .0) (if1 .taken) (field-of .ensures) (c .before .field-of2 .ensures) (c .pair-of .ensures)
 
--- src/cell.rt:71:29
 wide-requires-2 : tie.Need-wide-requires-2
 wide-requires-2 c κs = search needs
 
--- src/cell.rt:71:13
 label-at-requires : tie.Need-label-at-requires
 label-at-requires c κs = search needs
 
--- src/cell.rt:71:58
 wide-requires-3 : tie.Need-wide-requires-3
 wide-requires-3 c κs = search needs
 
--- src/cell.rt:71:39
 previous-at-requires : tie.Need-previous-at-requires
 previous-at-requires c κs = search needs
 
--- src/cell.rt:71:5
 pair-of-requires-2 : tie.Need-pair-of-requires-2
 pair-of-requires-2 c κs = search needs
 
--- src/cell.rt:59:1
 returns-2 : tie.Need-returns-2
-returns-2 c = cell-by-fields _ _ _ _ _ _ _ (c .before .before .before .before .wide2 .ensures .0) (c .before .before .wide3 .ensures .0) (c .before .before .before .label-at .ensures) (c .before .previous-at .ensures) (c .pair-of2 .ensures)
+returns-2 c =
+    let wide2 = c .before .before .before .before .wide2 in
+    let label-at = c .before .before .before .label-at in
+    let wide3 = c .before .before .wide3 in
+    cell-by-fields _ _ _ _ _ _ _ (wide2 .ensures .0) (wide3 .ensures .0) (label-at .ensures) (c .before .previous-at .ensures) (c .pair-of2 .ensures)
 
 pub cell-at-spec : {M : Type 1} → statement M
 cell-at-spec =

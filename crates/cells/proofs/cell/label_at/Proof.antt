@@ -14,7 +14,9 @@ word-requires : tie.Need-word-requires
 word-requires c κs = search needs
 
 returns : tie.Need-returns
-returns c = label-read _ _ _ (c .before .before .index .ensures) _ (c .word .ensures)
+returns c =
+    let index = c .before .before .index in
+    label-read _ _ _ (index .ensures) _ (c .word .ensures)
 
 returns-2 : tie.Need-returns-2
 returns-2 c = label-past _ _ _ (c .before .index .ensures) (c .if1 .left)

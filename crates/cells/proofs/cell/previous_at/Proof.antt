@@ -20,7 +20,9 @@ word-requires : tie.Need-word-requires
 word-requires c κs = search needs
 
 returns : tie.Need-returns
-returns c = previous-read _ _ _ (c .before .before .before .index .ensures) _ (c .word .ensures)
+returns c =
+    let index = c .before .before .before .index in
+    previous-read _ _ _ (index .ensures) _ (c .word .ensures)
 
 returns-2 : tie.Need-returns-2
 returns-2 c = previous-past _ _ _ (c .before .before .index .ensures) (search needs)

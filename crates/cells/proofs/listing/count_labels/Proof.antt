@@ -14,7 +14,9 @@ loop-holds : tie.Need-loop-holds Inv-loop μ-loop
 loop-holds c = count-none _ _
 
 returns : tie.Need-returns Inv-loop μ-loop
-returns c = counted-beyond _ _ _ _ _ (c .before .before .loop .inv) (c .before .loop-test .taken) (c .if1 .taken)
+returns c =
+    let loop = c .before .before .loop in
+    counted-beyond _ _ _ _ _ (loop .inv) (c .before .loop-test .taken) (c .if1 .taken)
 
 previous-at-requires : tie.Need-previous-at-requires Inv-loop μ-loop
 previous-at-requires c κs = search needs
@@ -23,7 +25,11 @@ wide-requires : tie.Need-wide-requires Inv-loop μ-loop
 wide-requires c κs = search needs
 
 returns-2 : tie.Need-returns-2 Inv-loop μ-loop
-returns-2 c = counted-back _ _ _ _ _ (c .before .before .before .before .before .loop .inv) _ _ (c .before .before .before .before .loop-test .taken) (c .before .before .previous-at .ensures) (c .before .wide .ensures .0) (c .if2 .taken)
+returns-2 c =
+    let loop = c .before .before .before .before .before .loop in
+    let loop-test = c .before .before .before .before .loop-test in
+    let previous-at = c .before .before .previous-at in
+    counted-back _ _ _ _ _ (loop .inv) _ _ (loop-test .taken) (previous-at .ensures) (c .before .wide .ensures .0) (c .if2 .taken)
 
 add-n : tie.Need-add-n Inv-loop μ-loop
 add-n c = search needs
@@ -32,7 +38,12 @@ loop-less : tie.Need-loop-less Inv-loop μ-loop
 loop-less c = search needs
 
 loop-again : tie.Need-loop-again Inv-loop μ-loop
-loop-again c = count-more _ _ _ _ _ (c .before .before .before .before .before .loop .inv) _ _ (c .before .before .before .before .loop-test .taken) (c .before .before .before .if1 .left) (c .before .before .previous-at .ensures) (c .before .wide .ensures .0) (c .if2 .left)
+loop-again c =
+    let loop = c .before .before .before .before .before .loop in
+    let loop-test = c .before .before .before .before .loop-test in
+    let if1 = c .before .before .before .if1 in
+    let previous-at = c .before .before .previous-at in
+    count-more _ _ _ _ _ (loop .inv) _ _ (loop-test .taken) (if1 .left) (previous-at .ensures) (c .before .wide .ensures .0) (c .if2 .left)
 
 returns-3 : tie.Need-returns-3 Inv-loop μ-loop
 returns-3 c = counted-all _ _ _ _ _ (c .before .loop .inv) (c .loop-test .left)

@@ -14,19 +14,32 @@ enum-told : tie.Need-enum-told
 enum-told c = search needs
 
 returns : tie.Need-returns
-returns c = walk-refused _ _ _ _ _ _ (c .before .before .count-labels .ensures) (c .enum-told .given .1)
+returns c =
+    let count-labels = c .before .before .count-labels in
+    walk-refused _ _ _ _ _ _ (count-labels .ensures) (c .enum-told .given .1)
 
 returns-2 : tie.Need-returns-2
-returns-2 c = output-short _ _ _ _ _ (c .before .before .before .before .count-labels .ensures) (c .before .before .counted .given .1) (c .if1 .taken)
+returns-2 c =
+    let count-labels = c .before .before .before .before .count-labels in
+    let counted = c .before .before .counted in
+    output-short _ _ _ _ _ (count-labels .ensures) (counted .given .1) (c .if1 .taken)
 
 write-labels-requires : tie.Need-write-labels-requires
-write-labels-requires c κs = listable _ _ _ _ _ (c .before .before .before .before .before .count-labels .ensures) (c .before .before .before .counted .given .1) (c .before .if1 .left)
+write-labels-requires c κs =
+    let count-labels = c .before .before .before .before .before .count-labels in
+    let counted = c .before .before .before .counted in
+    listable _ _ _ _ _ (count-labels .ensures) (counted .given .1) (c .before .if1 .left)
 
 same-length : tie.Need-same-length
 same-length c = search needs
 
 returns-3 : tie.Need-returns-3
-returns-3 c = listed-whole _ _ _ _ _ _ (c .before .before .before .before .before .before .before .before .count-labels .ensures) (c .before .before .before .before .before .before .counted .given .1) (c .before .before .before .before .if1 .left) (c .before .before .write-labels .ensures)
+returns-3 c =
+    let count-labels = c .before .before .before .before .before .before .before .before .count-labels in
+    let counted = c .before .before .before .before .before .before .counted in
+    let if1 = c .before .before .before .before .if1 in
+    let write-labels = c .before .before .write-labels in
+    listed-whole _ _ _ _ _ _ (count-labels .ensures) (counted .given .1) (if1 .left) (write-labels .ensures)
 
 pub list-context-spec : {M : Type 1} → statement M
 list-context-spec =

@@ -12,7 +12,9 @@ abbrev μ-loop : tie.MeasureT-loop
 μ-loop cells c count out₀ at₀ i₀ out at i = count - i
 
 loop-holds : tie.Need-loop-holds Inv-loop μ-loop
-loop-holds c = write-none _ _ _ _ _ (c .before .before .pre)
+loop-holds c =
+    let pre = c .before .before .pre in
+    write-none _ _ _ _ _ (pre)
 
 mul-put-word : tie.Need-mul-put-word Inv-loop μ-loop
 mul-put-word c = search needs
@@ -36,7 +38,12 @@ loop-less : tie.Need-loop-less Inv-loop μ-loop
 loop-less c = search needs
 
 loop-again : tie.Need-loop-again Inv-loop μ-loop
-loop-again c = write-more _ _ _ _ _ _ _ (c .before .before .before .before .before .before .before .before .loop .inv) _ _ _ _ (c .before .before .before .before .before .before .before .loop-test .taken) (c .before .before .before .before .before .label-at .ensures) (c .before .previous-at .ensures) (c .wide .ensures .0) (c .before .before .before .before .put-word .ensures)
+loop-again c =
+    let loop = c .before .before .before .before .before .before .before .before .loop in
+    let loop-test = c .before .before .before .before .before .before .before .loop-test in
+    let label-at = c .before .before .before .before .before .label-at in
+    let put-word = c .before .before .before .before .put-word in
+    write-more _ _ _ _ _ _ _ (loop .inv) _ _ _ _ (loop-test .taken) (label-at .ensures) (c .before .previous-at .ensures) (c .wide .ensures .0) (put-word .ensures)
 
 same-length : tie.Need-same-length Inv-loop μ-loop
 same-length c = search needs

@@ -1,7 +1,5 @@
 -- `file_fields::bytes::byte` meets its contract: a byte that is there is read, and past the end the definition reads 0.
 use Rattle.laws.proofs.Bytes.{byte-past}
-use mathlib.Core.Path.{refl, sym}
-use lib.ListN.{List·getD-eq-default}
 use native.Mathlib.Omega.{arith}
 use borrow.Author.Needs.{needs}
 use Rattle.file_fields.proofs.bytes.byte.Statement.{statement}
@@ -11,7 +9,9 @@ shared-slice-read-result : tie.Need-shared-slice-read-result
 shared-slice-read-result c = search needs
 
 cast-result : tie.Need-cast-result
-cast-result c = omega (arith, c .shared-slice-known .given (c .before .before .args .at))
+cast-result c =
+    let args = c .before .before .args in
+    omega (arith, c .shared-slice-known .given (args .at))
 
 returns : tie.Need-returns
 returns c = (search needs, omega (arith, c .shared-slice-known .given (c .before .before .args .at)))

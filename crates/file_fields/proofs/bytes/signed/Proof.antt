@@ -3,7 +3,6 @@ use mir.Syntax.{w64}
 use mir.ValLaws.{toZ-ofZ}
 use Rattle.laws.proofs.Bytes.{wide-fits, high-fits, signed-low, signed-high}
 use native.Mathlib.Omega.{arith}
-use Rattle.definitions.specs.Bytes.{signed}
 use borrow.Author.Needs.{needs}
 use Rattle.file_fields.proofs.bytes.signed.Statement.{statement}
 use Rattle.file_fields.proofs.bytes.signed.Tie as tie

@@ -1,6 +1,6 @@
 -- `file_fields::bytes::word32` meets its contract: where the upper half is past the end, the lower half is the whole.
 use Rattle.laws.proofs.Bytes.{word32-words, word32-low}
-use Rattle.definitions.specs.Bytes.{word32, word}
+use Rattle.definitions.specs.Bytes.{word}
 use borrow.Author.Needs.{needs}
 use Rattle.file_fields.proofs.bytes.word32.Statement.{statement}
 use Rattle.file_fields.proofs.bytes.word32.Tie as tie
@@ -30,7 +30,9 @@ add-result : tie.Need-add-result
 add-result c = search needs
 
 returns : tie.Need-returns
-returns c = word32-words _ _ _ _ (c .before .before .before .word .ensures) (c .word2 .ensures)
+returns c =
+    let word = c .before .before .before .word in
+    word32-words _ _ _ _ (word .ensures) (c .word2 .ensures)
 
 returns-2 : tie.Need-returns-2
 returns-2 c = word32-low _ _ _ (search needs) (c .before .before .word .ensures)

@@ -10,9 +10,6 @@ head-kind-requires c κs = search needs
 returns : tie.Need-returns
 returns c = search due-head
 
-first-node-requires : tie.Need-first-node-requires
-first-node-requires c κs = search needs
-
 section-kind-requires : tie.Need-section-kind-requires
 section-kind-requires c κs = search needs
 
@@ -34,7 +31,6 @@ is-due-spec =
     (tie.spec
     head-kind-requires
     returns
-    first-node-requires
     section-kind-requires
     returns-2
     node-kind-requires

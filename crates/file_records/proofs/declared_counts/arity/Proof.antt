@@ -14,7 +14,9 @@ field-requires : tie.Need-field-requires
 field-requires c κs = search needs
 
 returns : tie.Need-returns
-returns c = shown-field _ _ _ _ _ _ _ (c .before .before .first-item .ensures .0) (c .before .indexed-from .ensures) (c .field .ensures)
+returns c =
+    let first-item = c .before .before .first-item in
+    shown-field _ _ _ _ _ _ _ (first-item .ensures .0) (c .before .indexed-from .ensures) (c .field .ensures)
 
 pub arity-spec : {M : Type 1} → statement M
 arity-spec = tie.close (tie.spec first-item-requires indexed-from-requires field-requires returns)

@@ -14,7 +14,9 @@ field-requires : tie.Need-field-requires
 field-requires c κs = search needs
 
 returns : tie.Need-returns
-returns c = shown-field _ _ _ _ _ _ _ (c .before .before .first-function .ensures .0) (c .before .indexed-from .ensures) (c .field .ensures)
+returns c =
+    let first-function = c .before .before .first-function in
+    shown-field _ _ _ _ _ _ _ (first-function .ensures .0) (c .before .indexed-from .ensures) (c .field .ensures)
 
 pub parameters-spec : {M : Type 1} → statement M
 parameters-spec =

@@ -12,7 +12,9 @@ record-at-requires : tie.Need-record-at-requires
 record-at-requires c κs = search needs
 
 returns : tie.Need-returns
-returns c = c .record-at .ensures ∙ ap (recordAt (c .before .before .before .args .b .now)) (c .before .start-in .ensures .0)
+returns c =
+    let args = c .before .before .before .args in
+    c .record-at .ensures ∙ ap (recordAt (args .b .now)) (c .before .start-in .ensures .0)
 
 pub indexed-spec : {M : Type 1} → statement M
 indexed-spec = tie.close (tie.spec start-in-requires record-at-requires returns)

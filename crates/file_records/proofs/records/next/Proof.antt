@@ -1,5 +1,5 @@
 -- `file_records::records::next` meets its contract: a whole record ends inside the file, so the sum fits.
-use Rattle.laws.proofs.Records.{next-whole, next-none, whole-is, whole-inside}
+use Rattle.laws.proofs.Records.{next-whole, next-none, whole-inside}
 use native.Mathlib.Omega.{arith}
 use borrow.Author.Needs.{needs}
 use Rattle.file_records.proofs.records.next.Statement.{statement}
@@ -15,10 +15,15 @@ cast-result : tie.Need-cast-result
 cast-result c = search needs
 
 add-result : tie.Need-add-result
-add-result c = omega (arith, c .before .before .before .before .good, whole-inside _ _ _ _ (c .before .before .is-whole .ensures) (c .before .if1 .taken) (c .word .ensures))
+add-result c =
+    let good = c .before .before .before .before .good in
+    let is-whole = c .before .before .is-whole in
+    omega (arith, good, whole-inside _ _ _ _ (is-whole .ensures) (c .before .if1 .taken) (c .word .ensures))
 
 returns : tie.Need-returns
-returns c = next-whole _ _ _ _ (c .before .before .is-whole .ensures) (c .before .if1 .taken) (c .word .ensures)
+returns c =
+    let is-whole = c .before .before .is-whole in
+    next-whole _ _ _ _ (is-whole .ensures) (c .before .if1 .taken) (c .word .ensures)
 
 returns-2 : tie.Need-returns-2
 returns-2 c = next-none _ _ _ (c .before .is-whole .ensures) (c .if1 .left)

@@ -13,7 +13,9 @@ record-at-requires c κs = search needs
 
 returns : tie.Need-returns
 unfolding recordOf
-returns c = c .record-at .ensures ∙ ap (recordAt (c .before .before .before .args .b .now)) (c .before .start .ensures)
+returns c =
+    let args = c .before .before .before .args in
+    c .record-at .ensures ∙ ap (recordAt (args .b .now)) (c .before .start .ensures)
 
 pub record-spec : {M : Type 1} → statement M
 record-spec = tie.close (tie.spec start-requires record-at-requires returns)

@@ -30,7 +30,9 @@ loop-again : tie.Need-loop-again Inv-loop μ-loop
 loop-again c = (search needs, c .next .ensures ∙ start-next _ _ _ (c .before .before .loop .inv .1))
 
 returns : tie.Need-returns Inv-loop μ-loop
-returns c = c .before .loop .inv .1 ∙ ap (startOf (c .before .before .before .args .b .now)) (omega arith)
+returns c =
+    let args = c .before .before .before .args in
+    c .before .loop .inv .1 ∙ ap (startOf (args .b .now)) (omega arith)
 
 pub start-spec : {M : Type 1} → statement M
 start-spec =

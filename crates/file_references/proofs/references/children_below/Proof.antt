@@ -1,60 +1,77 @@
--- `file_references::references::children_below` meets its contract. The loop's invariant: every node named so far is below the limit.
-use Rattle.laws.proofs.Tests.{Each, each-none, each-more, each-fails, each-all, below-test, below-not}
-use Rattle.definitions.specs.References.{children, child}
-use Rattle.definitions.specs.Lists.{allOf}
-use lib.Dec.{ltb}
+-- `file_references::references::children_below` meets its contract: the tests of the kind in the definition's order, then the fields that it names.
+use Rattle.laws.proofs.References.{below-other, below-first, below-second, below-none}
 use mathlib.Core.Bool.{true}
-use mathlib.Core.Path.{_≡_, sym, _∙_}
-use Prim.Native.Nat.{_≤_, _-_}
 use borrow.Author.Needs.{needs}
 use Rattle.file_references.proofs.references.children_below.Statement.{statement}
 use Rattle.file_references.proofs.references.children_below.Tie as tie
 
-abbrev Inv-loop : tie.InvT-loop
-Inv-loop rec limit count j₀ j = (j ≤ count) × (count ≡ children rec) × Each j (λ i. ltb (child rec i) limit)
+kind-requires : tie.Need-kind-requires
+kind-requires c κs = search needs
 
-abbrev μ-loop : tie.MeasureT-loop
-μ-loop rec limit count j₀ j = count - j
+every-other-requires : tie.Need-every-other-requires
+every-other-requires c κs = search needs
 
-children-requires : tie.Need-children-requires Inv-loop μ-loop
-children-requires c κs = search needs
+other-fields-below-requires : tie.Need-other-fields-below-requires
+other-fields-below-requires c κs = search needs
 
-loop-holds : tie.Need-loop-holds Inv-loop μ-loop
-loop-holds c = (search needs, c .children .ensures, each-none _)
+returns : tie.Need-returns
+returns c =
+    let kind = c .before .before .before .kind in
+    let every-other = c .before .before .every-other in
+    below-other _ _ _ (kind .ensures) _ _ (every-other .ensures) (c .before .if1 .taken) (c .other-fields-below .ensures)
 
-child-requires : tie.Need-child-requires Inv-loop μ-loop
-child-requires c κs = search needs
+from-first-requires : tie.Need-from-first-requires
+from-first-requires c κs = search needs
 
-cast-if1 : tie.Need-cast-if1 Inv-loop μ-loop
-cast-if1 c = search needs
+fields-below-requires : tie.Need-fields-below-requires
+fields-below-requires c κs = search needs
 
-returns : tie.Need-returns Inv-loop μ-loop
-returns c = each-fails _ _ _ _ (c .before .before .before .loop .inv .1) (c .before .before .loop-test .taken) (below-not _ _ _ (c .before .child .ensures) (c .if1 .taken))
+returns-2 : tie.Need-returns-2
+returns-2 c =
+    let kind = c .before .before .before .before .before .kind in
+    let every-other = c .before .before .before .before .every-other in
+    let if1 = c .before .before .before .if1 in
+    let from-first = c .before .before .from-first in
+    below-first _ _ _ (kind .ensures) _ _ (every-other .ensures) (if1 .left) _ (from-first .ensures) (c .before .if2 .taken) (c .fields-below .ensures)
 
-add-j : tie.Need-add-j Inv-loop μ-loop
-add-j c = search needs
+from-second-requires : tie.Need-from-second-requires
+from-second-requires c κs = search needs
 
-loop-less : tie.Need-loop-less Inv-loop μ-loop
-loop-less c = search needs
+fields-below-requires-2 : tie.Need-fields-below-requires-2
+fields-below-requires-2 c κs = search needs
 
-loop-again : tie.Need-loop-again Inv-loop μ-loop
-loop-again c = (search needs, c .before .before .before .loop .inv .1, each-more _ _ (c .before .before .before .loop .inv .2) (below-test _ _ _ (c .before .child .ensures) (c .if1 .left)))
+returns-3 : tie.Need-returns-3
+returns-3 c =
+    let kind = c .before .before .before .before .before .before .before .kind in
+    let every-other = c .before .before .before .before .before .before .every-other in
+    let if1 = c .before .before .before .before .before .if1 in
+    let from-first = c .before .before .before .before .from-first in
+    let if2 = c .before .before .before .if2 in
+    let from-second = c .before .before .from-second in
+    below-second _ _ _ (kind .ensures) _ _ (every-other .ensures) (if1 .left) _ (from-first .ensures) (if2 .left) _ (from-second .ensures)
+    (c .before .if3 .taken) (c .fields-below2 .ensures)
 
-returns-2 : tie.Need-returns-2 Inv-loop μ-loop
-returns-2 c = each-all _ _ _ _ (c .before .loop .inv .1) (c .before .loop .inv .0) (c .loop-test .left) (c .before .loop .inv .2)
+returns-4 : tie.Need-returns-4
+returns-4 c =
+    let kind = c .before .before .before .before .before .before .kind in
+    let every-other = c .before .before .before .before .before .every-other in
+    let if1 = c .before .before .before .before .if1 in
+    let from-first = c .before .before .before .from-first in
+    let if2 = c .before .before .if2 in
+    below-none _ _ _ (kind .ensures) true _ (every-other .ensures) (if1 .left) _ (from-first .ensures) (if2 .left) _ (c .before .from-second .ensures) (c .if3 .left)
 
 pub children-below-spec : {M : Type 1} → statement M
 children-below-spec =
     tie.close
     (tie.spec
-    Inv-loop
-    μ-loop
-    children-requires
-    loop-holds
-    child-requires
-    cast-if1
+    kind-requires
+    every-other-requires
+    other-fields-below-requires
     returns
-    add-j
-    loop-less
-    loop-again
-    returns-2)
+    from-first-requires
+    fields-below-requires
+    returns-2
+    from-second-requires
+    fields-below-requires-2
+    returns-3
+    returns-4)

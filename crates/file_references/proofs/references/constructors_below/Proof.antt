@@ -1,11 +1,10 @@
 -- `file_references::references::constructors_below` meets its contract. The loop's invariant: every constructor so far is below the limit.
 use Rattle.laws.proofs.Tests.{Each, each-none, each-more, each-fails, each-all, below-test, below-not}
 use Rattle.definitions.specs.References.{clauses, clauseConstructor}
-use Rattle.definitions.specs.Lists.{allOf}
 use lib.Dec.{ltb}
-use mathlib.Core.Bool.{true}
-use mathlib.Core.Path.{_≡_, sym, _∙_}
+use mathlib.Core.Path.{_≡_}
 use Prim.Native.Nat.{_≤_, _-_}
+use native.Mathlib.Omega.{arith}
 use borrow.Author.Needs.{needs}
 use Rattle.file_references.proofs.references.constructors_below.Statement.{statement}
 use Rattle.file_references.proofs.references.constructors_below.Tie as tie
@@ -29,7 +28,10 @@ cast-if1 : tie.Need-cast-if1 Inv-loop μ-loop
 cast-if1 c = search needs
 
 returns : tie.Need-returns Inv-loop μ-loop
-returns c = each-fails _ _ _ _ (c .before .before .before .loop .inv .1) (c .before .before .loop-test .taken) (below-not _ _ _ (c .before .clause-constructor .ensures) (c .if1 .taken))
+returns c =
+    let loop = c .before .before .before .loop in
+    let loop-test = c .before .before .loop-test in
+    each-fails _ _ _ _ (loop .inv .1) (loop-test .taken) (below-not _ _ _ (c .before .clause-constructor .ensures) (c .if1 .taken))
 
 add-j : tie.Need-add-j Inv-loop μ-loop
 add-j c = search needs
@@ -38,10 +40,14 @@ loop-less : tie.Need-loop-less Inv-loop μ-loop
 loop-less c = search needs
 
 loop-again : tie.Need-loop-again Inv-loop μ-loop
-loop-again c = (search needs, c .before .before .before .loop .inv .1, each-more _ _ (c .before .before .before .loop .inv .2) (below-test _ _ _ (c .before .clause-constructor .ensures) (c .if1 .left)))
+loop-again c =
+    let loop = c .before .before .before .loop in
+    (omega arith, loop .inv .1, each-more _ _ (loop .inv .2) (below-test _ _ _ (c .before .clause-constructor .ensures) (c .if1 .left)))
 
 returns-2 : tie.Need-returns-2 Inv-loop μ-loop
-returns-2 c = each-all _ _ _ _ (c .before .loop .inv .1) (c .before .loop .inv .0) (c .loop-test .left) (c .before .loop .inv .2)
+returns-2 c =
+    let loop = c .before .loop in
+    each-all _ _ _ _ (loop .inv .1) (loop .inv .0) (c .loop-test .left) (loop .inv .2)
 
 pub constructors-below-spec : {M : Type 1} → statement M
 constructors-below-spec =

@@ -34,7 +34,19 @@ wide-requires-2 : tie.Need-wide-requires-2
 wide-requires-2 c κs = search needs
 
 returns-2 : tie.Need-returns-2
-returns-2 c = match-call _ _ _ _ (c .before .before .before .before .before .before .before .before .first-function .ensures .0) (c .before .before .before .before .before .before .before .if1 .left) _ (c .before .before .before .before .before .before .kind .ensures) _ _ _ (c .before .before .before .before .before .if2 .taken) (c .before .before .before .before .argument-count .ensures) (c .before .before .wide .ensures .0 ∙ c .before .before .before .field2 .ensures) (c .wide2 .ensures .0 ∙ opened-parameters _ _ _ _ (c .before .before .before .before .before .before .before .before .before .before .before .pre .0) (callee-below _ _ _ _ _ (c .before .before .before .before .before .before .kind .ensures) (c .before .before .wide .ensures .0 ∙ c .before .before .before .field2 .ensures) (c .before .before .before .before .before .before .before .before .before .before .before .pre .1) (c .before .before .before .before .before .if2 .taken)) (c .before .parameters .ensures))
+returns-2 c =
+    let pre = c .before .before .before .before .before .before .before .before .before .before .before .pre in
+    let first-function = c .before .before .before .before .before .before .before .before .first-function in
+    let if1 = c .before .before .before .before .before .before .before .if1 in
+    let kind = c .before .before .before .before .before .before .kind in
+    let if2 = c .before .before .before .before .before .if2 in
+    let argument-count = c .before .before .before .before .argument-count in
+    let field2 = c .before .before .before .field2 in
+    let wide = c .before .before .wide in
+    match-call _ _ _ _ (first-function .ensures .0) (if1 .left) _ (kind .ensures) _ _ _ (if2 .taken) (argument-count .ensures)
+    (wide .ensures .0 ∙ field2 .ensures)
+    (c .wide2 .ensures .0 ∙ opened-parameters _ _ _ _ (pre .0)
+    (callee-below _ _ _ _ _ (kind .ensures) (wide .ensures .0 ∙ field2 .ensures) (pre .1) (if2 .taken)) (c .before .parameters .ensures))
 
 argument-count-requires-2 : tie.Need-argument-count-requires-2
 argument-count-requires-2 c κs = search needs
@@ -52,7 +64,19 @@ wide-requires-4 : tie.Need-wide-requires-4
 wide-requires-4 c κs = search needs
 
 returns-3 : tie.Need-returns-3
-returns-3 c = match-build _ _ _ _ (c .before .before .before .before .before .before .before .before .before .first-function .ensures .0) (c .before .before .before .before .before .before .before .before .if1 .left) _ (c .before .before .before .before .before .before .before .kind .ensures) _ _ _ (c .before .before .before .before .before .if3 .taken) (c .before .before .before .before .argument-count2 .ensures) (c .before .before .wide3 .ensures .0 ∙ c .before .before .before .field3 .ensures) (c .wide4 .ensures .0 ∙ opened-arity _ _ _ _ (c .before .before .before .before .before .before .before .before .before .before .before .before .pre .0) (constructor-below _ _ _ _ _ (c .before .before .before .before .before .before .before .kind .ensures) (c .before .before .wide3 .ensures .0 ∙ c .before .before .before .field3 .ensures) (c .before .before .before .before .before .before .before .before .before .before .before .before .pre .1) (c .before .before .before .before .before .if3 .taken)) (c .before .arity .ensures))
+returns-3 c =
+    let pre = c .before .before .before .before .before .before .before .before .before .before .before .before .pre in
+    let first-function = c .before .before .before .before .before .before .before .before .before .first-function in
+    let if1 = c .before .before .before .before .before .before .before .before .if1 in
+    let kind = c .before .before .before .before .before .before .before .kind in
+    let if3 = c .before .before .before .before .before .if3 in
+    let argument-count2 = c .before .before .before .before .argument-count2 in
+    let field3 = c .before .before .before .field3 in
+    let wide3 = c .before .before .wide3 in
+    match-build _ _ _ _ (first-function .ensures .0) (if1 .left) _ (kind .ensures) _ _ _ (if3 .taken) (argument-count2 .ensures)
+    (wide3 .ensures .0 ∙ field3 .ensures)
+    (c .wide4 .ensures .0 ∙ opened-arity _ _ _ _ (pre .0)
+    (constructor-below _ _ _ _ _ (kind .ensures) (wide3 .ensures .0 ∙ field3 .ensures) (pre .1) (if3 .taken)) (c .before .arity .ensures))
 
 returns-4 : tie.Need-returns-4
 returns-4 c = search match-other

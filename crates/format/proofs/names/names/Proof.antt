@@ -27,7 +27,9 @@ loop-holds : tie.Need-loop-holds Inv-loop μ-loop
 loop-holds c = (search needs, c .due .ensures .0, c .before .before .pre .0, c .before .before .pre .1, passed-none _)
 
 names-at-requires : tie.Need-names-at-requires Inv-loop μ-loop
-names-at-requires c κs = record { file = c .before .loop .inv .2; owned = c .before .loop .inv .3; below = omega arith }
+names-at-requires c κs =
+    let loop = c .before .loop in
+    record { file = loop .inv .2; owned = loop .inv .3; below = omega arith }
 
 enum-told : tie.Need-enum-told Inv-loop μ-loop
 enum-told c = c .match .keys1
@@ -36,7 +38,11 @@ enum-told-2 : tie.Need-enum-told-2 Inv-loop μ-loop
 enum-told-2 c = c .match .keys2
 
 returns : tie.Need-returns Inv-loop μ-loop
-returns c = passed-refused _ _ _ _ _ _ _ (c .before .before .before .before .loop .inv .1) (c .before .before .before .loop-test .taken) (c .before .before .before .before .loop .inv .4) (c .before .before .names-at .ensures) (c .enum-told2 .given .1)
+returns c =
+    let loop = c .before .before .before .before .loop in
+    let loop-test = c .before .before .before .loop-test in
+    let names-at = c .before .before .names-at in
+    passed-refused _ _ _ _ _ _ _ (loop .inv .1) (loop-test .taken) (loop .inv .4) (names-at .ensures) (c .enum-told2 .given .1)
 
 add-r : tie.Need-add-r Inv-loop μ-loop
 add-r c = search needs
@@ -45,10 +51,15 @@ loop-less : tie.Need-loop-less Inv-loop μ-loop
 loop-less c = search needs
 
 loop-again : tie.Need-loop-again Inv-loop μ-loop
-loop-again c = (search needs, c .before .before .before .before .loop .inv .1, c .before .before .before .before .loop .inv .2, c .before .before .before .before .loop .inv .3, passed-more _ _ _ (c .before .before .before .before .loop .inv .4) (c .before .before .names-at .ensures) (c .enum-told .given .1))
+loop-again c =
+    let loop = c .before .before .before .before .loop in
+    let names-at = c .before .before .names-at in
+    (omega arith, loop .inv .1, loop .inv .2, loop .inv .3, passed-more _ _ _ (loop .inv .4) (names-at .ensures) (c .enum-told .given .1))
 
 returns-2 : tie.Need-returns-2 Inv-loop μ-loop
-returns-2 c = passed-all _ _ _ _ (c .before .loop .inv .1) (c .before .loop .inv .0) (c .loop-test .left) (c .before .loop .inv .4)
+returns-2 c =
+    let loop = c .before .loop in
+    passed-all _ _ _ _ (loop .inv .1) (loop .inv .0) (c .loop-test .left) (loop .inv .4)
 
 pub names-spec : {M : Type 1} → statement M
 names-spec =

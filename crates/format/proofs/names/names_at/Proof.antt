@@ -21,22 +21,67 @@ children-below-requires : tie.Need-children-below-requires
 children-below-requires c κs = search needs
 
 returns : tie.Need-returns
-returns c = out-of-range _ _ (children-out _ _ _ _ (opened-record _ _ _ _ _ (c .before .before .before .before .before .before .pre .file) (c .before .before .before .before .before .before .pre .below) (c .before .before .before .before .indexed .ensures)) (c .before .before .wide .ensures .0 ∙ c .before .before .before .nodes .ensures) _ (c .before .children-below .ensures) (not-true _ (c .if1 .taken)))
+returns c =
+    let pre = c .before .before .before .before .before .before .pre in
+    let indexed = c .before .before .before .before .indexed in
+    let nodes = c .before .before .before .nodes in
+    let wide = c .before .before .wide in
+    out-of-range _ _ (children-out _ _ _ _ (opened-record _ _ _ _ _ (pre .file) (pre .below) (indexed .ensures))
+    (wide .ensures .0 ∙ nodes .ensures) _ (c .before .children-below .ensures) (not-true _ (c .if1 .taken)))
 
 names-in-range-requires : tie.Need-names-in-range-requires
-names-in-range-requires c κs = (c .before .before .before .before .before .before .pre, opened-record _ _ _ _ _ (c .before .before .before .before .before .before .pre .file) (c .before .before .before .before .before .before .pre .below) (c .before .before .before .before .indexed .ensures))
+names-in-range-requires c κs =
+    let pre = c .before .before .before .before .before .before .pre in
+    let indexed = c .before .before .before .before .indexed in
+    (pre, opened-record _ _ _ _ _ (pre .file) (pre .below) (indexed .ensures))
 
 returns-2 : tie.Need-returns-2
-returns-2 c = out-of-range _ _ (names-out _ _ _ _ (opened-record _ _ _ _ _ (c .before .before .before .before .before .before .before .before .pre .file) (c .before .before .before .before .before .before .before .before .pre .below) (c .before .before .before .before .before .before .indexed .ensures)) (c .before .before .before .before .wide .ensures .0 ∙ c .before .before .before .before .before .nodes .ensures) _ (c .before .before .before .children-below .ensures) (not-false _ (c .before .before .if1 .left)) _ (c .before .names-in-range .ensures) (not-true _ (c .if2 .taken)))
+returns-2 c =
+    let pre = c .before .before .before .before .before .before .before .before .pre in
+    let indexed = c .before .before .before .before .before .before .indexed in
+    let nodes = c .before .before .before .before .before .nodes in
+    let wide = c .before .before .before .before .wide in
+    let children-below = c .before .before .before .children-below in
+    let if1 = c .before .before .if1 in
+    out-of-range _ _ (names-out _ _ _ _ (opened-record _ _ _ _ _ (pre .file) (pre .below) (indexed .ensures)) (wide .ensures .0 ∙ nodes .ensures) _
+    (children-below .ensures) (not-false _ (if1 .left)) _ (c .before .names-in-range .ensures) (not-true _ (c .if2 .taken)))
 
 arguments-match-requires : tie.Need-arguments-match-requires
-arguments-match-requires c κs = (c .before .before .before .before .before .before .before .before .pre .file, sym (c .before .names-in-range .ensures) ∙ not-false _ (c .if2 .left))
+arguments-match-requires c κs =
+    let pre = c .before .before .before .before .before .before .before .before .pre in
+    (pre .file, sym (c .before .names-in-range .ensures) ∙ not-false _ (c .if2 .left))
 
 returns-3 : tie.Need-returns-3
-returns-3 c = mismatched _ _ _ (opened-record _ _ _ _ _ (c .before .before .before .before .before .before .before .before .before .before .pre .file) (c .before .before .before .before .before .before .before .before .before .before .pre .below) (c .before .before .before .before .before .before .before .before .indexed .ensures)) (all-in _ _ _ _ (opened-record _ _ _ _ _ (c .before .before .before .before .before .before .before .before .before .before .pre .file) (c .before .before .before .before .before .before .before .before .before .before .pre .below) (c .before .before .before .before .before .before .before .before .indexed .ensures)) (c .before .before .before .before .before .before .wide .ensures .0 ∙ c .before .before .before .before .before .before .before .nodes .ensures) _ (c .before .before .before .before .before .children-below .ensures) (not-false _ (c .before .before .before .before .if1 .left)) _ (c .before .before .before .names-in-range .ensures) (not-false _ (c .before .before .if2 .left))) _ (c .before .arguments-match .ensures) (not-true _ (c .if3 .taken))
+returns-3 c =
+    let pre = c .before .before .before .before .before .before .before .before .before .before .pre in
+    let indexed = c .before .before .before .before .before .before .before .before .indexed in
+    let nodes = c .before .before .before .before .before .before .before .nodes in
+    let wide = c .before .before .before .before .before .before .wide in
+    let children-below = c .before .before .before .before .before .children-below in
+    let if1 = c .before .before .before .before .if1 in
+    let names-in-range = c .before .before .before .names-in-range in
+    let if2 = c .before .before .if2 in
+    let own = opened-record _ _ _ _ _ (pre .file) (pre .below) (indexed .ensures) in
+    mismatched _ _ _ own
+    (all-in _ _ _ _ own (wide .ensures .0 ∙ nodes .ensures) _
+    (children-below .ensures) (not-false _ (if1 .left)) _ (names-in-range .ensures) (not-false _ (if2 .left))) _
+    (c .before .arguments-match .ensures) (not-true _ (c .if3 .taken))
 
 returns-4 : tie.Need-returns-4
-returns-4 c = matched _ _ _ (opened-record _ _ _ _ _ (c .before .before .before .before .before .before .before .before .before .before .pre .file) (c .before .before .before .before .before .before .before .before .before .before .pre .below) (c .before .before .before .before .before .before .before .before .indexed .ensures)) (all-in _ _ _ _ (opened-record _ _ _ _ _ (c .before .before .before .before .before .before .before .before .before .before .pre .file) (c .before .before .before .before .before .before .before .before .before .before .pre .below) (c .before .before .before .before .before .before .before .before .indexed .ensures)) (c .before .before .before .before .before .before .wide .ensures .0 ∙ c .before .before .before .before .before .before .before .nodes .ensures) _ (c .before .before .before .before .before .children-below .ensures) (not-false _ (c .before .before .before .before .if1 .left)) _ (c .before .before .before .names-in-range .ensures) (not-false _ (c .before .before .if2 .left))) _ (c .before .arguments-match .ensures) (not-false _ (c .if3 .left))
+returns-4 c =
+    let pre = c .before .before .before .before .before .before .before .before .before .before .pre in
+    let indexed = c .before .before .before .before .before .before .before .before .indexed in
+    let nodes = c .before .before .before .before .before .before .before .nodes in
+    let wide = c .before .before .before .before .before .before .wide in
+    let children-below = c .before .before .before .before .before .children-below in
+    let if1 = c .before .before .before .before .if1 in
+    let names-in-range = c .before .before .before .names-in-range in
+    let if2 = c .before .before .if2 in
+    let own = opened-record _ _ _ _ _ (pre .file) (pre .below) (indexed .ensures) in
+    matched _ _ _ own
+    (all-in _ _ _ _ own (wide .ensures .0 ∙ nodes .ensures) _
+    (children-below .ensures) (not-false _ (if1 .left)) _ (names-in-range .ensures) (not-false _ (if2 .left))) _
+    (c .before .arguments-match .ensures) (not-false _ (c .if3 .left))
 
 pub names-at-spec : {M : Type 1} → statement M
 names-at-spec =

@@ -46,10 +46,21 @@ constructors-below-requires : tie.Need-constructors-below-requires
 constructors-below-requires c κs = search needs
 
 returns-5 : tie.Need-returns-5
-returns-5 c = names-clauses _ _ _ _ (c .before .before .before .before .before .before .before .before .before .kind .ensures) _ _ (c .before .before .before .if5 .taken) (c .before .wide .ensures .0 ∙ c .before .before .items2 .ensures) (c .constructors-below .ensures)
+returns-5 c =
+    let kind = c .before .before .before .before .before .before .before .before .before .kind in
+    let if5 = c .before .before .before .if5 in
+    let items2 = c .before .before .items2 in
+    names-clauses _ _ _ _ (kind .ensures) _ _ (if5 .taken) (c .before .wide .ensures .0 ∙ items2 .ensures) (c .constructors-below .ensures)
 
 returns-6 : tie.Need-returns-6
-returns-6 c = names-sheet-none _ _ _ _ (c .before .before .before .before .before .before .kind .ensures) (numbered-sheet-kind _ _ _ _ (c .before .before .before .before .before .before .before .before .before .pre .0 .file) (c .before .before .before .before .before .before .before .before .before .pre .0 .below) (c .before .before .before .before .before .before .before .before .before .pre .1)) (c .before .before .before .before .if1 .left) (c .before .before .before .if2 .left) (c .before .before .if3 .left) (c .before .if4 .left) (c .if5 .left)
+returns-6 c =
+    let pre = c .before .before .before .before .before .before .before .before .before .pre in
+    let kind = c .before .before .before .before .before .before .kind in
+    let if1 = c .before .before .before .before .if1 in
+    let if2 = c .before .before .before .if2 in
+    let if3 = c .before .before .if3 in
+    names-sheet-none _ _ _ _ (kind .ensures) (numbered-sheet-kind _ _ _ _ (pre .0 .file) (pre .0 .below) (pre .1)) (if1 .left) (if2 .left)
+    (if3 .left) (c .before .if4 .left) (c .if5 .left)
 
 pub names-in-range-spec : {M : Type 1} → statement M
 names-in-range-spec =

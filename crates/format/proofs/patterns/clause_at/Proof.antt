@@ -9,13 +9,17 @@ is-body-requires : tie.Need-is-body-requires
 is-body-requires c κs = c .before .pre .0
 
 returns : tie.Need-returns
-returns c = body-entry _ _ _ _ _ _ (c .before .before .before .pre .0) (c .before .before .before .pre .1) (c .before .before .before .pre .2) _ (c .before .is-body .ensures) (c .if1 .taken)
+returns c =
+    let pre = c .before .before .before .pre in
+    body-entry _ _ _ _ _ _ (pre .0) (pre .1) (pre .2) _ (c .before .is-body .ensures) (c .if1 .taken)
 
 mul-wide : tie.Need-mul-wide
 mul-wide c = search needs
 
 element-copy-out-wide : tie.Need-element-copy-out-wide
-element-copy-out-wide c = node-in-table _ _ _ _ _ (c .before .before .before .pre .0)
+element-copy-out-wide c =
+    let pre = c .before .before .before .pre in
+    node-in-table _ _ _ _ _ (pre .0)
 
 wide-requires : tie.Need-wide-requires
 wide-requires c κs = search needs
@@ -36,16 +40,39 @@ clause-of-requires : tie.Need-clause-of-requires
 clause-of-requires c κs = search needs
 
 returns-2 : tie.Need-returns-2
-returns-2 c = clause-entry _ _ _ _ _ _ (c .before .before .before .before .before .before .before .before .before .before .pre .0) (c .before .before .before .before .before .before .before .before .before .before .pre .1) (c .before .before .before .before .before .before .before .before .before .before .pre .2) _ (c .before .before .before .before .before .before .before .before .is-body .ensures) (c .before .before .before .before .before .before .before .if1 .left) _ (c .before .before .before .before .before .wide .ensures .0) _ (c .before .before .before .before .first-node .ensures .0) _ (c .before .before .before .indexed .ensures) _ (c .before .before .kind .ensures) _ (c .before .if2 .taken) (c .clause-of .ensures)
+returns-2 c =
+    let pre = c .before .before .before .before .before .before .before .before .before .before .pre in
+    let is-body = c .before .before .before .before .before .before .before .before .is-body in
+    let if1 = c .before .before .before .before .before .before .before .if1 in
+    let wide = c .before .before .before .before .before .wide in
+    let first-node = c .before .before .before .before .first-node in
+    let indexed = c .before .before .before .indexed in
+    let kind = c .before .before .kind in
+    clause-entry _ _ _ _ _ _ (pre .0) (pre .1) (pre .2) _ (is-body .ensures) (if1 .left) _ (wide .ensures .0) _ (first-node .ensures .0) _
+    (indexed .ensures) _ (kind .ensures) _ (c .before .if2 .taken) (c .clause-of .ensures)
 
 mul-result : tie.Need-mul-result
 mul-result c = search needs
 
 element-copy-out-result : tie.Need-element-copy-out-result
-element-copy-out-result c = parent-in-table _ _ _ _ _ _ (c .before .before .before .before .before .before .before .before .before .pre .0) (c .before .before .before .before .before .before .before .before .before .pre .1) (c .before .before .before .before .before .before .before .before .before .pre .2) _ (c .before .before .before .before .before .before .before .is-body .ensures) (c .before .before .before .before .before .before .if1 .left) _ (c .before .before .before .before .wide .ensures .0)
+element-copy-out-result c =
+    let pre = c .before .before .before .before .before .before .before .before .before .pre in
+    let is-body = c .before .before .before .before .before .before .before .is-body in
+    let if1 = c .before .before .before .before .before .before .if1 in
+    let wide = c .before .before .before .before .wide in
+    parent-in-table _ _ _ _ _ _ (pre .0) (pre .1) (pre .2) _ (is-body .ensures) (if1 .left) _ (wide .ensures .0)
 
 returns-3 : tie.Need-returns-3
-returns-3 c = parent-entry _ _ _ _ _ _ (c .before .before .before .before .before .before .before .before .before .before .pre .0) (c .before .before .before .before .before .before .before .before .before .before .pre .1) (c .before .before .before .before .before .before .before .before .before .before .pre .2) _ (c .before .before .before .before .before .before .before .before .is-body .ensures) (c .before .before .before .before .before .before .before .if1 .left) _ (c .before .before .before .before .before .wide .ensures .0) _ (c .before .before .before .before .first-node .ensures .0) _ (c .before .before .before .indexed .ensures) _ (c .before .before .kind .ensures) _ (c .before .before .before .before .before .before .before .before .before .before .pre .3) (c .before .if2 .left)
+returns-3 c =
+    let pre = c .before .before .before .before .before .before .before .before .before .before .pre in
+    let is-body = c .before .before .before .before .before .before .before .before .is-body in
+    let if1 = c .before .before .before .before .before .before .before .if1 in
+    let wide = c .before .before .before .before .before .wide in
+    let first-node = c .before .before .before .before .first-node in
+    let indexed = c .before .before .before .indexed in
+    let kind = c .before .before .kind in
+    parent-entry _ _ _ _ _ _ (pre .0) (pre .1) (pre .2) _ (is-body .ensures) (if1 .left) _ (wide .ensures .0) _ (first-node .ensures .0) _
+    (indexed .ensures) _ (kind .ensures) _ (pre .3) (c .before .if2 .left)
 
 pub clause-at-spec : {M : Type 1} → statement M
 clause-at-spec =

@@ -1,9 +1,7 @@
 -- `format::patterns::clause_of` meets its contract. The loop's invariant: the clauses passed are not the one.
 use Rattle.format.proofs.ClauseTable.{ClauseLeft, clause-left-all, clause-left-fewer, clause-found, clause-not-found}
-use Rattle.format.specs.Clauses.{entryOf}
 use Rattle.definitions.specs.References.{clauses}
-use Rattle.definitions.specs.Checks.{clauseOf}
-use mathlib.Core.Path.{_≡_, refl, _∙_, ap}
+use mathlib.Core.Path.{_∙_}
 use borrow.Author.Needs.{needs}
 use Rattle.format.proofs.patterns.clause_of.Statement.{statement}
 use Rattle.format.proofs.patterns.clause_of.Tie as tie
@@ -39,7 +37,12 @@ add-result : tie.Need-add-result Inv-loop μ-loop
 add-result c = search needs
 
 returns : tie.Need-returns Inv-loop μ-loop
-returns c = clause-found _ _ _ _ _ (c .before .before .before .before .before .loop .inv) (c .before .before .before .before .loop-test .taken) (c .before .before .wide .ensures .0 ∙ c .before .before .before .child .ensures) (c .before .if1 .taken) (c .clause-constructor .ensures)
+returns c =
+    let loop = c .before .before .before .before .before .loop in
+    let loop-test = c .before .before .before .before .loop-test in
+    let child = c .before .before .before .child in
+    let wide = c .before .before .wide in
+    clause-found _ _ _ _ _ (loop .inv) (loop-test .taken) (wide .ensures .0 ∙ child .ensures) (c .before .if1 .taken) (c .clause-constructor .ensures)
 
 sub-j : tie.Need-sub-j Inv-loop μ-loop
 sub-j c = search needs
@@ -48,7 +51,11 @@ loop-less : tie.Need-loop-less Inv-loop μ-loop
 loop-less c = search needs
 
 loop-again : tie.Need-loop-again Inv-loop μ-loop
-loop-again c = clause-left-fewer _ _ _ _ (c .before .before .before .before .loop .inv) (c .before .before .before .loop-test .taken) (c .before .wide .ensures .0 ∙ c .before .before .child .ensures) (c .if1 .left)
+loop-again c =
+    let loop = c .before .before .before .before .loop in
+    let loop-test = c .before .before .before .loop-test in
+    let child = c .before .before .child in
+    clause-left-fewer _ _ _ _ (loop .inv) (loop-test .taken) (c .before .wide .ensures .0 ∙ child .ensures) (c .if1 .left)
 
 returns-2 : tie.Need-returns-2 Inv-loop μ-loop
 returns-2 c = clause-not-found _ _ _ (c .before .loop .inv) (c .loop-test .left)

@@ -1,9 +1,8 @@
 -- `format::patterns::pattern_right` meets its contract: the position is below the arity of the clause's constructor.
 use Rattle.format.proofs.PatternSteps.{entry-in-table, constructor-there, pattern-other, pattern-outside, pattern-held}
 use Rattle.format.proofs.SheetTables.{opened-arity}
-use Prim.Native.Nat.{ℕ, _-_, _<_, _≤_}
 use native.Mathlib.Omega.{arith}
-use mathlib.Core.Path.{refl, _∙_, ap, sym}
+use mathlib.Core.Path.{refl, _∙_}
 use borrow.Author.Needs.{needs}
 use Rattle.format.proofs.patterns.pattern_right.Statement.{statement}
 use Rattle.format.proofs.patterns.pattern_right.Tie as tie
@@ -21,16 +20,28 @@ kind-requires : tie.Need-kind-requires
 kind-requires c κs = search needs
 
 returns : tie.Need-returns
-returns c = pattern-other _ _ _ _ (c .before .before .before .before .before .pre .0) (c .before .before .before .before .before .pre .1) (c .before .before .before .before .before .pre .2) (c .before .before .before .before .before .pre .3) _ (c .before .before .before .first-node .ensures .0) _ (c .before .before .indexed .ensures) _ (c .before .kind .ensures) (c .if1 .taken)
+returns c =
+    let pre = c .before .before .before .before .before .pre in
+    let first-node = c .before .before .before .first-node in
+    let indexed = c .before .before .indexed in
+    pattern-other _ _ _ _ (pre .0) (pre .1) (pre .2) (pre .3) _ (first-node .ensures .0) _ (indexed .ensures) _ (c .before .kind .ensures) (c .if1 .taken)
 
 mul-h : tie.Need-mul-h
 mul-h c = search needs
 
 element-copy-out-h : tie.Need-element-copy-out-h
-element-copy-out-h c = entry-in-table _ _ _ _ (c .before .before .before .before .before .pre .0) (c .before .before .before .before .before .pre .1) (c .before .before .before .before .before .pre .2) (c .before .before .before .before .before .pre .3)
+element-copy-out-h c =
+    let pre = c .before .before .before .before .before .pre in
+    entry-in-table _ _ _ _ (pre .0) (pre .1) (pre .2) (pre .3)
 
 returns-2 : tie.Need-returns-2
-returns-2 c = pattern-outside _ _ _ _ (c .before .before .before .before .before .before .before .pre .0) (c .before .before .before .before .before .before .before .pre .1) (c .before .before .before .before .before .before .before .pre .2) (c .before .before .before .before .before .before .before .pre .3) _ (c .before .before .before .before .before .first-node .ensures .0) _ (c .before .before .before .before .indexed .ensures) _ (c .before .before .before .kind .ensures) (c .before .before .if1 .left) _ refl (c .if2 .taken)
+returns-2 c =
+    let pre = c .before .before .before .before .before .before .before .pre in
+    let first-node = c .before .before .before .before .before .first-node in
+    let indexed = c .before .before .before .before .indexed in
+    let kind = c .before .before .before .kind in
+    let if1 = c .before .before .if1 in
+    pattern-outside _ _ _ _ (pre .0) (pre .1) (pre .2) (pre .3) _ (first-node .ensures .0) _ (indexed .ensures) _ (kind .ensures) (if1 .left) _ refl (c .if2 .taken)
 
 field-requires : tie.Need-field-requires
 field-requires c κs = search needs
@@ -51,7 +62,21 @@ wide-requires-2 : tie.Need-wide-requires-2
 wide-requires-2 c κs = search needs
 
 returns-3 : tie.Need-returns-3
-returns-3 c = pattern-held _ _ _ _ (c .before .before .before .before .before .before .before .before .before .before .before .before .pre .0) (c .before .before .before .before .before .before .before .before .before .before .before .before .pre .1) (c .before .before .before .before .before .before .before .before .before .before .before .before .pre .2) (c .before .before .before .before .before .before .before .before .before .before .before .before .pre .3) _ (c .before .before .before .before .before .before .before .before .before .before .first-node .ensures .0) _ (c .before .before .before .before .before .before .before .before .before .indexed .ensures) _ (c .before .before .before .before .before .before .before .before .kind .ensures) (c .before .before .before .before .before .before .before .if1 .left) _ (c .before .before .wide32 .ensures .0) _ _ (omega (arith, c .before .before .wide32 .ensures .0, c .before .before .before .before .before .if2 .left)) (c .before .before .before .wide .ensures .0 ∙ c .before .before .before .before .field .ensures) (c .wide2 .ensures .0 ∙ opened-arity _ _ _ _ (c .before .before .before .before .before .before .before .before .before .before .before .before .pre .0) (constructor-there _ _ _ _ (c .before .before .before .before .before .before .before .before .before .before .before .before .pre .0) (c .before .before .before .before .before .before .before .before .before .before .before .before .pre .1) (c .before .before .before .before .before .before .before .before .before .before .before .before .pre .2) (c .before .before .before .before .before .before .before .before .before .before .before .before .pre .3) _ (c .before .before .wide32 .ensures .0) (omega (arith, c .before .before .wide32 .ensures .0, c .before .before .before .before .before .if2 .left))) (c .before .arity .ensures))
+returns-3 c =
+    let pre = c .before .before .before .before .before .before .before .before .before .before .before .before .pre in
+    let first-node = c .before .before .before .before .before .before .before .before .before .before .first-node in
+    let indexed = c .before .before .before .before .before .before .before .before .before .indexed in
+    let kind = c .before .before .before .before .before .before .before .before .kind in
+    let if1 = c .before .before .before .before .before .before .before .if1 in
+    let if2 = c .before .before .before .before .before .if2 in
+    let field = c .before .before .before .before .field in
+    let wide = c .before .before .before .wide in
+    let wide32 = c .before .before .wide32 in
+    pattern-held _ _ _ _ (pre .0) (pre .1) (pre .2) (pre .3) _ (first-node .ensures .0) _ (indexed .ensures) _ (kind .ensures) (if1 .left) _
+    (wide32 .ensures .0) _ _ (omega (arith, wide32 .ensures .0, if2 .left)) (wide .ensures .0 ∙ field .ensures)
+    (c .wide2 .ensures .0 ∙ opened-arity _ _ _ _ (pre .0)
+    (constructor-there _ _ _ _ (pre .0) (pre .1) (pre .2) (pre .3) _ (wide32 .ensures .0) (omega (arith, wide32 .ensures .0, if2 .left)))
+    (c .before .arity .ensures))
 
 pub pattern-right-spec : {M : Type 1} → statement M
 pattern-right-spec =

@@ -19,8 +19,8 @@ Inv-loop b starts ends owners parents held first count k₀ k = Ruling b starts 
 abbrev μ-loop : tie.MeasureT-loop
 μ-loop b starts ends owners parents held first count k₀ k = count - k
 
-clause-table-requires : tie.Need-clause-table-requires Inv-loop μ-loop
-clause-table-requires c κs = search needs
+fill-clauses-requires : tie.Need-fill-clauses-requires Inv-loop μ-loop
+fill-clauses-requires c κs = search needs
 
 first-node-requires : tie.Need-first-node-requires Inv-loop μ-loop
 first-node-requires c κs = search needs
@@ -32,16 +32,40 @@ wide-requires : tie.Need-wide-requires Inv-loop μ-loop
 wide-requires c κs = search needs
 
 loop-holds : tie.Need-loop-holds Inv-loop μ-loop
-loop-holds c = (record { file = c .before .before .before .before .before .pre .0; runs = c .before .before .before .before .before .pre .1; owned = c .before .before .before .before .before .pre .2; start = c .before .before .first-node .ensures .0; low = c .before .before .first-node .ensures .1; counts = c .wide .ensures .0 ∙ c .before .nodes .ensures; narrow = c .wide .ensures .1; reached = search needs; passed = passed-none _ }, c .before .before .before .before .before .pre .4, c .before .before .before .clause-table .ensures)
+loop-holds c =
+    let pre = c .before .before .before .before .before .before .pre in
+    let fill-clauses = c .before .before .before .fill-clauses in
+    let first-node = c .before .before .first-node in
+    let wide = c .wide in (
+      record {
+        file = pre .file;
+        runs = pre .runs;
+        owned = pre .owned;
+        start = first-node .ensures .0;
+        low = first-node .ensures .1;
+        counts = wide .ensures .0 ∙ c .before .nodes .ensures;
+        narrow = wide .ensures .1;
+        reached = omega arith;
+        passed = passed-none _;
+      },
+      pre .checks,
+      fill-clauses .ensures,
+    )
 
 pattern-right-requires : tie.Need-pattern-right-requires Inv-loop μ-loop
-pattern-right-requires c κs = (c .before .before .loop .inv .0 .file, c .before .before .loop .inv .2, c .before .before .loop .inv .1, omega (arith, c .before .before .loop .inv .0 .counts, c .before .loop-test .taken))
+pattern-right-requires c κs =
+    let loop = c .before .before .loop in
+    (loop .inv .0 .file, loop .inv .2, loop .inv .1, omega (arith, loop .inv .0 .counts, c .before .loop-test .taken))
 
-add-t15 : tie.Need-add-t15 Inv-loop μ-loop
-add-t15 c = search needs
+add-t16 : tie.Need-add-t16 Inv-loop μ-loop
+add-t16 c = search needs
 
 returns : tie.Need-returns Inv-loop μ-loop
-returns c = ruling-refused _ _ _ _ _ _ _ _ (c .before .before .before .before .loop .inv .0) _ _ (c .before .before .before .loop-test .taken) (pattern-refused _ _ _ _ (c .before .before .before .before .loop .inv .0 .start) (c .before .pattern-right .ensures) (not-true _ (c .if1 .taken)))
+returns c =
+    let loop = c .before .before .before .before .loop in
+    let loop-test = c .before .before .before .loop-test in
+    ruling-refused _ _ _ _ _ _ _ _ (loop .inv .0) _ _ (loop-test .taken)
+    (pattern-refused _ _ _ _ (loop .inv .0 .start) (c .before .pattern-right .ensures) (not-true _ (c .if1 .taken)))
 
 add-k : tie.Need-add-k Inv-loop μ-loop
 add-k c = search needs
@@ -50,7 +74,14 @@ loop-less : tie.Need-loop-less Inv-loop μ-loop
 loop-less c = search needs
 
 loop-again : tie.Need-loop-again Inv-loop μ-loop
-loop-again c = (ruling-more _ _ _ _ _ _ _ _ (c .before .before .before .before .loop .inv .0) _ (c .before .before .before .loop-test .taken) (pattern-accepted _ _ _ (c .before .pattern-right .ensures) (not-false _ (c .if1 .left))) refl, c .before .before .before .before .loop .inv .1, c .before .before .before .before .loop .inv .2)
+loop-again c =
+    let loop = c .before .before .before .before .loop in
+    let loop-test = c .before .before .before .loop-test in (
+      ruling-more _ _ _ _ _ _ _ _ (loop .inv .0) _ (loop-test .taken)
+          (pattern-accepted _ _ _ (c .before .pattern-right .ensures) (not-false _ (c .if1 .left))) refl,
+      loop .inv .1,
+      loop .inv .2,
+    )
 
 returns-2 : tie.Need-returns-2 Inv-loop μ-loop
 returns-2 c = ruling-done _ _ _ _ _ _ _ _ (c .before .loop .inv .0) (c .loop-test .left)
@@ -61,13 +92,13 @@ patterns-spec =
     (tie.spec
     Inv-loop
     μ-loop
-    clause-table-requires
+    fill-clauses-requires
     first-node-requires
     nodes-requires
     wide-requires
     loop-holds
     pattern-right-requires
-    add-t15
+    add-t16
     returns
     add-k
     loop-less

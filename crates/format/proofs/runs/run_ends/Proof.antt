@@ -2,17 +2,17 @@
 use Rattle.format.proofs.RunTables.{Ending, ending-begins, next-fits, ending-goes-on, ending-done}
 use Rattle.file_records.proofs.Indices.{indexed-field}
 use native.Mathlib.Omega.{arith}
-use mathlib.Core.Path.{refl, _∙_}
+use mathlib.Core.Path.{_∙_}
 use Prim.Native.Nat.{_-_}
 use borrow.Author.Needs.{needs}
 use Rattle.format.proofs.runs.run_ends.Statement.{statement}
 use Rattle.format.proofs.runs.run_ends.Tie as tie
 
 abbrev Inv-loop : tie.InvT-loop
-Inv-loop b starts first count j ends₀ total₀ f₀ ends total f = Ending b starts first count j ends total f
+Inv-loop b starts ends₀ first count j total₀ f₀ ends total f = Ending b starts first count j ends total f
 
 abbrev μ-loop : tie.MeasureT-loop
-μ-loop b starts first count j ends₀ total₀ f₀ ends total f = count - f
+μ-loop b starts ends₀ first count j total₀ f₀ ends total f = count - f
 
 first-function-requires : tie.Need-first-function-requires Inv-loop μ-loop
 first-function-requires c κs = search needs
@@ -27,7 +27,10 @@ count-field-requires : tie.Need-count-field-requires Inv-loop μ-loop
 count-field-requires c κs = search needs
 
 loop-holds : tie.Need-loop-holds Inv-loop μ-loop
-loop-holds c = ending-begins _ _ _ _ _ _ _ (c .before .before .before .before .pre) (c .before .before .first-function .ensures .0) (c .before .functions .ensures) (c .count-field .ensures) refl
+loop-holds c =
+    let pre = c .before .before .before .before .pre in
+    let first-function = c .before .before .first-function in
+    ending-begins _ _ _ _ _ _ _ (pre .0) (first-function .ensures .0) (c .before .functions .ensures) (c .count-field .ensures) (pre .1)
 
 add-indexed : tie.Need-add-indexed Inv-loop μ-loop
 add-indexed c = search needs
@@ -45,13 +48,24 @@ add-total : tie.Need-add-total Inv-loop μ-loop
 add-total c = search needs
 
 cast-ends : tie.Need-cast-ends Inv-loop μ-loop
-cast-ends c = record { fits = omega (arith, next-fits _ _ _ _ _ _ _ _ (c .before .before .before .before .loop .inv) (c .wide .result) (c .before .before .before .loop-test .taken) (c .wide .ensures .0 ∙ indexed-field _ _ _ _ _ _ _ (c .before .before .before .before .loop .inv .index) (search needs) (c .before .before .indexed .ensures) (c .before .field .ensures))) }
+cast-ends c =
+    let loop = c .before .before .before .before .loop in
+    let loop-test = c .before .before .before .loop-test in
+    let indexed = c .before .before .indexed in
+    let wide = c .wide in
+    record {
+      fits = omega (
+        arith,
+        next-fits _ _ _ _ _ _ _ _ (loop .inv) (wide .result) (loop-test .taken)
+            (wide .ensures .0 ∙ indexed-field _ _ _ _ _ _ _ (loop .inv .index) (omega arith) (indexed .ensures) (c .before .field .ensures)),
+      );
+    }
 
 mul-ends : tie.Need-mul-ends Inv-loop μ-loop
 mul-ends c = search needs
 
-array-write-ends : tie.Need-array-write-ends Inv-loop μ-loop
-array-write-ends c = search needs
+element-write-ends : tie.Need-element-write-ends Inv-loop μ-loop
+element-write-ends c = search needs
 
 add-f : tie.Need-add-f Inv-loop μ-loop
 add-f c = search needs
@@ -60,10 +74,20 @@ loop-less : tie.Need-loop-less Inv-loop μ-loop
 loop-less c = search needs
 
 loop-again : tie.Need-loop-again Inv-loop μ-loop
-loop-again c = ending-goes-on _ _ _ _ _ _ _ _ (c .before .before .before .before .loop .inv) (c .wide .result) (c .before .before .before .loop-test .taken) (c .wide .ensures .0 ∙ indexed-field _ _ _ _ _ _ _ (c .before .before .before .before .loop .inv .index) (search needs) (c .before .before .indexed .ensures) (c .before .field .ensures))
+loop-again c =
+    let loop = c .before .before .before .before .loop in
+    let loop-test = c .before .before .before .loop-test in
+    let indexed = c .before .before .indexed in
+    let wide = c .wide in
+    ending-goes-on _ _ _ _ _ _ _ _ (loop .inv) (wide .result) (loop-test .taken)
+    (wide .ensures .0 ∙ indexed-field _ _ _ _ _ _ _ (loop .inv .index) (omega arith) (indexed .ensures) (c .before .field .ensures))
 
 returns : tie.Need-returns Inv-loop μ-loop
-returns c = ending-done _ _ _ _ _ _ _ _ (c .before .loop .inv) _ (c .before .before .before .before .first-function .ensures .0) (c .before .before .before .functions .ensures) (c .before .before .count-field .ensures) (c .loop-test .left)
+returns c =
+    let first-function = c .before .before .before .before .first-function in
+    let functions = c .before .before .before .functions in
+    let count-field = c .before .before .count-field in
+    ending-done _ _ _ _ _ _ _ _ (c .before .loop .inv) _ (first-function .ensures .0) (functions .ensures) (count-field .ensures) (c .loop-test .left)
 
 pub run-ends-spec : {M : Type 1} → statement M
 run-ends-spec =
@@ -83,7 +107,7 @@ run-ends-spec =
     add-total
     cast-ends
     mul-ends
-    array-write-ends
+    element-write-ends
     add-f
     loop-less
     loop-again

@@ -1,17 +1,16 @@
 -- `format::runs::run_owners` meets its contract. The loop's invariant: the owners of the nodes passed are in the table.
 use Rattle.format.proofs.RunTables.{Owning, owning-begins, owner-small, owning-goes-on, owning-done}
 use native.Mathlib.Omega.{arith}
-use mathlib.Core.Path.{refl}
 use Prim.Native.Nat.{_-_}
 use borrow.Author.Needs.{needs}
 use Rattle.format.proofs.runs.run_owners.Statement.{statement}
 use Rattle.format.proofs.runs.run_owners.Tie as tie
 
 abbrev Inv-loop : tie.InvT-loop
-Inv-loop b ends count owners₀ f₀ k₀ owners f k = Owning b ends count owners f k
+Inv-loop b ends owners₀ count f₀ k₀ owners f k = Owning b ends count owners f k
 
 abbrev μ-loop : tie.MeasureT-loop
-μ-loop b ends count owners₀ f₀ k₀ owners f k = count - k
+μ-loop b ends owners₀ count f₀ k₀ owners f k = count - k
 
 nodes-requires : tie.Need-nodes-requires Inv-loop μ-loop
 nodes-requires c κs = search needs
@@ -20,16 +19,21 @@ cast-count : tie.Need-cast-count Inv-loop μ-loop
 cast-count c = search needs
 
 loop-holds : tie.Need-loop-holds Inv-loop μ-loop
-loop-holds c = owning-begins _ _ _ _ (c .before .before .pre .0) (c .before .before .pre .1) (c .nodes .ensures) refl
+loop-holds c =
+    let pre = c .before .before .pre in
+    owning-begins _ _ _ _ (pre .0) (pre .1) (c .nodes .ensures) (pre .2)
 
 owner-after-requires : tie.Need-owner-after-requires Inv-loop μ-loop
 owner-after-requires c κs = search needs
 
 cast-owners : tie.Need-cast-owners Inv-loop μ-loop
-cast-owners c = record { fits = omega (arith, owner-small _ _ _ _ _ _ (c .before .before .loop .inv) (c .owner-after .result) (c .before .loop-test .taken) (c .owner-after .ensures)) }
+cast-owners c =
+    let loop = c .before .before .loop in
+    let owner-after = c .owner-after in
+    record { fits = omega (arith, owner-small _ _ _ _ _ _ (loop .inv) (owner-after .result) (c .before .loop-test .taken) (owner-after .ensures)) }
 
-array-write-owners : tie.Need-array-write-owners Inv-loop μ-loop
-array-write-owners c = search needs
+element-write-owners : tie.Need-element-write-owners Inv-loop μ-loop
+element-write-owners c = search needs
 
 add-k : tie.Need-add-k Inv-loop μ-loop
 add-k c = search needs
@@ -38,7 +42,10 @@ loop-less : tie.Need-loop-less Inv-loop μ-loop
 loop-less c = search needs
 
 loop-again : tie.Need-loop-again Inv-loop μ-loop
-loop-again c = owning-goes-on _ _ _ _ _ _ (c .before .before .loop .inv) (c .owner-after .result) (c .before .loop-test .taken) (c .owner-after .ensures)
+loop-again c =
+    let loop = c .before .before .loop in
+    let owner-after = c .owner-after in
+    owning-goes-on _ _ _ _ _ _ (loop .inv) (owner-after .result) (c .before .loop-test .taken) (owner-after .ensures)
 
 returns : tie.Need-returns Inv-loop μ-loop
 returns c = owning-done _ _ _ _ _ _ (c .before .loop .inv) (c .loop-test .left)
@@ -54,7 +61,7 @@ run-owners-spec =
     loop-holds
     owner-after-requires
     cast-owners
-    array-write-owners
+    element-write-owners
     add-k
     loop-less
     loop-again

@@ -22,7 +22,9 @@ element-write-parents : tie.Need-element-write-parents
 element-write-parents c = search needs
 
 returns : tie.Need-returns
-returns c = (ap (λ (v : ℕ). set (c .before .before .args .times .now) (c .before .before .args .c) v) (c .once .ensures), refl)
+returns c =
+    let args = c .before .before .args in
+    (ap (λ (v : ℕ). set (args .times .now) (args .c) v) (c .once .ensures), refl)
 
 pub note-spec : {M : Type 1} → statement M
 note-spec =

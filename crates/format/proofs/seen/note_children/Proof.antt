@@ -2,6 +2,7 @@
 use Rattle.format.proofs.SeenTables.{noted-none, noted-more, noted-all}
 use Rattle.format.specs.Seen.{Noted}
 use Rattle.definitions.specs.References.{children}
+use native.Mathlib.Omega.{arith}
 use mathlib.Core.Path.{_≡_, _∙_}
 use Prim.Native.Nat.{_≤_, _-_}
 use borrow.Author.Needs.{needs}
@@ -9,19 +10,24 @@ use Rattle.format.proofs.seen.note_children.Statement.{statement}
 use Rattle.format.proofs.seen.note_children.Tie as tie
 
 abbrev Inv-loop : tie.InvT-loop
-Inv-loop rec p times₀ parents₀ count j₀ times parents j = (j ≤ count) × (count ≡ children rec) × Noted rec p j times₀ parents₀ times parents
+Inv-loop rec p times₀ parents₀ kind count j₀ times parents j = (j ≤ count) × (count ≡ children rec) × Noted rec p j times₀ parents₀ times parents
 
 abbrev μ-loop : tie.MeasureT-loop
-μ-loop rec p times₀ parents₀ count j₀ times parents j = count - j
+μ-loop rec p times₀ parents₀ kind count j₀ times parents j = count - j
+
+kind-requires : tie.Need-kind-requires Inv-loop μ-loop
+kind-requires c κs = search needs
 
 children-requires : tie.Need-children-requires Inv-loop μ-loop
 children-requires c κs = search needs
 
 loop-holds : tie.Need-loop-holds Inv-loop μ-loop
-loop-holds c = (search needs, c .children .ensures, noted-none _ _ _ _ (c .before .before .pre))
+loop-holds c = (search needs, c .children .ensures, noted-none _ _ _ _ (c .before .before .before .pre))
 
-child-requires : tie.Need-child-requires Inv-loop μ-loop
-child-requires c κs = search needs
+child-inside-requires : tie.Need-child-inside-requires Inv-loop μ-loop
+child-inside-requires c κs =
+    let kind = c .before .before .before .kind in
+    (omega (arith, c .before .loop .inv .1, c .loop-test .taken), kind .ensures)
 
 wide-requires : tie.Need-wide-requires Inv-loop μ-loop
 wide-requires c κs = search needs
@@ -36,10 +42,16 @@ loop-less : tie.Need-loop-less Inv-loop μ-loop
 loop-less c = search needs
 
 loop-again : tie.Need-loop-again Inv-loop μ-loop
-loop-again c = (search needs, c .before .before .before .before .before .before .loop .inv .1, noted-more _ _ _ _ _ _ _ (c .before .before .before .before .before .before .loop .inv .2) _ _ _ (c .before .before .before .wide .ensures .0 ∙ c .before .before .before .before .child .ensures) (c .note-child .ensures))
+loop-again c =
+    let loop = c .before .before .before .before .before .before .loop in
+    let child-inside = c .before .before .before .before .child-inside in
+    let wide = c .before .before .before .wide in
+    (omega arith, loop .inv .1, noted-more _ _ _ _ _ _ _ (loop .inv .2) _ _ _ (wide .ensures .0 ∙ child-inside .ensures) (c .note-child .ensures))
 
 returns : tie.Need-returns Inv-loop μ-loop
-returns c = noted-all _ _ _ _ _ _ _ _ _ (c .before .loop .inv .1) (c .before .loop .inv .0) (c .loop-test .left) (c .before .loop .inv .2)
+returns c =
+    let loop = c .before .loop in
+    noted-all _ _ _ _ _ _ _ _ _ (loop .inv .1) (loop .inv .0) (c .loop-test .left) (loop .inv .2)
 
 pub note-children-spec : {M : Type 1} → statement M
 note-children-spec =
@@ -47,9 +59,10 @@ note-children-spec =
     (tie.spec
     Inv-loop
     μ-loop
+    kind-requires
     children-requires
     loop-holds
-    child-requires
+    child-inside-requires
     wide-requires
     note-child-requires
     add-j

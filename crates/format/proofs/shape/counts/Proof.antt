@@ -16,11 +16,17 @@ kind-requires c κs = search needs
 field-requires : tie.Need-field-requires
 field-requires c κs = search needs
 
+cast-result : tie.Need-cast-result
+cast-result c = search needs
+
 returns-2 : tie.Need-returns-2
 returns-2 c = search counts-constructor
 
 field-requires-2 : tie.Need-field-requires-2
 field-requires-2 c κs = search needs
+
+cast-if4 : tie.Need-cast-if4
+cast-if4 c = search needs
 
 returns-3 : tie.Need-returns-3
 returns-3 c = search counts-parameters
@@ -48,8 +54,10 @@ counts-spec =
     returns
     kind-requires
     field-requires
+    cast-result
     returns-2
     field-requires-2
+    cast-if4
     returns-3
     run-counts-requires
     returns-4

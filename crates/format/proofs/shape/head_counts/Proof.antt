@@ -7,6 +7,9 @@ use Rattle.format.proofs.shape.head_counts.Tie as tie
 readings-requires : tie.Need-readings-requires
 readings-requires c κs = search needs
 
+cast-if1 : tie.Need-cast-if1
+cast-if1 c = search needs
+
 returns : tie.Need-returns
 returns c = search readings-above
 
@@ -16,11 +19,17 @@ item-limit-requires c κs = search needs
 items-requires : tie.Need-items-requires
 items-requires c κs = search needs
 
+cast-if2 : tie.Need-cast-if2
+cast-if2 c = search needs
+
 returns-2 : tie.Need-returns-2
 returns-2 c = search items-above
 
 functions-requires : tie.Need-functions-requires
 functions-requires c κs = search needs
+
+cast-f : tie.Need-cast-f
+cast-f c = search needs
 
 returns-3 : tie.Need-returns-3
 returns-3 c = search functions-below
@@ -30,6 +39,9 @@ returns-4 c = search functions-above
 
 nodes-requires : tie.Need-nodes-requires
 nodes-requires c κs = search needs
+
+cast-n : tie.Need-cast-n
+cast-n c = search needs
 
 returns-5 : tie.Need-returns-5
 returns-5 c = search nodes-below
@@ -42,13 +54,17 @@ head-counts-spec =
     tie.close
     (tie.spec
     readings-requires
+    cast-if1
     returns
     item-limit-requires
     items-requires
+    cast-if2
     returns-2
     functions-requires
+    cast-f
     returns-3
     returns-4
     nodes-requires
+    cast-n
     returns-5
     returns-6)

@@ -31,7 +31,9 @@ add-if2-2 : tie.Need-add-if2-2
 add-if2-2 c = search needs
 
 run-total-requires : tie.Need-run-total-requires
-run-total-requires c κs = as-many _ _ _ _ (c .before .before .before .before .before .before .before .before .pre) (omega arith)
+run-total-requires c κs =
+    let pre = c .before .before .before .before .before .before .before .before .pre in
+    as-many _ _ _ _ (pre) (omega arith)
 
 nodes-requires : tie.Need-nodes-requires
 nodes-requires c κs = search needs

@@ -1,8 +1,7 @@
 -- `format::shape::run_total` meets its contract. The loop's invariant: the total is the sum over the functions passed.
 use native.Mathlib.Omega.{arith}
 use Rattle.definitions.specs.Records.{field}
-use mathlib.Core.Path.{_∙_, ap}
-use Rattle.file_records.proofs.Indices.{indexed-record, indexed-field, as-many}
+use Rattle.file_records.proofs.Indices.{indexed-field, as-many}
 use Rattle.laws.proofs.Runs.{Totalled, total-none, total-more, total-counts}
 use Rattle.file_records.specs.Index.{Indexed}
 use Prim.Native.Nat.{_≤_, _-_, _+_, _*_}
@@ -53,10 +52,21 @@ loop-less : tie.Need-loop-less Inv-loop μ-loop
 loop-less c = search needs
 
 loop-again : tie.Need-loop-again Inv-loop μ-loop
-loop-again c = (search needs, search needs, search needs, total-more _ _ _ _ _ _ (c .before .before .before .loop .inv .3) (indexed-field _ _ _ _ _ _ _ (c .before .before .before .loop .inv .1) (search needs) (c .before .indexed .ensures) (c .field .ensures)))
+loop-again c =
+    let loop = c .before .before .before .loop in (
+      omega arith,
+      search needs,
+      search needs,
+      total-more _ _ _ _ _ _ (loop .inv .3)
+          (indexed-field _ _ _ _ _ _ _ (loop .inv .1) (omega arith) (c .before .indexed .ensures) (c .field .ensures)),
+    )
 
 returns : tie.Need-returns Inv-loop μ-loop
-returns c = total-counts (c .before .before .before .before .before .before .args .y) (c .before .before .before .before .before .before .args .b .now) _ _ _ _ _ (c .before .loop .inv .3) (c .before .before .before .before .first-function .ensures .0) (c .before .before .count-field .ensures) (omega arith)
+returns c =
+    let args = c .before .before .before .before .before .before .args in
+    let first-function = c .before .before .before .before .first-function in
+    let count-field = c .before .before .count-field in
+    total-counts (args .y) (args .b .now) _ _ _ _ _ (c .before .loop .inv .3) (first-function .ensures .0) (count-field .ensures) (omega arith)
 
 pub run-total-spec : {M : Type 1} → statement M
 run-total-spec =

@@ -33,7 +33,11 @@ enum-told-2 : tie.Need-enum-told-2 Inv-loop μ-loop
 enum-told-2 c = c .match .keys2
 
 returns : tie.Need-returns Inv-loop μ-loop
-returns c = passed-refused _ _ _ _ _ _ _ (c .before .before .before .before .loop .inv .1) (c .before .before .before .loop-test .taken) (c .before .before .before .before .loop .inv .3) (c .before .before .references-at .ensures) (c .enum-told2 .given .1)
+returns c =
+    let loop = c .before .before .before .before .loop in
+    let loop-test = c .before .before .before .loop-test in
+    let references-at = c .before .before .references-at in
+    passed-refused _ _ _ _ _ _ _ (loop .inv .1) (loop-test .taken) (loop .inv .3) (references-at .ensures) (c .enum-told2 .given .1)
 
 add-r : tie.Need-add-r Inv-loop μ-loop
 add-r c = search needs
@@ -42,10 +46,15 @@ loop-less : tie.Need-loop-less Inv-loop μ-loop
 loop-less c = search needs
 
 loop-again : tie.Need-loop-again Inv-loop μ-loop
-loop-again c = (search needs, c .before .before .before .before .loop .inv .1, c .before .before .before .before .loop .inv .2, passed-more _ _ _ (c .before .before .before .before .loop .inv .3) (c .before .before .references-at .ensures) (c .enum-told .given .1))
+loop-again c =
+    let loop = c .before .before .before .before .loop in
+    let references-at = c .before .before .references-at in
+    (omega arith, loop .inv .1, loop .inv .2, passed-more _ _ _ (loop .inv .3) (references-at .ensures) (c .enum-told .given .1))
 
 returns-2 : tie.Need-returns-2 Inv-loop μ-loop
-returns-2 c = passed-all _ _ _ _ (c .before .loop .inv .1) (c .before .loop .inv .0) (c .loop-test .left) (c .before .loop .inv .3)
+returns-2 c =
+    let loop = c .before .loop in
+    passed-all _ _ _ _ (loop .inv .1) (loop .inv .0) (c .loop-test .left) (loop .inv .3)
 
 pub references-spec : {M : Type 1} → statement M
 references-spec =

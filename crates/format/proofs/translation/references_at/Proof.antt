@@ -19,16 +19,38 @@ children-below-requires : tie.Need-children-below-requires
 children-below-requires c κs = search needs
 
 returns : tie.Need-returns
-returns c = children-out _ _ _ _ (opened-record _ _ _ _ _ (c .before .before .before .before .before .pre .0) (c .before .before .before .before .before .pre .1) (c .before .before .before .indexed .ensures)) (c .before .before .nodes .ensures) _ (c .before .children-below .ensures) (not-true _ (c .if1 .taken))
+returns c =
+    let pre = c .before .before .before .before .before .pre in
+    let indexed = c .before .before .before .indexed in
+    let nodes = c .before .before .nodes in
+    children-out _ _ _ _ (opened-record _ _ _ _ _ (pre .0) (pre .1) (indexed .ensures)) (nodes .ensures) _ (c .before .children-below .ensures)
+    (not-true _ (c .if1 .taken))
 
 names-in-range-requires : tie.Need-names-in-range-requires
-names-in-range-requires c κs = opened-translation-kind _ _ _ _ (c .before .before .before .before .before .pre .0) (c .before .before .before .before .before .pre .1) (c .before .before .before .indexed .ensures)
+names-in-range-requires c κs =
+    let pre = c .before .before .before .before .before .pre in
+    let indexed = c .before .before .before .indexed in
+    opened-translation-kind _ _ _ _ (pre .0) (pre .1) (indexed .ensures)
 
 returns-2 : tie.Need-returns-2
-returns-2 c = names-out _ _ _ _ (opened-record _ _ _ _ _ (c .before .before .before .before .before .before .before .pre .0) (c .before .before .before .before .before .before .before .pre .1) (c .before .before .before .before .before .indexed .ensures)) (c .before .before .before .before .nodes .ensures) _ (c .before .before .before .children-below .ensures) (not-false _ (c .before .before .if1 .left)) _ (c .before .names-in-range .ensures) (not-true _ (c .if2 .taken))
+returns-2 c =
+    let pre = c .before .before .before .before .before .before .before .pre in
+    let indexed = c .before .before .before .before .before .indexed in
+    let nodes = c .before .before .before .before .nodes in
+    let children-below = c .before .before .before .children-below in
+    let if1 = c .before .before .if1 in
+    names-out _ _ _ _ (opened-record _ _ _ _ _ (pre .0) (pre .1) (indexed .ensures)) (nodes .ensures) _ (children-below .ensures)
+    (not-false _ (if1 .left)) _ (c .before .names-in-range .ensures) (not-true _ (c .if2 .taken))
 
 returns-3 : tie.Need-returns-3
-returns-3 c = all-in _ _ _ _ (opened-record _ _ _ _ _ (c .before .before .before .before .before .before .before .pre .0) (c .before .before .before .before .before .before .before .pre .1) (c .before .before .before .before .before .indexed .ensures)) (c .before .before .before .before .nodes .ensures) _ (c .before .before .before .children-below .ensures) (not-false _ (c .before .before .if1 .left)) _ (c .before .names-in-range .ensures) (not-false _ (c .if2 .left))
+returns-3 c =
+    let pre = c .before .before .before .before .before .before .before .pre in
+    let indexed = c .before .before .before .before .before .indexed in
+    let nodes = c .before .before .before .before .nodes in
+    let children-below = c .before .before .before .children-below in
+    let if1 = c .before .before .if1 in
+    all-in _ _ _ _ (opened-record _ _ _ _ _ (pre .0) (pre .1) (indexed .ensures)) (nodes .ensures) _ (children-below .ensures)
+    (not-false _ (if1 .left)) _ (c .before .names-in-range .ensures) (not-false _ (c .if2 .left))
 
 pub references-at-spec : {M : Type 1} → statement M
 references-at-spec =

@@ -5,6 +5,7 @@ use Rattle.definitions.specs.References.{clauses, clauseConstructor}
 use lib.Dec.{ltb}
 use mathlib.Core.Path.{_≡_}
 use Prim.Native.Nat.{_≤_, _-_, suc}
+use native.Mathlib.Omega.{arith}
 use borrow.Author.Needs.{needs}
 use Rattle.format.proofs.tree.clauses_rise.Statement.{statement}
 use Rattle.format.proofs.tree.clauses_rise.Tie as tie
@@ -34,7 +35,11 @@ clause-constructor-requires-2 : tie.Need-clause-constructor-requires-2 Inv-loop 
 clause-constructor-requires-2 c κs = search needs
 
 returns : tie.Need-returns Inv-loop μ-loop
-returns c = rise-fails _ _ _ (c .before .before .before .before .loop .inv .1) (c .before .before .before .loop-test .taken) (clauses-fall _ _ _ _ (c .before .before .clause-constructor .ensures) (c .before .clause-constructor2 .ensures) (c .if1 .taken))
+returns c =
+    let loop = c .before .before .before .before .loop in
+    let loop-test = c .before .before .before .loop-test in
+    let clause-constructor = c .before .before .clause-constructor in
+    rise-fails _ _ _ (loop .inv .1) (loop-test .taken) (clauses-fall _ _ _ _ (clause-constructor .ensures) (c .before .clause-constructor2 .ensures) (c .if1 .taken))
 
 add-j : tie.Need-add-j Inv-loop μ-loop
 add-j c = search needs
@@ -43,10 +48,19 @@ loop-less : tie.Need-loop-less Inv-loop μ-loop
 loop-less c = search needs
 
 loop-again : tie.Need-loop-again Inv-loop μ-loop
-loop-again c = (search needs, c .before .before .before .before .loop .inv .1, each-more _ _ (c .before .before .before .before .loop .inv .2) (clauses-rise-here _ _ _ _ (c .before .before .clause-constructor .ensures) (c .before .clause-constructor2 .ensures) (c .if1 .left)))
+loop-again c =
+    let loop = c .before .before .before .before .loop in
+    let clause-constructor = c .before .before .clause-constructor in (
+      omega arith,
+      loop .inv .1,
+      each-more _ _ (loop .inv .2)
+          (clauses-rise-here _ _ _ _ (clause-constructor .ensures) (c .before .clause-constructor2 .ensures) (c .if1 .left)),
+    )
 
 returns-2 : tie.Need-returns-2 Inv-loop μ-loop
-returns-2 c = rise-all _ _ _ (c .before .loop .inv .1) (c .before .loop .inv .0) (c .loop-test .left) (c .before .loop .inv .2)
+returns-2 c =
+    let loop = c .before .loop in
+    rise-all _ _ _ (loop .inv .1) (loop .inv .0) (c .loop-test .left) (loop .inv .2)
 
 pub clauses-rise-spec : {M : Type 1} → statement M
 clauses-rise-spec =

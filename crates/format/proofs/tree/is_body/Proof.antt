@@ -17,13 +17,18 @@ mul-wide : tie.Need-mul-wide
 mul-wide c = search needs
 
 element-copy-out-wide : tie.Need-element-copy-out-wide
-element-copy-out-wide c = owner-in-table _ _ _ _ _ (c .before .before .before .pre) _ (c .wide8 .ensures .0)
+element-copy-out-wide c =
+    let pre = c .before .before .before .pre in
+    owner-in-table _ _ _ _ _ (pre) _ (c .wide8 .ensures .0)
 
 wide-requires : tie.Need-wide-requires
 wide-requires c κs = search needs
 
 returns : tie.Need-returns
-returns c = body-test _ _ _ _ _ (c .before .before .before .before .before .pre) _ _ (c .before .before .wide8 .ensures .0) (c .wide .ensures .0)
+returns c =
+    let pre = c .before .before .before .before .before .pre in
+    let wide8 = c .before .before .wide8 in
+    body-test _ _ _ _ _ (pre) _ _ (wide8 .ensures .0) (c .wide .ensures .0)
 
 pub is-body-spec : {M : Type 1} → statement M
 is-body-spec =

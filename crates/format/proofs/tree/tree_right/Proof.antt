@@ -15,10 +15,17 @@ indexed-requires : tie.Need-indexed-requires
 indexed-requires c κs = search needs
 
 children-right-requires : tie.Need-children-right-requires
-children-right-requires c κs = (c .before .before .before .pre .0 .owned, c .before .before .before .pre .0 .below, node-in-table _ _ _ _ _ (c .before .before .before .pre .0))
+children-right-requires c κs =
+    let pre = c .before .before .before .pre in
+    (pre .0 .owned, pre .0 .below, node-in-table _ _ _ _ _ (pre .0))
 
 returns : tie.Need-returns
-returns c = tree-child-wrong _ _ _ (node-record _ _ _ _ _ (c .before .before .before .before .before .pre .0) _ _ (c .before .before .before .first-node .ensures .0) (c .before .before .indexed .ensures)) _ (c .before .children-right .ensures) (not-true _ (c .if1 .taken))
+returns c =
+    let pre = c .before .before .before .before .before .pre in
+    let first-node = c .before .before .before .first-node in
+    let indexed = c .before .before .indexed in
+    tree-child-wrong _ _ _ (node-record _ _ _ _ _ (pre .0) _ _ (first-node .ensures .0) (indexed .ensures)) _ (c .before .children-right .ensures)
+    (not-true _ (c .if1 .taken))
 
 is-body-requires : tie.Need-is-body-requires
 is-body-requires c κs = search needs
@@ -30,25 +37,66 @@ clauses-rise-requires : tie.Need-clauses-rise-requires
 clauses-rise-requires c κs = search needs
 
 returns-2 : tie.Need-returns-2
-returns-2 c = tree-case-body _ _ _ (node-record _ _ _ _ _ (c .before .before .before .before .before .before .before .before .before .before .pre .0) _ _ (c .before .before .before .before .before .before .before .before .first-node .ensures .0) (c .before .before .before .before .before .before .before .indexed .ensures)) _ (c .before .before .before .before .before .before .children-right .ensures) (not-false _ (c .before .before .before .before .before .if1 .left)) _ (c .before .before .before .before .is-body .ensures) _ _ (c .before .before .before .if2 .taken) (c .before .before .kind .ensures) (c .before .if3 .taken) (c .clauses-rise .ensures)
+returns-2 c =
+    let pre = c .before .before .before .before .before .before .before .before .before .before .pre in
+    let first-node = c .before .before .before .before .before .before .before .before .first-node in
+    let indexed = c .before .before .before .before .before .before .before .indexed in
+    let children-right = c .before .before .before .before .before .before .children-right in
+    let if1 = c .before .before .before .before .before .if1 in
+    let is-body = c .before .before .before .before .is-body in
+    let if2 = c .before .before .before .if2 in
+    let kind = c .before .before .kind in
+    tree-case-body _ _ _ (node-record _ _ _ _ _ (pre .0) _ _ (first-node .ensures .0) (indexed .ensures)) _ (children-right .ensures)
+    (not-false _ (if1 .left)) _ (is-body .ensures) _ _ (if2 .taken) (kind .ensures) (c .before .if3 .taken) (c .clauses-rise .ensures)
 
 returns-3 : tie.Need-returns-3
-returns-3 c = tree-body _ _ _ (node-record _ _ _ _ _ (c .before .before .before .before .before .before .before .before .before .pre .0) _ _ (c .before .before .before .before .before .before .before .first-node .ensures .0) (c .before .before .before .before .before .before .indexed .ensures)) _ (c .before .before .before .before .before .children-right .ensures) (not-false _ (c .before .before .before .before .if1 .left)) _ (c .before .before .before .is-body .ensures) _ (c .before .before .if2 .taken) (c .before .kind .ensures) (c .if3 .left)
+returns-3 c =
+    let pre = c .before .before .before .before .before .before .before .before .before .pre in
+    let first-node = c .before .before .before .before .before .before .before .first-node in
+    let indexed = c .before .before .before .before .before .before .indexed in
+    let children-right = c .before .before .before .before .before .children-right in
+    let if1 = c .before .before .before .before .if1 in
+    let is-body = c .before .before .before .is-body in
+    let if2 = c .before .before .if2 in
+    tree-body _ _ _ (node-record _ _ _ _ _ (pre .0) _ _ (first-node .ensures .0) (indexed .ensures)) _ (children-right .ensures)
+    (not-false _ (if1 .left)) _ (is-body .ensures) _ (if2 .taken) (c .before .kind .ensures) (c .if3 .left)
 
 element-copy-out-wide8 : tie.Need-element-copy-out-wide8
-element-copy-out-wide8 c = node-in-table _ _ _ _ _ (c .before .before .before .before .before .before .before .pre .0)
+element-copy-out-wide8 c =
+    let pre = c .before .before .before .before .before .before .before .pre in
+    node-in-table _ _ _ _ _ (pre .0)
 
 wide8-requires : tie.Need-wide8-requires
 wide8-requires c κs = search needs
 
 returns-4 : tie.Need-returns-4
-returns-4 c = tree-times-wrong _ _ _ (node-record _ _ _ _ _ (c .before .before .before .before .before .before .before .before .before .before .pre .0) _ _ (c .before .before .before .before .before .before .before .before .first-node .ensures .0) (c .before .before .before .before .before .before .before .indexed .ensures)) _ (c .before .before .before .before .before .before .children-right .ensures) (not-false _ (c .before .before .before .before .before .if1 .left)) _ (c .before .before .before .before .is-body .ensures) _ (c .before .before .before .before .before .before .before .before .before .before .pre .1) (c .before .before .before .before .before .before .before .before .before .before .pre .0 .below) _ (c .before .wide8 .ensures .0) (c .before .before .before .if2 .left) (c .if4 .taken)
+returns-4 c =
+    let pre = c .before .before .before .before .before .before .before .before .before .before .pre in
+    let first-node = c .before .before .before .before .before .before .before .before .first-node in
+    let indexed = c .before .before .before .before .before .before .before .indexed in
+    let children-right = c .before .before .before .before .before .before .children-right in
+    let if1 = c .before .before .before .before .before .if1 in
+    let is-body = c .before .before .before .before .is-body in
+    let if2 = c .before .before .before .if2 in
+    tree-times-wrong _ _ _ (node-record _ _ _ _ _ (pre .0) _ _ (first-node .ensures .0) (indexed .ensures)) _ (children-right .ensures)
+    (not-false _ (if1 .left)) _ (is-body .ensures) _ (pre .1) (pre .0 .below) _ (c .before .wide8 .ensures .0) (if2 .left) (c .if4 .taken)
 
 kind-requires-2 : tie.Need-kind-requires-2
 kind-requires-2 c κs = search needs
 
 returns-5 : tie.Need-returns-5
-returns-5 c = tree-inner _ _ _ (node-record _ _ _ _ _ (c .before .before .before .before .before .before .before .before .before .before .before .pre .0) _ _ (c .before .before .before .before .before .before .before .before .before .first-node .ensures .0) (c .before .before .before .before .before .before .before .before .indexed .ensures)) _ (c .before .before .before .before .before .before .before .children-right .ensures) (not-false _ (c .before .before .before .before .before .before .if1 .left)) _ (c .before .before .before .before .before .is-body .ensures) _ (c .before .before .before .before .before .before .before .before .before .before .before .pre .1) (c .before .before .before .before .before .before .before .before .before .before .before .pre .0 .below) _ (c .before .before .wide8 .ensures .0) _ (c .before .before .before .before .if2 .left) (c .before .if4 .left) (c .kind2 .ensures)
+returns-5 c =
+    let pre = c .before .before .before .before .before .before .before .before .before .before .before .pre in
+    let first-node = c .before .before .before .before .before .before .before .before .before .first-node in
+    let indexed = c .before .before .before .before .before .before .before .before .indexed in
+    let children-right = c .before .before .before .before .before .before .before .children-right in
+    let if1 = c .before .before .before .before .before .before .if1 in
+    let is-body = c .before .before .before .before .before .is-body in
+    let if2 = c .before .before .before .before .if2 in
+    let wide8 = c .before .before .wide8 in
+    tree-inner _ _ _ (node-record _ _ _ _ _ (pre .0) _ _ (first-node .ensures .0) (indexed .ensures)) _ (children-right .ensures)
+    (not-false _ (if1 .left)) _ (is-body .ensures) _ (pre .1) (pre .0 .below) _ (wide8 .ensures .0) _ (if2 .left) (c .before .if4 .left)
+    (c .kind2 .ensures)
 
 pub tree-right-spec : {M : Type 1} → statement M
 tree-right-spec =

@@ -6,6 +6,7 @@ use Rattle.definitions.specs.Checks.{tree}
 use borrow.Author.Tests.{not-true, not-false}
 use mathlib.Core.Path.{_∙_, refl}
 use Prim.Native.Nat.{_-_}
+use native.Mathlib.Omega.{arith}
 use borrow.Author.Needs.{needs}
 use Rattle.format.proofs.tree.trees.Statement.{statement}
 use Rattle.format.proofs.tree.trees.Tie as tie
@@ -26,16 +27,38 @@ wide-requires : tie.Need-wide-requires Inv-loop μ-loop
 wide-requires c κs = search needs
 
 loop-holds : tie.Need-loop-holds Inv-loop μ-loop
-loop-holds c = (record { file = c .before .before .before .before .pre .0; runs = c .before .before .before .before .pre .1; owned = c .before .before .before .before .pre .2; start = c .before .before .first-node .ensures .0; low = c .before .before .first-node .ensures .1; counts = c .wide .ensures .0 ∙ c .before .nodes .ensures; narrow = c .wide .ensures .1; reached = search needs; passed = passed-none _ }, c .before .before .before .before .pre .3)
+loop-holds c =
+    let pre = c .before .before .before .before .pre in
+    let first-node = c .before .before .first-node in
+    let wide = c .wide in (
+      record {
+        file = pre .0;
+        runs = pre .1;
+        owned = pre .2;
+        start = first-node .ensures .0;
+        low = first-node .ensures .1;
+        counts = wide .ensures .0 ∙ c .before .nodes .ensures;
+        narrow = wide .ensures .1;
+        reached = omega arith;
+        passed = passed-none _;
+      },
+      pre .3,
+    )
 
 tree-right-requires : tie.Need-tree-right-requires Inv-loop μ-loop
-tree-right-requires c κs = (ruling-node _ _ _ _ _ _ _ _ (c .before .loop .inv .0) (c .loop-test .taken), c .before .loop .inv .1)
+tree-right-requires c κs =
+    let loop = c .before .loop in
+    (ruling-node _ _ _ _ _ _ _ _ (loop .inv .0) (c .loop-test .taken), loop .inv .1)
 
 add-t12 : tie.Need-add-t12 Inv-loop μ-loop
 add-t12 c = search needs
 
 returns : tie.Need-returns Inv-loop μ-loop
-returns c = ruling-refused _ _ _ _ _ _ _ _ (c .before .before .before .loop .inv .0) _ _ (c .before .before .loop-test .taken) (tree-refused _ _ _ _ (c .before .before .before .loop .inv .0 .start) (c .before .tree-right .ensures) (not-true _ (c .if1 .taken)))
+returns c =
+    let loop = c .before .before .before .loop in
+    let loop-test = c .before .before .loop-test in
+    ruling-refused _ _ _ _ _ _ _ _ (loop .inv .0) _ _ (loop-test .taken)
+    (tree-refused _ _ _ _ (loop .inv .0 .start) (c .before .tree-right .ensures) (not-true _ (c .if1 .taken)))
 
 add-k : tie.Need-add-k Inv-loop μ-loop
 add-k c = search needs
@@ -44,7 +67,13 @@ loop-less : tie.Need-loop-less Inv-loop μ-loop
 loop-less c = search needs
 
 loop-again : tie.Need-loop-again Inv-loop μ-loop
-loop-again c = (ruling-more _ _ _ _ _ _ _ _ (c .before .before .before .loop .inv .0) _ (c .before .before .loop-test .taken) (tree-accepted _ _ _ (c .before .tree-right .ensures) (not-false _ (c .if1 .left))) refl, c .before .before .before .loop .inv .1)
+loop-again c =
+    let loop = c .before .before .before .loop in
+    let loop-test = c .before .before .loop-test in (
+      ruling-more _ _ _ _ _ _ _ _ (loop .inv .0) _ (loop-test .taken)
+          (tree-accepted _ _ _ (c .before .tree-right .ensures) (not-false _ (c .if1 .left))) refl,
+      loop .inv .1,
+    )
 
 returns-2 : tie.Need-returns-2 Inv-loop μ-loop
 returns-2 c = ruling-done _ _ _ _ _ _ _ _ (c .before .loop .inv .0) (c .loop-test .left)

@@ -13,10 +13,14 @@ add-result : tie.Need-add-result
 add-result c = sum-fits _ (c .before .fits .x) _ (omega arith) (omega arith)
 
 cast-result-2 : tie.Need-cast-result-2
-cast-result-2 c = bits-cast (c .before .args .x) (c .before .fits .x) _ (sum-bits _ (c .before .fits .x) (c .if1 .taken))
+cast-result-2 c =
+    let fits = c .before .fits in
+    bits-cast (c .before .args .x) (fits .x) _ (sum-bits _ (fits .x) (c .if1 .taken))
 
 cast-result-3 : tie.Need-cast-result-3
-cast-result-3 c = bits-cast (c .before .args .x) (c .before .fits .x) _ (own-bits _ (c .before .fits .x) (c .if1 .left))
+cast-result-3 c =
+    let fits = c .before .fits in
+    bits-cast (c .before .args .x) (fits .x) _ (own-bits _ (fits .x) (c .if1 .left))
 
 returns : tie.Need-returns
 returns c = ap natAbs (sum-bits _ (c .before .fits .x) (c .if1 .taken))

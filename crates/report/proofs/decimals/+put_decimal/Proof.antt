@@ -27,10 +27,17 @@ put-decimal-claims t =
     (put-byte-reads.Asked, put-byte-reads.Learnt, put-decimal-below t, put-decimal.Post)
 
 put-decimal-returns : (t : ℕ) → put-decimal-lts.Need-returns (put-decimal-claims t) (put-decimal-at t) put-decimal.Post
-put-decimal-returns t c = wrote-digit _ _ _ _ _ (c .before .before .before .before .if1 .taken) (c .before .before .put-byte .ensures)
+put-decimal-returns t c =
+    let if1 = c .before .before .before .before .if1 in
+    let put-byte = c .before .before .put-byte in
+    wrote-digit _ _ _ _ _ (if1 .taken) (put-byte .ensures)
 
 put-decimal-returns-2 : (t : ℕ) → put-decimal-lts.Need-returns-2 (put-decimal-claims t) (put-decimal-at t) put-decimal.Post
-put-decimal-returns-2 t c = wrote-last _ _ _ _ _ _ _ (c .before .before .before .before .before .before .before .before .if1 .left) (c .before .before .before .before .before .before .put-decimal .ensures) (c .before .before .put-byte2 .ensures)
+put-decimal-returns-2 t c =
+    let if1 = c .before .before .before .before .before .before .before .before .if1 in
+    let put-decimal = c .before .before .before .before .before .before .put-decimal in
+    let put-byte2 = c .before .before .put-byte2 in
+    wrote-last _ _ _ _ _ _ _ (if1 .left) (put-decimal .ensures) (put-byte2 .ensures)
 
 pub +put-decimal-spec : {M : Type 1} → statement M
 +put-decimal-spec = close μ-put-decimal λ t. put-decimal-lts.spec (put-decimal-claims t)

@@ -14,10 +14,14 @@ sub-result : tie.Need-sub-result
 sub-result c = difference-fits _ (c .before .fits .x) (c .if1 .taken)
 
 cast-result-2 : tie.Need-cast-result-2
-cast-result-2 c = size-cast (c .before .args .x) (c .before .fits .x) _ (negative-size _ (c .before .fits .x) (c .if1 .taken))
+cast-result-2 c =
+    let fits = c .before .fits in
+    size-cast (c .before .args .x) (fits .x) _ (negative-size _ (fits .x) (c .if1 .taken))
 
 cast-result-3 : tie.Need-cast-result-3
-cast-result-3 c = size-cast (c .before .args .x) (c .before .fits .x) _ (positive-size _ (c .before .fits .x) (c .if1 .left))
+cast-result-3 c =
+    let fits = c .before .fits in
+    size-cast (c .before .args .x) (fits .x) _ (positive-size _ (fits .x) (c .if1 .left))
 
 returns : tie.Need-returns
 returns c = ap natAbs (negative-size _ (c .before .fits .x) (c .if1 .taken))

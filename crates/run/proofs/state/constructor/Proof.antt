@@ -4,10 +4,9 @@ use mathlib.Core.Path.{refl}
 use Rattle.run.proofs.state.constructor.Statement.{statement}
 use Rattle.run.proofs.state.constructor.Tie as tie
 
--- src/state.rt:56:1
 returns : tie.Need-returns
 unfolding endingOf valueOf
-returns c = record { ending = refl; steps = refl; cells = refl }
+returns c = refl
 
 pub constructor-spec : {M : Type 1} → statement M
 constructor-spec = tie.close (tie.spec returns)

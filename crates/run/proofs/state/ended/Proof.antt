@@ -4,10 +4,9 @@ use mathlib.Core.Path.{refl}
 use Rattle.run.proofs.state.ended.Statement.{statement}
 use Rattle.run.proofs.state.ended.Tie as tie
 
--- src/state.rt:27:1
 returns : tie.Need-returns
 unfolding endingOf valueOf
-returns c = record { ending = refl; steps = refl; cells = refl }
+returns c = refl
 
 pub ended-spec : {M : Type 1} → statement M
 ended-spec = tie.close (tie.spec returns)

@@ -6,10 +6,9 @@ use mathlib.Core.Path.{refl}
 use Rattle.run.proofs.state.number.Statement.{statement}
 use Rattle.run.proofs.state.number.Tie as tie
 
--- src/state.rt:38:1
 returns : tie.Need-returns
 unfolding endingOf valueOf
-returns c = record { ending = rw (toZ-ofZ w32 _ (c .fits .z)) refl; steps = refl; cells = refl }
+returns c = rw (toZ-ofZ w32 _ (c .fits .z)) refl
 
 pub number-spec : {M : Type 1} → statement M
 number-spec = tie.close (tie.spec returns)

@@ -5,17 +5,14 @@ use borrow.Author.Needs.{needs}
 use Rattle.run.proofs.state.tag.Statement.{statement}
 use Rattle.run.proofs.state.tag.Tie as tie
 
--- src/state.rt:52:12
 cast-number : tie.Need-cast-number
 cast-number c = search needs
 
--- src/state.rt:52:5
 number-requires : tie.Need-number-requires
 number-requires c κs = search needs
 
--- src/state.rt:49:1
 returns : tie.Need-returns
-returns c = tag-number _ _ _ _ _ refl (search needs) (c .number .ensures)
+returns c = tag-number _ _ _ refl (search needs) (c .number .ensures)
 
 pub tag-spec : {M : Type 1} → statement M
 tag-spec = tie.close (tie.spec cast-number number-requires returns)

@@ -1,66 +1,124 @@
 -- `translator::formals::put_actuals` meets its contract. The loop's invariant: the arguments of the calls passed are written.
-use mathlib.Core.Path.{_∙_}
-use Rattle.translator.proofs.Writing.{wrote-none, wrote-more, wrote-all}
-use Rattle.translator.proofs.SheetTables.{nodes-few, node-of-formal}
-use Rattle.translator.specs.Writing.{Wrote}
-use Rattle.definitions.specs.Translate.{calls, actuals}
-use Rattle.definitions.specs.Layouts.{nodeRecord}
-use Rattle.definitions.specs.Lists.{joined}
-use Rattle.definitions.specs.Records.{field}
 use Prim.Native.Nat.{_+_, _≤_, _-_}
-use mathlib.Core.List.{[], _∷_}
-use mathlib.Core.Bool.{cond}
+use mathlib.Core.Path.{refl}
+use native.Mathlib.Omega.{arith}
+use Rattle.definitions.specs.Lists.{joined}
+use Rattle.translator.specs.Writing.{Wrote}
+use Rattle.translator.proofs.Writing.{wrote-none, wrote-more, wrote-as, wrote-all}
+use Rattle.translator.proofs.FormalSteps.{argumentOf, range-right, place-small, argument-read, actuals-are}
 use borrow.Author.Needs.{needs}
 use Rattle.translator.proofs.formals.put_actuals.Statement.{statement}
 use Rattle.translator.proofs.formals.put_actuals.Tie as tie
-use Rattle.translator.proofs.formals.put_actuals.Reads as reads
-use Rattle.translator.proofs.formals.put_actuals.Lts as lts
-use Rattle.file_layout.proofs.layout.nodes.Reads as nodes-reads
-use Rattle.file_records.proofs.records.wide.Reads as wide-reads
-use Rattle.translator.proofs.formals.put_actual.Reads as put-actual-reads
 
 abbrev Inv-loop : tie.InvT-loop
-Inv-loop b starts callees f i out₀ at count next₀ k₀ out next k = (k ≤ count) × (count ≤ 1024) × Wrote out₀ at (joined k (λ j. cond (calls b f j) (field (nodeRecord b j) (1 + i) ∷ []) [])) next out
+Inv-loop b starts firsts order f i out₀ at node first count next₀ j₀ out next j = (j ≤ count) × Wrote out₀ at (joined j (λ n. argumentOf b order i (first + n))) next out
 
 abbrev μ-loop : tie.MeasureT-loop
-μ-loop b starts callees f i out₀ at count next₀ k₀ out next k = count - k
+μ-loop b starts firsts order f i out₀ at node first count next₀ j₀ out next j = count - j
 
--- src/formals.rt:36:22
-nodes-requires : tie.Need-nodes-requires Inv-loop μ-loop
-nodes-requires c κs = search needs
+first-node-requires : tie.Need-first-node-requires Inv-loop μ-loop
+first-node-requires c κs = search needs
 
--- src/formals.rt:36:9
+mul-wide : tie.Need-mul-wide Inv-loop μ-loop
+mul-wide c = search needs
+
+element-copy-out-wide : tie.Need-element-copy-out-wide Inv-loop μ-loop
+element-copy-out-wide c = search needs
+
 wide-requires : tie.Need-wide-requires Inv-loop μ-loop
 wide-requires c κs = search needs
 
--- src/formals.rt:39:5
+add-wide : tie.Need-add-wide Inv-loop μ-loop
+add-wide c = search needs
+
+mul-wide-2 : tie.Need-mul-wide-2 Inv-loop μ-loop
+mul-wide-2 c = search needs
+
+element-copy-out-wide-2 : tie.Need-element-copy-out-wide-2 Inv-loop μ-loop
+element-copy-out-wide-2 c = search needs
+
+wide-requires-2 : tie.Need-wide-requires-2 Inv-loop μ-loop
+wide-requires-2 c κs = search needs
+
+sub-count : tie.Need-sub-count Inv-loop μ-loop
+sub-count c =
+    let at-wide = c .before .before in
+    let pre = at-wide .before .before .before .before .before .pre in
+    range-right _ _ _ _ _ _ _ _ pre (at-wide .wide .ensures .0) (c .wide2 .ensures .0)
+
 loop-holds : tie.Need-loop-holds Inv-loop μ-loop
-loop-holds c = (search needs, nodes-few _ _ _ _ ((c .before .before .before .before .pre) .0) ((c .wide) .ensures .0 ∙ (c .before .nodes) .ensures), wrote-none _ _ _)
+loop-holds c = (search needs, wrote-none _ _ _)
 
--- src/formals.rt:40:9
-put-actual-requires : tie.Need-put-actual-requires Inv-loop μ-loop
-put-actual-requires c κs = node-of-formal _ _ _ _ _ _ ((c .before .before .before .before .before .before .before .pre) .0) ((c .before .before .before .wide) .ensures .0 ∙ (c .before .before .before .before .nodes) .ensures) ((c .before .loop-test) .taken) ((c .before .before .before .before .before .before .before .pre) .1)
+add-wide-2 : tie.Need-add-wide-2 Inv-loop μ-loop
+add-wide-2 c = search needs
 
--- src/formals.rt:41:9
-add-k : tie.Need-add-k Inv-loop μ-loop
-add-k c = search needs
+mul-wide-3 : tie.Need-mul-wide-3 Inv-loop μ-loop
+mul-wide-3 c = search needs
 
--- src/formals.rt:39:5
+element-copy-out-wide-3 : tie.Need-element-copy-out-wide-3 Inv-loop μ-loop
+element-copy-out-wide-3 c =
+    let at-wide2 = c .before .before in
+    let at-wide = at-wide2 .before .before in
+    let pre = at-wide .before .before .before .before .before .pre in
+    place-small _ _ _ _ _ _ _ _ pre (at-wide .wide .ensures .0) (at-wide2 .wide2 .ensures .0) _ (c .loop-test .taken)
+
+wide-requires-3 : tie.Need-wide-requires-3 Inv-loop μ-loop
+wide-requires-3 c κs = search needs
+
+add-indexed : tie.Need-add-indexed Inv-loop μ-loop
+add-indexed c = search needs
+
+indexed-requires : tie.Need-indexed-requires Inv-loop μ-loop
+indexed-requires c κs = search needs
+
+add-field : tie.Need-add-field Inv-loop μ-loop
+add-field c = search needs
+
+field-requires : tie.Need-field-requires Inv-loop μ-loop
+field-requires c κs = search needs
+
+wide-requires-4 : tie.Need-wide-requires-4 Inv-loop μ-loop
+wide-requires-4 c κs = search needs
+
+put-requires : tie.Need-put-requires Inv-loop μ-loop
+put-requires c κs = search needs
+
+add-j : tie.Need-add-j Inv-loop μ-loop
+add-j c = search needs
+
 loop-less : tie.Need-loop-less Inv-loop μ-loop
 loop-less c = search needs
 
--- src/formals.rt:39:5
 loop-again : tie.Need-loop-again Inv-loop μ-loop
-loop-again c = (search needs, (c .before .before .before .before .before .loop) .inv .1, wrote-more _ _ _ _ _ _ _ _ ((c .before .before .before .before .before .loop) .inv .2) ((c .before .before .put-actual) .ensures))
+loop-again c =
+    let at-put = c .before .before in
+    let at-wide4 = at-put .before in
+    let at-field = at-wide4 .before in
+    let at-indexed = at-field .before .before in
+    let at-wide3 = at-indexed .before in
+    let at-test = at-wide3 .before .before in
+    let at-loop = at-test .before in
+    let at-wide2 = at-loop .before in
+    let at-wide = at-wide2 .before .before in
+    let at-first-node = at-wide .before .before in
+    let pre = at-first-node .before .before .before .pre in
+    let inv = at-loop .loop .inv in
+    let argument = argument-read _ _ _ _ _ _ _ _ pre (at-wide .wide .ensures .0) (at-wide2 .wide2 .ensures .0) _ _ _ _ _ _
+    (at-test .loop-test .taken) (at-first-node .first-node .ensures .0) (at-wide3 .wide3 .ensures .0) (at-indexed .indexed .ensures)
+    (at-field .field .ensures) (at-wide4 .wide4 .ensures .0) in
+    (search needs, wrote-more _ _ _ _ _ _ _ _ (inv .1) (wrote-as _ _ _ _ _ _ argument (at-put .put .ensures)))
 
--- src/formals.rt:32:1
 same-length : tie.Need-same-length Inv-loop μ-loop
-same-length c = (c .before .loop) .inv .2 .kept
+same-length c = c .before .loop .inv .1 .kept
 
--- src/formals.rt:32:1
 returns : tie.Need-returns Inv-loop μ-loop
-unfolding actuals
-returns c = wrote-all _ _ _ _ _ _ _ _ ((c .before .before .wide) .ensures .0 ∙ (c .before .before .before .nodes) .ensures) ((c .before .loop) .inv .0) ((c .loop-test) .left) ((c .before .loop) .inv .2)
+returns c =
+    let at-wide2 = c .before .before in
+    let at-wide = at-wide2 .before .before in
+    let pre = at-wide .before .before .before .before .before .pre in
+    let inv = c .before .loop .inv in
+    let actuals = actuals-are _ _ _ _ _ _ _ _ pre (at-wide .wide .ensures .0) (at-wide2 .wide2 .ensures .0) in
+    wrote-as _ _ _ _ _ _ actuals (wrote-all _ _ _ _ _ _ _ _ refl (inv .0) (c .loop-test .left) (inv .1))
 
 pub put-actuals-spec : {M : Type 1} → statement M
 put-actuals-spec =
@@ -68,11 +126,27 @@ put-actuals-spec =
     (tie.spec
     Inv-loop
     μ-loop
-    nodes-requires
+    first-node-requires
+    mul-wide
+    element-copy-out-wide
     wide-requires
+    add-wide
+    mul-wide-2
+    element-copy-out-wide-2
+    wide-requires-2
+    sub-count
     loop-holds
-    put-actual-requires
-    add-k
+    add-wide-2
+    mul-wide-3
+    element-copy-out-wide-3
+    wide-requires-3
+    add-indexed
+    indexed-requires
+    add-field
+    field-requires
+    wide-requires-4
+    put-requires
+    add-j
     loop-less
     loop-again
     same-length

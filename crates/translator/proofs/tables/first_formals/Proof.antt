@@ -1,71 +1,71 @@
 -- `translator::tables::first_formals` meets its contract. The loop's invariant: the sums over the functions passed are in the table.
-use native.Mathlib.Omega.{arith}
-use mathlib.Core.Path.{refl, _∙_}
-use Rattle.format.proofs.SheetTables.{opened-parameters}
-use Rattle.translator.proofs.SheetTables.{Summing, summing-begins, summing-goes-on, summing-done}
 use Prim.Native.Nat.{_-_}
+use mathlib.Core.Path.{refl, _∙_}
+use native.Mathlib.Omega.{arith}
+use Rattle.definitions.specs.References.{parameters}
+use Rattle.definitions.specs.declared.Layout.the-variants.{Sheet}
+use Rattle.accepted.proofs.Head.{functions-limit}
+use Rattle.translator.proofs.SheetTables.{Summing, summing-begins, summing-goes-on, summing-done, parameters-read, formals-few}
 use borrow.Author.Needs.{needs}
 use Rattle.translator.proofs.tables.first_formals.Statement.{statement}
 use Rattle.translator.proofs.tables.first_formals.Tie as tie
-use Rattle.translator.proofs.tables.first_formals.Reads as reads
-use Rattle.translator.proofs.tables.first_formals.Lts as lts
-use Rattle.file_layout.proofs.layout.functions.Reads as functions-reads
-use Rattle.file_records.proofs.declared_counts.parameters.Reads as parameters-reads
-use Rattle.file_records.proofs.records.wide.Reads as wide-reads
 
 abbrev Inv-loop : tie.InvT-loop
-Inv-loop b starts count firsts₀ total₀ f₀ firsts total f = Summing b firsts count total f
+Inv-loop b starts count firsts₀ total₀ f₀ firsts total f = Summing (parameters b) firsts count total f
 
 abbrev μ-loop : tie.MeasureT-loop
 μ-loop b starts count firsts₀ total₀ f₀ firsts total f = count - f
 
--- src/tables.rt:74:22
 functions-requires : tie.Need-functions-requires Inv-loop μ-loop
 functions-requires c κs = search needs
 
--- src/tables.rt:74:9
 wide-requires : tie.Need-wide-requires Inv-loop μ-loop
 wide-requires c κs = search needs
 
--- src/tables.rt:78:5
 loop-holds : tie.Need-loop-holds Inv-loop μ-loop
-loop-holds c = summing-begins _ _ _ _ (c .before .before .before .pre) ((c .wide) .ensures .0 ∙ (c .before .functions) .ensures) refl refl
+loop-holds c =
+    let pre = c .before .before .before .pre in
+    summing-begins _ _ _ (omega (arith, c .wide .ensures .0, c .before .functions .ensures, functions-limit Sheet _ (pre .accepted))) refl refl
 
--- src/tables.rt:79:18
 parameters-requires : tie.Need-parameters-requires Inv-loop μ-loop
 parameters-requires c κs = search needs
 
--- src/tables.rt:79:18
-cast-total : tie.Need-cast-total Inv-loop μ-loop
-cast-total c = search needs
-
--- src/tables.rt:79:9
 add-total : tie.Need-add-total Inv-loop μ-loop
-add-total c = search needs
+add-total c =
+    let at-loop = c .before .before in
+    let at-wide = at-loop .before in
+    let at-functions = at-wide .before in
+    let pre = at-functions .before .before .pre in
+    let count = at-wide .wide .ensures .0 ∙ at-functions .functions .ensures in
+    omega (arith, formals-few _ _ _ _ _ pre (c .before .loop-test .taken) count (c .parameters .ensures) _ (at-loop .loop .inv .summed))
 
--- src/tables.rt:80:9
 add-f : tie.Need-add-f Inv-loop μ-loop
 add-f c = search needs
 
--- src/tables.rt:81:9
 mul-firsts : tie.Need-mul-firsts Inv-loop μ-loop
 mul-firsts c = search needs
 
--- src/tables.rt:81:9
 array-write-firsts : tie.Need-array-write-firsts Inv-loop μ-loop
 array-write-firsts c = search needs
 
--- src/tables.rt:78:5
 loop-less : tie.Need-loop-less Inv-loop μ-loop
 loop-less c = search needs
 
--- src/tables.rt:78:5
 loop-again : tie.Need-loop-again Inv-loop μ-loop
-loop-again c = summing-goes-on _ _ _ _ _ _ ((c .before .before .loop) .inv) ((c .before .loop-test) .taken) (opened-parameters _ _ _ _ (c .before .before .before .before .before .before .pre) (omega (arith, (c .before .before .loop) .inv .counted, (c .before .loop-test) .taken)) ((c .parameters) .ensures)) (omega arith)
+loop-again c =
+    let at-loop = c .before .before in
+    let at-wide = at-loop .before in
+    let at-functions = at-wide .before in
+    let pre = at-functions .before .before .pre in
+    let taken = c .before .loop-test .taken in
+    let count = at-wide .wide .ensures .0 ∙ at-functions .functions .ensures in
+    summing-goes-on _ _ _ _ _ _ (at-loop .loop .inv) taken (parameters-read _ _ _ _ _ pre taken count (c .parameters .ensures))
 
--- src/tables.rt:70:1
 returns : tie.Need-returns Inv-loop μ-loop
-returns c = summing-done _ _ _ _ _ ((c .before .loop) .inv) ((c .loop-test) .left)
+returns c =
+    let at-wide = c .before .before in
+    let at-functions = at-wide .before in
+    summing-done _ _ _ _ _ _ (c .before .loop .inv) (c .loop-test .left) (at-wide .wide .ensures .0 ∙ at-functions .functions .ensures)
 
 pub first-formals-spec : {M : Type 1} → statement M
 first-formals-spec =
@@ -77,7 +77,6 @@ first-formals-spec =
     wide-requires
     loop-holds
     parameters-requires
-    cast-total
     add-total
     add-f
     mul-firsts

@@ -4,24 +4,18 @@ use mathlib.Core.Path.{sym}
 use borrow.Author.Needs.{needs}
 use Rattle.translator.proofs.words.set_byte.Statement.{statement}
 use Rattle.translator.proofs.words.set_byte.Tie as tie
-use Rattle.translator.proofs.words.set_byte.Reads as reads
-use Rattle.translator.proofs.words.set_byte.Lts as lts
 
--- src/words.rt:17:9
 slice-write-out : tie.Need-slice-write-out
 slice-write-out c = search needs
 
--- src/words.rt:13:1
 same-length : tie.Need-same-length
 same-length c = search needs
 
--- src/words.rt:13:1
 returns : tie.Need-returns
 returns c = search needs
 
--- src/words.rt:13:1
 returns-2 : tie.Need-returns-2
-returns-2 c = sym (set-out _ _ _ ((c .if1) .left))
+returns-2 c = sym (set-out _ _ _ (c .if1 .left))
 
 pub set-byte-spec : {M : Type 1} → statement M
 set-byte-spec = tie.close (tie.spec slice-write-out same-length returns returns-2)

@@ -1,14 +1,15 @@
 -- `trials::files::copy` is safe and ends: the places left fall.
 use borrow.Author.Needs.{needs}
 use Prim.Native.Nat.{_≤_, _-_}
+use Rattle.file_writer.specs.Writing.{spaceBytes}
 use Rattle.trials.proofs.files.copy.Statement.{statement}
 use Rattle.trials.proofs.files.copy.Tie as tie
 
 abbrev Inv-loop : tie.InvT-loop
-Inv-loop from size to₀ i₀ to i = i ≤ 40961
+Inv-loop from size to₀ i₀ to i = i ≤ spaceBytes
 
 abbrev μ-loop : tie.MeasureT-loop
-μ-loop from size to₀ i₀ to i = 40961 - i
+μ-loop from size to₀ i₀ to i = spaceBytes - i
 
 loop-holds : tie.Need-loop-holds Inv-loop μ-loop
 loop-holds c = search needs

@@ -1,14 +1,15 @@
 -- `trials::files::fill` is safe and ends: the places left fall.
 use borrow.Author.Needs.{needs}
 use Prim.Native.Nat.{_≤_, _-_}
+use Rattle.file_writer.specs.Writing.{spaceBytes}
 use Rattle.trials.proofs.files.fill.Statement.{statement}
 use Rattle.trials.proofs.files.fill.Tie as tie
 
 abbrev Inv-loop : tie.InvT-loop
-Inv-loop out₀ i₀ out i = i ≤ 40961
+Inv-loop out₀ i₀ out i = i ≤ spaceBytes
 
 abbrev μ-loop : tie.MeasureT-loop
-μ-loop out₀ i₀ out i = 40961 - i
+μ-loop out₀ i₀ out i = spaceBytes - i
 
 loop-holds : tie.Need-loop-holds Inv-loop μ-loop
 loop-holds c = search needs

@@ -1,0 +1,120 @@
+//! Translations and sheets whose visits nest in one way until the nesting
+//! allowance stops them.
+
+use compare::build_sheet::{build, call, case, cond, num, op, put_record, Expr, Program, ADD};
+use compare::kinds::translation::*;
+
+type Record = (u16, Vec<u16>);
+
+/// A translation with one node list for each function.
+fn translation(actuals: &[Vec<u16>], functions: &[Vec<Record>]) -> Vec<u8> {
+    let nodes: usize = functions.iter().map(Vec::len).sum();
+    let mut file = Vec::new();
+    let head = [actuals.len(), functions.len(), nodes].map(|count| count as u16);
+    put_record(&mut file, HEAD, &[0, head[0], head[1], head[2]]);
+    for function in functions {
+        put_record(&mut file, FUNCTION, &[function.len() as u16]);
+    }
+    for list in actuals {
+        put_record(&mut file, ACTUALS, list);
+    }
+    for (kind, fields) in functions.iter().flatten() {
+        put_record(&mut file, *kind, fields);
+    }
+    file
+}
+
+/// One function; its last node refers to itself.
+fn looping(nodes: Vec<Record>) -> Vec<u8> {
+    translation(&[], &[nodes])
+}
+
+/// Translations that nest in one way, with what nests.
+pub fn translations() -> Vec<(&'static str, Vec<u8>)> {
+    let one = || (NUMBER, vec![1, 0]);
+    let tuple = |fields: &[u16]| (TUPLE, [&[0], fields].concat());
+    vec![
+        ("left operand", looping(vec![(OPERATOR, vec![ADD, 0, 0])])),
+        (
+            "right operand",
+            looping(vec![one(), (OPERATOR, vec![ADD, 0, 1])]),
+        ),
+        ("condition", looping(vec![(IF, vec![0, 0, 0])])),
+        ("branch of an if", looping(vec![one(), (IF, vec![0, 1, 1])])),
+        ("call", looping(vec![(CALL, vec![0, 0])])),
+        ("scrutinee", looping(vec![(CASE, vec![0, 0, 0])])),
+        (
+            "clause of a case",
+            looping(vec![tuple(&[]), (CASE, vec![0, 0, 1])]),
+        ),
+        ("selected node", looping(vec![(SELECT, vec![0, 1])])),
+        (
+            "selected field",
+            looping(vec![tuple(&[1]), (SELECT, vec![0, 1])]),
+        ),
+        ("actual of a formal", formals()),
+        ("each in turn", in_turn()),
+    ]
+}
+
+/// Formals whose actual is the same formal, under a context of more than
+/// 1,024 labels. A call of function 1 leads through one function after the
+/// other to a tuple, whose first field is that call again and whose second
+/// is the formal; each selection makes the tuple's context longer.
+fn formals() -> Vec<u8> {
+    const FUNCTIONS: u16 = 64;
+    const SELECTIONS: u16 = 20;
+    let formal = 0;
+    let first_call = 1;
+    let mut result = vec![(FORMAL, vec![0]), (CALL, vec![0, 1])];
+    for selection in 0..SELECTIONS {
+        let index = if selection + 1 == SELECTIONS { 2 } else { 1 };
+        result.push((SELECT, vec![first_call + selection, index]));
+    }
+    let mut functions = vec![result];
+    for function in 1..FUNCTIONS - 1 {
+        functions.push(vec![(CALL, vec![0, function + 1])]);
+    }
+    functions.push(vec![(TUPLE, vec![0, first_call, formal])]);
+    translation(&[vec![formal]], &functions)
+}
+
+/// Operator, if, case, selection, call and formal, each inside the one
+/// before, and the operator again.
+fn in_turn() -> Vec<u8> {
+    let operator = 5;
+    let nodes = vec![
+        (FORMAL, vec![0]),
+        (CALL, vec![0, 1]),
+        (SELECT, vec![1, 1]),
+        (CASE, vec![2, 0, 2]),
+        (IF, vec![3, 3, 3]),
+        (OPERATOR, vec![ADD, 4, 4]),
+    ];
+    let body = vec![(IF, vec![0, 0, 0])];
+    translation(&[vec![operator]], &[nodes, body])
+}
+
+/// Sheets that nest, with what nests: the innermost node is a call of the
+/// sheet's only function.
+pub fn sheets() -> Vec<(&'static str, Vec<u8>)> {
+    let sheet = |arities: &[u16], body: Expr| {
+        let program = Program {
+            readings: 0,
+            arities: arities.to_vec(),
+            functions: vec![(0, body)],
+        };
+        program.encode()
+    };
+    let again = || call(0, vec![]);
+    let sum = (0..500).fold(again(), |inner, _| op(ADD, inner, num(1)));
+    let ifs = (0..300).fold(again(), |inner, _| cond(inner, num(1), num(1)));
+    vec![
+        ("left operand", sheet(&[], sum)),
+        ("condition", sheet(&[], ifs)),
+        (
+            "scrutinee and call",
+            sheet(&[0], case(again(), vec![(0, build(0, vec![]))])),
+        ),
+    ]
+}

@@ -1,0 +1,125 @@
+//! The nodes of an accepted translation, decoded once for the plain run.
+
+use crate::plain::{two, Index};
+use compare::kinds::operators;
+use compare::kinds::translation as kinds;
+
+#[derive(Clone, Copy)]
+pub enum Operator {
+    Add,
+    Subtract,
+    Multiply,
+    Divide,
+    Less,
+    Equal,
+}
+
+pub enum Node {
+    Number(i32),
+    Reading(u16),
+    Formal(u16),
+    Select {
+        node: u16,
+        index: u16,
+    },
+    Operator {
+        operator: Operator,
+        left: u16,
+        right: u16,
+    },
+    If {
+        condition: u16,
+        yes: u16,
+        no: u16,
+    },
+    Call {
+        label: u16,
+        body: u16,
+    },
+    Tuple {
+        tag: u16,
+        fields: Vec<u16>,
+    },
+    Case {
+        scrutinee: u16,
+        clauses: Vec<(u16, u16)>,
+    },
+}
+
+/// A decoded translation.
+pub struct Program {
+    pub body: u16,
+    /// The actuals of each formal.
+    pub formals: Vec<Vec<u16>>,
+    pub nodes: Vec<Node>,
+}
+
+/// Decodes an accepted translation.
+pub fn decode(file: &[u8], index: &Index) -> Program {
+    let formals = index.formals.iter();
+    let nodes = index.nodes.iter();
+    Program {
+        body: index.bodies[0],
+        formals: formals
+            .map(|&at| fields(file, at as usize).collect())
+            .collect(),
+        nodes: nodes
+            .map(|&at| node(file, at as usize, &index.bodies))
+            .collect(),
+    }
+}
+
+fn fields(file: &[u8], at: usize) -> impl Iterator<Item = u16> + '_ {
+    let end = at + two(file, at) as usize;
+    file[at + 4..end]
+        .chunks_exact(2)
+        .map(|pair| u16::from_le_bytes([pair[0], pair[1]]))
+}
+
+fn node(file: &[u8], at: usize, bodies: &[u16]) -> Node {
+    let field = |number: usize| two(file, at + 4 + 2 * number);
+    match two(file, at + 2) {
+        kinds::NUMBER => Node::Number((field(0) as u32 | (field(1) as u32) << 16) as i32),
+        kinds::READING => Node::Reading(field(0)),
+        kinds::FORMAL => Node::Formal(field(0)),
+        kinds::SELECT => Node::Select {
+            node: field(0),
+            index: field(1),
+        },
+        kinds::OPERATOR => Node::Operator {
+            operator: operator(field(0)),
+            left: field(1),
+            right: field(2),
+        },
+        kinds::IF => Node::If {
+            condition: field(0),
+            yes: field(1),
+            no: field(2),
+        },
+        kinds::CALL => Node::Call {
+            label: field(0),
+            body: bodies[field(1) as usize],
+        },
+        kinds::TUPLE => Node::Tuple {
+            tag: field(0),
+            fields: fields(file, at).skip(1).collect(),
+        },
+        _ => Node::Case {
+            scrutinee: field(0),
+            clauses: (0..(two(file, at) as usize - 6) / 4)
+                .map(|clause| (field(1 + 2 * clause), field(2 + 2 * clause)))
+                .collect(),
+        },
+    }
+}
+
+fn operator(code: u16) -> Operator {
+    match code {
+        operators::ADD => Operator::Add,
+        operators::SUBTRACT => Operator::Subtract,
+        operators::MULTIPLY => Operator::Multiply,
+        operators::DIVIDE => Operator::Divide,
+        operators::LESS => Operator::Less,
+        _ => Operator::Equal,
+    }
+}

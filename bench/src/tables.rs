@@ -1,0 +1,177 @@
+//! What is printed.
+
+use crate::measure::{
+    agreed, greatest, lent_cells, plain_run, run_cost, translate_cost, translated,
+};
+use crate::plain::two;
+use crate::{chains, pad, programs, stack};
+use compare::build_sheet::Program;
+use compare::generate::{ceiling, random::Random};
+use compare::interface::{Allowances, Interface};
+use compare::model::answer::RECORD;
+use compare::model::Model;
+use compare::numbers;
+
+const MOST_STEPS: u32 = 20_000_000;
+
+fn nodes(program: &Program) -> usize {
+    let functions = program.functions.iter();
+    functions.map(|function| function.1.size()).sum()
+}
+
+/// The greatest input whose run ends with a number within the limits.
+fn fitting(benchmark: &programs::Benchmark) -> (i32, Program) {
+    let mut cells = lent_cells();
+    for &input in &benchmark.inputs {
+        let program = (benchmark.program)(input);
+        let file = translated(&Model::correct(), &program.encode());
+        if plain_run(&file, MOST_STEPS, &mut cells).outcome == numbers::NUMBER {
+            return (input, program);
+        }
+    }
+    panic!("{}: no input fits", benchmark.name)
+}
+
+/// The cost of a step.
+pub fn steps(subject: &dyn Interface) {
+    println!("Programs of document 002, the greatest input that fits (nesting 1,024, cells 8,192)");
+    println!("program   input  nodes  bytes      value  cells    steps   ns/step  plain  ratio");
+    for benchmark in programs::all() {
+        let (input, program) = fitting(&benchmark);
+        let file = translated(subject, &program.encode());
+        let cost = run_cost(subject, &file);
+        println!(
+            "{:<9} {:>5} {:>6} {:>6} {:>10} {:>6} {:>8} {:>9.2} {:>6.2} {:>6.2}",
+            benchmark.name,
+            input,
+            nodes(&program),
+            file.len(),
+            cost.answer.value,
+            cost.answer.cells,
+            cost.answer.steps,
+            cost.step,
+            cost.plain_step,
+            cost.step / cost.plain_step
+        );
+    }
+}
+
+/// The same program in files of several sizes: steps and accepting.
+pub fn sizes(subject: &dyn Interface) {
+    println!("fib 12 in files of several sizes (unused functions before or after its own)");
+    println!("                              step                      accept");
+    println!(
+        "nodes padding  bytes      ns  plain  ratio  growth      ns  plain  ratio  decoded  ratio"
+    );
+    let program = programs::fib(12);
+    let mut smallest = None;
+    let before = [100, 300, 1000].map(|count| (count, true));
+    let after = [100, 300, 1000].map(|count| (count, false));
+    for (count, before) in [&[(20, false)], &before[..], &after[..]].concat() {
+        let padded = pad::pad(&program, count, before);
+        let file = translated(subject, &padded.encode());
+        let cost = run_cost(subject, &file);
+        let first = *smallest.get_or_insert(cost.step);
+        print!(
+            "{:>5} {:<7} {:>6} {:>7.2} {:>6.2} {:>6.2} {:>7.2}",
+            nodes(&padded),
+            if before { "before" } else { "after" },
+            file.len(),
+            cost.step,
+            cost.plain_step,
+            cost.step / cost.plain_step,
+            cost.step / first
+        );
+        println!(
+            " {:>7.0} {:>6.0} {:>6.2} {:>8.0} {:>6.2}",
+            cost.accept,
+            cost.plain_accept,
+            cost.accept / cost.plain_accept,
+            cost.plain_decode,
+            cost.accept / cost.plain_decode
+        );
+    }
+}
+
+/// Accepting and translating a sheet, beside the model's translator.
+pub fn translations(subject: &dyn Interface) {
+    println!("Accepting and translating a sheet (model: the independent one of compare)");
+    println!("sheet                   nodes  bytes        ns  ns/node     model  ratio");
+    let model = Model::correct();
+    let row = |name: &str, count: usize, sheet: &[u8]| {
+        let [ours, theirs] = translate_cost(subject, &model, sheet);
+        println!(
+            "{:<22} {:>6} {:>6} {:>9.0} {:>8.1} {:>9.0} {:>6.2}",
+            name,
+            count,
+            sheet.len(),
+            ours,
+            ours / count as f64,
+            theirs,
+            ours / theirs
+        );
+    };
+    let program = programs::fib(12);
+    for count in [20, 100, 300, 1000] {
+        let padded = pad::pad(&program, count, false);
+        row("fib 12, padded", nodes(&padded), &padded.encode());
+    }
+    row("greatest (all limits)", 1024, &greatest_sheet());
+}
+
+fn greatest_sheet() -> Vec<u8> {
+    ceiling::greatest(&mut Random::new(1))
+}
+
+/// Bytes of stack of the calls.
+pub fn stack(subject: &dyn Interface) {
+    println!("Stack in bytes; a visit: from 512 to 1,024 open visits");
+    println!("call               what nests             1 visit  1,024 visits  a visit");
+    let greatest = greatest_sheet();
+    let mut translations = chains::translations();
+    for (name, file) in &translations {
+        let end = agreed(subject, file);
+        assert_eq!(end.outcome, numbers::NESTING, "{name} nests");
+    }
+    translations.push(("(file at all limits)", translated(subject, &greatest)));
+    let mut sheets = chains::sheets();
+    sheets.push(("(sheet at all limits)", greatest.clone()));
+    let (mut cells, mut out, mut record) = (lent_cells(), vec![0; 40_960], [0; RECORD]);
+    for (name, file) in translations {
+        let readings = vec![0; two(&file, 4) as usize];
+        stack_row("run", name, |allowances| {
+            subject.run(&file, &readings, allowances, &mut cells, &mut record);
+        });
+    }
+    for (name, sheet) in sheets {
+        let readings = vec![0; two(&sheet, 4) as usize];
+        let (cells, record) = (&mut cells, &mut record);
+        stack_row("translate and run", name, |allowances| {
+            subject.translate_and_run(&sheet, &mut out, &readings, allowances, cells, record);
+        });
+    }
+    stack_line("translate", "(sheet at all limits)", &mut || {
+        subject.translate(&greatest, &mut out);
+    });
+    stack_line("list context", "", &mut || {
+        subject.list_context(&cells, 1, &mut out);
+    });
+}
+
+/// One row of a call that visits nothing.
+fn stack_line(call: &str, name: &str, work: &mut dyn FnMut()) {
+    println!("{call:<18} {name:<21} {:>8}", stack::depth(work));
+}
+
+/// One row: the stack at nesting 1 and 1,024, and of a visit.
+fn stack_row(call: &str, name: &str, mut work: impl FnMut(Allowances)) {
+    let [least, half, whole] = [1, 512, 1024].map(|nesting| {
+        let allowances = Allowances {
+            nesting,
+            ..greatest(u32::MAX)
+        };
+        stack::depth(&mut || work(allowances))
+    });
+    let visit = (whole - half) as f64 / 512.0;
+    println!("{call:<18} {name:<21} {least:>8} {whole:>13} {visit:>8.1}");
+}

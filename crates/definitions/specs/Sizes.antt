@@ -1,0 +1,54 @@
+-- The sizes of document 01.
+use Prim.Native.Nat.{ℕ}
+
+-- "Sheet, at most 32,768 bytes"
+abbrev pub sheetBytes : ℕ
+sheetBytes = 32768
+
+-- "Translation, at most 40,960 bytes"
+abbrev pub translationBytes : ℕ
+translationBytes = 40960
+
+-- "readings I 0..32"
+abbrev pub mostReadings : ℕ
+mostReadings = 32
+
+-- "constructors K 0..64"
+abbrev pub mostConstructors : ℕ
+mostConstructors = 64
+
+-- "functions F 1..64"
+abbrev pub mostFunctions : ℕ
+mostFunctions = 64
+
+-- "nodes N 1..1,024"
+abbrev pub mostNodes : ℕ
+mostNodes = 1024
+
+-- "formals P 0..512"
+abbrev pub mostFormals : ℕ
+mostFormals = 512
+
+-- "arity 0..8", "parameters 0..8"
+abbrev pub mostFields : ℕ
+mostFields = 8
+
+-- the records of the largest translation: a head, functions, formals and nodes
+abbrev pub mostRecords : ℕ
+mostRecords = 1601
+
+-- "nesting 1..1,024"
+abbrev pub mostNesting : ℕ
+mostNesting = 1024
+
+-- "cells 0..8,192"
+abbrev pub mostCells : ℕ
+mostCells = 8192
+
+-- "with 4 bytes lent for each"
+abbrev pub cellSize : ℕ
+cellSize = 4
+
+-- "Record kind 64, 20 bytes"
+abbrev pub answerSize : ℕ
+answerSize = 20

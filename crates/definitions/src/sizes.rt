@@ -1,0 +1,43 @@
+// The sizes of document 01, and the types of the tables that hold one entry for each of so many. `specs/Sizes.antt` has the
+// same numbers.
+
+// "Sheet, at most 32,768 bytes", "Translation, at most 40,960 bytes".
+pub const SHEET_BYTES: usize = 32768;
+
+pub const TRANSLATION_BYTES: usize = 40960;
+
+// "readings I 0..32", "constructors K 0..64", "functions F 1..64", "nodes N 1..1,024", "formals P 0..512".
+pub const MOST_READINGS: usize = 32;
+
+pub const MOST_CONSTRUCTORS: usize = 64;
+
+pub const MOST_FUNCTIONS: usize = 64;
+
+pub const MOST_NODES: usize = 1024;
+
+pub const MOST_FORMALS: usize = 512;
+
+// "arity 0..8", "parameters 0..8".
+pub const MOST_FIELDS: usize = 8;
+
+// The records of the largest translation: one head, 64 functions, 512 formals, 1,024 nodes. A sheet has fewer.
+pub const MOST_RECORDS: usize = 1601;
+
+// "nesting 1..1,024; cells 0..8,192, with 4 bytes lent for each".
+pub const MOST_NESTING: u32 = 1024;
+
+pub const MOST_CELLS: u32 = 8192;
+
+pub const CELL_BYTES: usize = 4;
+
+// "Record kind 64, 20 bytes".
+pub const ANSWER_BYTES: usize = 20;
+
+// Where each record starts.
+pub type Starts = [u16; MOST_RECORDS];
+
+// The first node after the run of each function.
+pub type Ends = [u16; MOST_FUNCTIONS];
+
+// The function that owns each node.
+pub type Owners = [u8; MOST_NODES];

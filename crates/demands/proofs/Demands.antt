@@ -1,0 +1,145 @@
+-- The owner's three demands, over what the public calls promise: `Translates` of `translator::translate`, `Runs` of `run::run`,
+-- `Joins` of `join::translate_and_run`, and at the end what `zifnora_c` promises to callers in C. None of the calls has a `requires`,
+-- so each promise holds of every call.
+use mathlib.Core.Path.{_≡_}
+use mathlib.Core.Logic.{_↔_}
+use Prim.Native.Nat.{ℕ, _≤_, _<_}
+use mathlib.Core.List.{List}
+use mathlib.Core.Bool.{true}
+use lib.IntN.{ℤ}
+use lib.ListN.{length, take}
+use Rattle.definitions.specs.Numbers.{shortOutput, badAllowance, isAnswer}
+use Rattle.definitions.specs.Verdicts.{require}
+use Rattle.definitions.specs.Layouts.{readings, nodes}
+use Rattle.definitions.specs.Checks.{sheetVerdict}
+use Rattle.definitions.specs.Outcomes.{Outcome}
+use Rattle.definitions.specs.SheetNodes.{call, sheetNodeOf}
+use Rattle.definitions.specs.Translate.{translation, labelOf}
+use Rattle.agreement.specs.Meaning.{OwnAnswer}
+use Rattle.definitions.specs.Run.{ruleAnswer, allowancesFit, runVerdict, answerAfter}
+use Rattle.definitions.specs.declared.Verdict.the-variants.{Accepted}
+use Rattle.readback.proofs.Labels.{label-unique}
+use Rattle.translator.specs.Promise.{Translates}
+use Rattle.translator.specs.declared.Translated.{Translated}
+use Rattle.translator.specs.declared.Translated.the-variants.{Length, Refused}
+use Rattle.run.specs.Promise.{Runs}
+use Rattle.cells.specs.declared.answer.Answer.{Answer}
+use Rattle.cells.specs.Answers.{answerOf}
+use Rattle.agreement.specs.Answers.{ruleOutcome, RuleGives, answerOutcome}
+use Rattle.agreement.proofs.Demand3.{rule-gives-exactly-own, rule-gives-from-there}
+use Rattle.join.specs.Promise.{Joins}
+use Rattle.zifnora_c.specs.Codes.{codeNumber, codeValue}
+use Rattle.zifnora_c.specs.Records.{recorded}
+use Rattle.zifnora_c.specs.Promise.{TranslatesC, RunsC, JoinsC}
+use Rattle.demands.specs.Demands.{Handed, TranslatingMet, Met, StoppedOrRefused, RunExact}
+use Rattle.demands.specs.InC.{SignedReadings, TranslatingMetInC, MetInC, StoppedOrRefusedInC}
+use Rattle.demands.proofs.Meeting.{translating-met, running-met, joining-met, run-exact}
+use Rattle.demands.proofs.Handing.{handed, only-short, handed-own, handed-none, handed-answer}
+use Rattle.demands.proofs.HandingInC.{translating-met-in-C, handed-in-C}
+use Rattle.demands.proofs.RunningInC.{running-met-in-C, joining-met-in-C}
+use Rattle.demands.proofs.OwnInC.{run-faithful-in-C, join-faithful-in-C}
+
+-- Demand 1. "Every file, reading list, buffer and allowance is met, with nothing undefined, by one of: an answer, a stop, a run
+-- fault, a numbered refusal with its place. A refusal writes to no lent buffer."
+pub demand-1-translating : (sheet out : List ℕ) (r : Translated) (out′ : List ℕ) → Translates sheet out r out′ → TranslatingMet sheet out r out′
+demand-1-translating = translating-met
+
+pub demand-1-running : (b : List ℕ) (rs : List ℤ) (steps nesting most : ℕ) (before : List ℕ) (r : Answer) (after : List ℕ)
+    → Runs b rs steps nesting most before r after → Met (answerOf r) (after ≡ before)
+demand-1-running = running-met
+
+pub demand-1-both : (sheet out : List ℕ) (rs : List ℤ) (steps nesting most : ℕ) (before : List ℕ) (r : Answer) (out′ after : List ℕ)
+    → Joins sheet out rs steps nesting most before r out′ after → Met (answerOf r) ((out′ ≡ out) × (after ≡ before))
+demand-1-both = joining-met
+
+-- Demand 2. "The translation is exactly the published one with document 01's labels, ..": the bytes handed over are the
+-- definition's, and of an accepted sheet only 8 withholds them
+pub demand-2-translation : (sheet out : List ℕ) (n : ℕ) (out′ : List ℕ) → Translates sheet out (Length n) out′ → take n out′ ≡ translation sheet
+demand-2-translation sheet out n out′ t = handed sheet out n out′ t .is
+
+pub demand-2-withheld : (sheet out : List ℕ) (n p : ℕ) (out′ : List ℕ) → Translates sheet out (Refused n p) out′ → sheetVerdict sheet ≡ Accepted → n ≡ shortOutput
+demand-2-withheld = only-short
+
+-- ".. with document 01's labels, ..": one label is never given to two calls of one function, the fault by which one call would get
+-- the other's actuals; two such calls are one
+pub demand-2-labels : (sheet : List ℕ) → sheetVerdict sheet ≡ Accepted → (f k m : ℕ) {ns ms : List ℕ} → k < nodes sheet → m < nodes sheet
+    → sheetNodeOf sheet k ≡ call f ns → sheetNodeOf sheet m ≡ call f ms
+    → labelOf sheet f k ≡ labelOf sheet f m → k ≡ m
+demand-2-labels = label-unique
+
+-- ".. and a run is exactly the published evaluation under contexts with lazy tuples: outcome, steps and cells."
+pub demand-2-run : (b : List ℕ) (rs : List ℤ) (steps nesting most : ℕ) (before : List ℕ) (r : Answer) (after : List ℕ)
+    → Runs b rs steps nesting most before r after → runVerdict b rs nesting most (length before) ≡ Accepted
+    → RunExact b rs steps nesting most before (answerOf r) after
+demand-2-run = run-exact
+
+-- Demand 3. "Whatever the accepted sheet, the readings (as many as it asks for), the allowances and the bytes that the lent cells
+-- held before": anyone who calls the translator and hands the bytes that it wrote, unchanged, to the run
+module _ (sheet out : List ℕ) (n : ℕ) (out′ : List ℕ) (translated : Translates sheet out (Length n) out′) (rs : List ℤ) (asked : length rs ≡ readings sheet) where
+  -- "nobody who translates the sheet and runs it can get a number, constructor or run fault other than the sheet's own by call by
+  -- name, outcome and value alike."
+  pub demand-3-own : (steps nesting most : ℕ) (before : List ℕ) (r : Answer) (after : List ℕ) → Runs (take n out′) rs steps nesting most before r after
+      → isAnswer (answerOf r .outcome) ≡ true → OwnAnswer sheet rs (answerOutcome (answerOf r))
+  demand-3-own = handed-own sheet out n out′ translated rs
+
+  -- "Where the sheet has none, every run is stopped or refused."
+  pub demand-3-none : ((a : Outcome) → ¬ OwnAnswer sheet rs a)
+      → (steps nesting most : ℕ) (before : List ℕ) (r : Answer) (after : List ℕ) → Runs (take n out′) rs steps nesting most before r after
+      → StoppedOrRefused (answerOf r) (after ≡ before)
+  demand-3-none none steps nesting most before r after run = handed-none sheet out n out′ translated rs steps nesting most before r after run none
+
+  -- "The evaluation rule taken without ceilings gives a number, constructor or run fault at some allowances exactly when it is the
+  -- sheet's own, ..
+  pub demand-3-exactly : (a : Outcome) → (RuleGives (take n out′) rs a × (isAnswer (a .outcome) ≡ true)) ↔ OwnAnswer sheet rs a
+  demand-3-exactly a = rw (handed sheet out n out′ translated .is) (rule-gives-exactly-own sheet rs (handed sheet out n out′ translated .accepted) asked a)
+
+  -- .. and then at all allowances each at least as large."
+  pub demand-3-from-there : (steps nesting most steps′ nesting′ most′ : ℕ)
+      → isAnswer (ruleOutcome (take n out′) rs steps nesting most .outcome) ≡ true
+      → steps ≤ steps′ → nesting ≤ nesting′ → most ≤ most′
+      → ruleOutcome (take n out′) rs steps′ nesting′ most′ ≡ ruleOutcome (take n out′) rs steps nesting most
+  demand-3-from-there = rw (handed sheet out n out′ translated .is) (rule-gives-from-there sheet rs (handed sheet out n out′ translated .accepted) asked)
+
+  -- document 01, "Meaning": "a run is refused only where the table says so, and else has the rule's answer at its own allowances"
+  pub demand-3-run : (steps nesting most : ℕ) (before : List ℕ) (r : Answer) (after : List ℕ) → Runs (take n out′) rs steps nesting most before r after
+      → answerOf r ≡ answerAfter (require (allowancesFit nesting most (length before)) badAllowance 0) (ruleAnswer (take n out′) rs steps nesting most)
+  demand-3-run steps nesting most before r after run = handed-answer sheet out n out′ translated rs steps nesting most before r after run asked
+
+-- The calls for C. The caller sees a code and the bytes of the record: `codeNumber` and `codeValue` of the code, `recorded` of the
+-- record. "Every file, reading list, buffer and allowance is met .."
+pub demand-1-translating-in-C : (sheet out : List ℕ) (code : ℕ) (out′ : List ℕ) → TranslatesC sheet out code out′ → TranslatingMetInC sheet out code out′
+demand-1-translating-in-C = translating-met-in-C
+
+pub demand-1-running-in-C : (b : List ℕ) (rs : List ℤ) (steps nesting most : ℕ) (before room : List ℕ) (code : ℕ) (after room′ : List ℕ)
+    → RunsC b rs steps nesting most before room code after room′ → MetInC code room room′ (after ≡ before)
+demand-1-running-in-C = running-met-in-C
+
+pub demand-1-both-in-C : (sheet out : List ℕ) (rs : List ℤ) (steps nesting most : ℕ) (before room : List ℕ) (code : ℕ) (out′ after room′ : List ℕ)
+    → JoinsC sheet out rs steps nesting most before room code out′ after room′ → MetInC code room room′ ((out′ ≡ out) × (after ≡ before))
+demand-1-both-in-C = joining-met-in-C
+
+-- "The translation is exactly the published one": number 0 in the code, and the value says how many bytes were handed over
+pub demand-2-translation-in-C : (sheet out : List ℕ) (code : ℕ) (out′ : List ℕ) → TranslatesC sheet out code out′ → codeNumber code ≡ 0 → Handed sheet (codeValue code) out′
+demand-2-translation-in-C = handed-in-C
+
+-- "Nobody who translates the sheet and runs it ..": these bytes, unchanged, any list of readings, and a run that wrote its record; an
+-- answer's value is read back where "Readings are signed 32-bit numbers."
+module _ (sheet out : List ℕ) (code : ℕ) (out′ : List ℕ) (translated : TranslatesC sheet out code out′) (not-refused : codeNumber code ≡ 0)
+    (rs : List ℤ) (steps nesting most : ℕ) (before room : List ℕ) (code′ : ℕ) (after room′ : List ℕ)
+    (run : RunsC (take (codeValue code) out′) rs steps nesting most before room code′ after room′) (recording : code′ ≡ 0) where
+  -- ".. can get a number, constructor or run fault other than the sheet's own by call by name, outcome and value alike."
+  pub demand-3-own-in-C : SignedReadings rs → isAnswer (recorded room′ .outcome) ≡ true → OwnAnswer sheet rs (recorded room′)
+  demand-3-own-in-C = run-faithful-in-C sheet out code out′ translated not-refused rs steps nesting most before room code′ after room′ run recording .own
+
+  -- "Where the sheet has none, every run is stopped or refused."
+  pub demand-3-none-in-C : ((a : Outcome) → ¬ OwnAnswer sheet rs a) → StoppedOrRefusedInC room′ (after ≡ before)
+  demand-3-none-in-C = run-faithful-in-C sheet out code out′ translated not-refused rs steps nesting most before room code′ after room′ run recording .none
+
+-- the same of an accepted sheet in one call
+module _ (sheet out : List ℕ) (rs : List ℤ) (steps nesting most : ℕ) (before room : List ℕ) (code : ℕ) (out′ after room′ : List ℕ)
+    (both : JoinsC sheet out rs steps nesting most before room code out′ after room′) (accepted : sheetVerdict sheet ≡ Accepted) (recording : code ≡ 0) where
+  pub demand-3-both-own-in-C : SignedReadings rs → isAnswer (recorded room′ .outcome) ≡ true → OwnAnswer sheet rs (recorded room′)
+  demand-3-both-own-in-C = join-faithful-in-C sheet out rs steps nesting most before room code out′ after room′ both accepted recording .own
+
+  pub demand-3-both-none-in-C : ((a : Outcome) → ¬ OwnAnswer sheet rs a) → StoppedOrRefusedInC room′ ((out′ ≡ out) × (after ≡ before))
+  demand-3-both-none-in-C = join-faithful-in-C sheet out rs steps nesting most before room code out′ after room′ both accepted recording .none

@@ -1,0 +1,10 @@
+pub mod Refusals
+pub mod Meeting
+pub mod Own
+pub mod Handing
+pub mod Values
+pub mod Recorded
+pub mod HandingInC
+pub mod RunningInC
+pub mod OwnInC
+pub mod Demands

@@ -1,0 +1,82 @@
+-- Every refusal has one of the table's numbers for a refusal.
+use mathlib.Core.Path.{_≡_, refl}
+use Prim.Native.Nat.{ℕ, zero, suc}
+use mathlib.Core.List.{List}
+use mathlib.Core.Bool.{Bool, true, false}
+use lib.IntN.{ℤ}
+use Rattle.definitions.specs.Ranges.{within}
+use Rattle.definitions.specs.Numbers.{truncated, oversize, badRecord, badCount, outOfRange, badTree, badArguments, shortOutput, badReadings, badAllowance, isRefusal}
+use Rattle.definitions.specs.Verdicts.{_andThen_, require, firstOf}
+use Rattle.definitions.specs.Layouts.{due, nodes}
+use Rattle.definitions.specs.Shape.{shapeAt, shape, fileShape}
+use Rattle.definitions.specs.References.{references}
+use Rattle.definitions.specs.Checks.{arguments, tree, pattern, sheetVerdict, translationVerdict}
+use Rattle.definitions.specs.Run.{runVerdict}
+use Rattle.definitions.specs.declared.Layout.{Layout}
+use Rattle.definitions.specs.declared.Layout.the-variants.{Sheet, Translation}
+use Rattle.definitions.specs.declared.Verdict.{Verdict}
+use Rattle.definitions.specs.declared.Verdict.the-variants.{Accepted, Refused}
+use Rattle.translator.specs.Promise.{translationRefusal}
+use Rattle.join.specs.Promise.{joinVerdict}
+
+abbrev pub NumberedIn : Verdict → Type 0
+NumberedIn Accepted = Unit {0}
+NumberedIn (Refused n p) = isRefusal n ≡ true
+
+either : (v w : Verdict) → NumberedIn v → NumberedIn w → NumberedIn (v andThen w)
+unfolding _andThen_
+either Accepted w h g = g
+either (Refused n p) w h g = h
+
+required : (t : Bool) (n p : ℕ) → isRefusal n ≡ true → NumberedIn (require t n p)
+unfolding require
+required true n p h = tt
+required false n p h = h
+
+each : (n : ℕ) (rule : ℕ → Verdict) → ((r : ℕ) → NumberedIn (rule r)) → NumberedIn (firstOf n rule)
+unfolding firstOf
+each zero rule h = tt
+each (suc n) rule h = either (firstOf n rule) (rule n) (each n rule h) (h n)
+
+shape-numbered : (y : Layout) (b : List ℕ) (r : ℕ) → NumberedIn (shape y b r)
+unfolding shape shapeAt isRefusal within
+shape-numbered y b r =
+    either _ _ (either _ _ (either _ _ (either _ _ (required _ truncated r refl) (required _ badRecord r refl))
+    (required _ truncated r refl)) (required _ badRecord r refl)) (required _ badCount r refl)
+
+file-numbered : (y : Layout) (b : List ℕ) → NumberedIn (fileShape y b)
+unfolding fileShape isRefusal within
+file-numbered y b =
+    either _ _ (either _ _ (required _ oversize 0 refl) (each (due b) (shape y b) (shape-numbered y b)))
+    (required _ badRecord (due b) refl)
+
+references-numbered : (b : List ℕ) (r : ℕ) → NumberedIn (references b r)
+unfolding references isRefusal within
+references-numbered b r = required _ outOfRange r refl
+
+pub translation-numbered : (b : List ℕ) → NumberedIn (translationVerdict b)
+unfolding translationVerdict isRefusal within
+translation-numbered b = either _ _ (file-numbered Translation b) (each (due b) (references b) (references-numbered b))
+
+pub sheet-numbered : (b : List ℕ) → NumberedIn (sheetVerdict b)
+unfolding sheetVerdict arguments tree pattern isRefusal within
+sheet-numbered b =
+    either _ _ (either _ _ (either _ _ (file-numbered Sheet b)
+    (each (due b) _ (λ r. either _ _ (references-numbered b r) (required _ badArguments r refl))))
+    (each (nodes b) _ (λ k. required _ badTree _ refl)))
+    (each (nodes b) _ (λ k. required _ badTree _ refl))
+
+pub translating-numbered : (b : List ℕ) (room : ℕ) → NumberedIn (translationRefusal b room)
+unfolding translationRefusal isRefusal within
+translating-numbered b room = either _ _ (sheet-numbered b) (required _ shortOutput 0 refl)
+
+pub running-numbered : (b : List ℕ) (rs : List ℤ) (nesting most lent : ℕ) → NumberedIn (runVerdict b rs nesting most lent)
+unfolding runVerdict isRefusal within
+running-numbered b rs nesting most lent =
+    either _ _ (either _ _ (translation-numbered b) (required _ badReadings 0 refl)) (required _ badAllowance 0 refl)
+
+pub joining-numbered : (b : List ℕ) (room : ℕ) (rs : List ℤ) (nesting most lent : ℕ) → NumberedIn (joinVerdict b room rs nesting most lent)
+unfolding joinVerdict isRefusal within
+joining-numbered b room rs nesting most lent =
+    either _ _ (either _ _ (either _ _ (sheet-numbered b) (required _ shortOutput 0 refl)) (required _ badReadings 0 refl))
+    (required _ badAllowance 0 refl)

@@ -1,0 +1,35 @@
+-- What the demands say to a caller in C, who sees a code and the bytes of the answer's record.
+use mathlib.Core.Path.{_≡_}
+use Prim.Native.Nat.{ℕ}
+use mathlib.Core.List.{List}
+use mathlib.Core.Bool.{true}
+use lib.IntN.{ℤ, pos}
+use lib.ListN.{getD}
+use mir.Syntax.{w32}
+use mir.Val.{SFits}
+use Rattle.definitions.specs.Numbers.{shortOutput, isRefusal, isStop, isAnswer}
+use Rattle.zifnora_c.specs.Codes.{codeNumber, codeValue}
+use Rattle.zifnora_c.specs.Records.{recorded}
+use Rattle.demands.specs.Demands.{Handed}
+
+-- "Readings are signed 32-bit numbers."
+pub record SignedReadings (rs : List ℤ) : Type 0 where
+  pub fit : (i : ℕ) → SFits w32 (getD rs i (pos 0))
+
+-- translating ends with number 0 and the translation's length, or with the number of a refusal that leaves the output as it was
+pub data TranslatingMetInC (sheet out : List ℕ) (code : ℕ) (out′ : List ℕ) : Type 0 where
+  translates : codeNumber code ≡ 0 → Handed sheet (codeValue code) out′ → TranslatingMetInC sheet out code out′
+  refuses : isRefusal (codeNumber code) ≡ true → out′ ≡ out → TranslatingMetInC sheet out code out′
+
+-- a run ends with code 0 and a record, of an answer, a stop or a refusal that leaves the lent buffers untouched; or with 8 where the
+-- record has no room, and then nothing is written
+pub data MetInC (code : ℕ) (room room′ : List ℕ) (untouched : Type 0) : Type 0 where
+  answers : code ≡ 0 → isAnswer (recorded room′ .outcome) ≡ true → MetInC code room room′ untouched
+  stops : code ≡ 0 → isStop (recorded room′ .outcome) ≡ true → MetInC code room room′ untouched
+  refuses : code ≡ 0 → isRefusal (recorded room′ .outcome) ≡ true → untouched → MetInC code room room′ untouched
+  no-room : codeNumber code ≡ shortOutput → room′ ≡ room → untouched → MetInC code room room′ untouched
+
+-- a record without an answer
+pub data StoppedOrRefusedInC (room′ : List ℕ) (untouched : Type 0) : Type 0 where
+  stops : isStop (recorded room′ .outcome) ≡ true → StoppedOrRefusedInC room′ untouched
+  refuses : isRefusal (recorded room′ .outcome) ≡ true → untouched → StoppedOrRefusedInC room′ untouched

@@ -1,0 +1,56 @@
+-- The classes of the table's numbers: a stop and a refusal are no answer, and a number that is none of the values is its class.
+use mathlib.Core.Path.{_≡_, refl, sym, _∙_}
+use Prim.Native.Nat.{ℕ, _≤_}
+use mathlib.Core.Bool.{Bool, true, false, _||_, true≢false}
+use lib.Dec.{eqb}
+use native.Mathlib.Omega.{arith}
+use borrow.Author.Tests.{ne-eqb, eqb-true}
+use Rattle.definitions.specs.Numbers.{truncated, badAllowance, noStep, noCell, numberWanted, noField, isNumber, isConstructor, isRefusal, isStop, isFault, isAnswer}
+use Rattle.laws.proofs.Ranges.{within-both, within-below, within-by}
+
+-- a number between the values and the run faults is no answer
+below-faults : (n : ℕ) → truncated ≤ n → n ≤ noCell → isAnswer n ≡ false
+unfolding isAnswer isFault
+below-faults n h k =
+    rw (ne-eqb n isNumber (λ e. omega arith), ne-eqb n isConstructor (λ e. omega arith), within-below numberWanted noField n (omega arith)) refl
+
+pub stop-no-answer : (n : ℕ) → isStop n ≡ true → isAnswer n ≡ false
+unfolding isStop
+stop-no-answer n h = let w = within-by noStep noCell n h in below-faults n (omega (arith, w .least)) (w .greatest)
+
+pub refusal-no-answer : (n : ℕ) → isRefusal n ≡ true → isAnswer n ≡ false
+unfolding isRefusal
+refusal-no-answer n h = let w = within-by truncated badAllowance n h in below-faults n (w .least) (omega (arith, w .greatest))
+
+pub answer-no-stop : (n : ℕ) → isAnswer n ≡ true → isStop n ≡ false
+answer-no-stop n h = from (isStop n) refl
+  where
+    from : (x : Bool) → isStop n ≡ x → x ≡ false
+    from true e = absurd (true≢false (sym h ∙ stop-no-answer n e))
+    from false e = refl
+
+-- a run fault is an answer
+pub fault-answer : (n : ℕ) → numberWanted ≤ n → n ≤ noField → isAnswer n ≡ true
+unfolding isAnswer isFault
+fault-answer n h k =
+    rw (ne-eqb n isNumber (λ e. omega arith), ne-eqb n isConstructor (λ e. omega arith), within-both numberWanted noField n h k) refl
+
+-- the greatest number that an answer, a stop or a refusal has is a constructor's
+answer-by : (n : ℕ) (x y z : Bool) → eqb n isNumber ≡ x → eqb n isConstructor ≡ y → isFault n ≡ z → (x || y || z) ≡ true → n ≤ isConstructor
+unfolding isFault
+answer-by n true y z e f g h = omega (arith, eqb-true n isNumber e)
+answer-by n false true z e f g h = omega (arith, eqb-true n isConstructor f)
+answer-by n false false true e f g h = omega (arith, within-by numberWanted noField n g .greatest)
+answer-by n false false false e f g h = absurd (true≢false (sym h))
+
+pub answer-limit : (n : ℕ) → isAnswer n ≡ true → n ≤ isConstructor
+unfolding isAnswer
+answer-limit n h = answer-by n (eqb n isNumber) (eqb n isConstructor) (isFault n) refl refl refl h
+
+pub stop-limit : (n : ℕ) → isStop n ≡ true → n ≤ isConstructor
+unfolding isStop
+stop-limit n h = omega (arith, within-by noStep noCell n h .greatest)
+
+pub refusal-limit : (n : ℕ) → isRefusal n ≡ true → n ≤ isConstructor
+unfolding isRefusal
+refusal-limit n h = omega (arith, within-by truncated badAllowance n h .greatest)

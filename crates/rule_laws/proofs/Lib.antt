@@ -1,0 +1,7 @@
+pub mod Mentions
+pub mod Computing
+pub mod Keeps
+pub mod Lockstep
+pub mod Arrivals
+pub mod Found
+pub mod Reached

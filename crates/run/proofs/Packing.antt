@@ -1,0 +1,84 @@
+-- Laws of an outcome in one number, and of the state that it is the outcome of.
+use mathlib.Core.Path.{_≡_, refl, sym, ap, _∙_}
+use Prim.Native.Nat.{ℕ, _/_, _%_, _<_}
+use mathlib.Core.List.{List}
+use native.Mathlib.Omega.{arith}
+use lib.IntN.{ℤ}
+use borrow.Author.Tests.{ne-eqb}
+use mir.Syntax.{w32}
+use mir.Val.{toZ, SFits}
+use Rattle.definitions.specs.Operators.{residue}
+use Rattle.definitions.specs.Rule.{Ending, Reached}
+use Rattle.run.specs.declared.state.Value.{Value}
+use Rattle.run.specs.declared.state.Value.the-variants.{Number, Constructor}
+use Rattle.run.specs.declared.state.Outcome.{Outcome}
+use Rattle.run.specs.declared.state.Outcome.the-variants as outcomes
+use Rattle.run.specs.declared.state.State.{State}
+use Rattle.run.specs.Lent.{Lent}
+use Rattle.run.specs.NodeTable.{Parts}
+use Rattle.run.specs.States.{endingOf, stateOf, reachedOf, Leaves, visits}
+use Rattle.run.specs.Packed.{either, outcomeIn}
+use Rattle.run.proofs.Entries.{split, halves, bits-back}
+
+-- the outcome of a number, by its lowest part
+outcome-number : (x : ℕ) → x % 65536 ≡ 0 → outcomeIn x ≡ outcomes.Value (Number (toZ w32 (x / 65536 % 4294967296)))
+unfolding outcomeIn either
+outcome-number x e = rw e refl
+
+outcome-constructor : (x : ℕ) → x % 65536 ≡ 1 → outcomeIn x ≡ outcomes.Value (Constructor (x / 65536 % 65536) (x / 4294967296 % 65536))
+unfolding outcomeIn either
+outcome-constructor x e = rw e refl
+
+outcome-ended : (x : ℕ) → (x % 65536 ≡ 0 → ⊥) → (x % 65536 ≡ 1 → ⊥) → outcomeIn x ≡ outcomes.Ended (x / 65536 % 65536)
+unfolding outcomeIn either
+outcome-ended x h g = rw (ne-eqb (x % 65536) 0 h, ne-eqb (x % 65536) 1 g) refl
+
+-- what is read of a number
+module _ (x kind : ℕ) (ek : kind ≡ x % 65536) where
+  pub told-number : (y z : ℤ) → kind ≡ 0 → y ≡ z → z ≡ toZ w32 (x / 65536 % 4294967296) → outcomes.Value (Number y) ≡ outcomeIn x
+  told-number y z e ey ez = rw (ey, ez) refl ∙ sym (outcome-number x (sym ek ∙ e))
+
+  pub told-constructor : (n c : ℕ) → kind ≡ 1 → n ≡ x / 65536 % 65536 → c ≡ x / 4294967296 % 65536 → outcomes.Value (Constructor n c) ≡ outcomeIn x
+  told-constructor n c e en ec = rw (en, ec) refl ∙ sym (outcome-constructor x (sym ek ∙ e))
+
+  pub told-ended : (n : ℕ) → (kind ≡ 0 → ⊥) → (kind ≡ 1 → ⊥) → n ≡ x / 65536 % 65536 → outcomes.Ended n ≡ outcomeIn x
+  told-ended n h g en = rw en refl ∙ sym (outcome-ended x (λ q. h (ek ∙ q)) (λ q. g (ek ∙ q)))
+
+-- the number of an outcome
+pub number-packed : (v : Value) (z y : ℤ) (n x : ℕ) → SFits w32 z → y ≡ z → v ≡ Number z → n ≡ residue w32 y → n < 4294967296
+    → Parts x 0 (n % 65536) (n / 65536) 0 → outcomeIn x ≡ outcomes.Value v
+number-packed v z y n x f ey ev en hn t =
+    let e : x / 65536 % 4294967296 ≡ residue w32 z = split x ∙ rw (t .part-1, t .part-2) refl ∙ halves n hn ∙ en ∙ ap (residue w32) ey in
+    outcome-number x (t .part-0) ∙ ap (λ (u : ℤ). outcomes.Value (Number u)) (ap (toZ w32) e ∙ bits-back z f) ∙ rw ev refl
+
+pub constructor-packed : (v : Value) (k w x : ℕ) → v ≡ Constructor k w → Parts x 1 k w 0 → outcomeIn x ≡ outcomes.Value v
+constructor-packed v k w x ev t = outcome-constructor x (t .part-0) ∙ rw (t .part-1, t .part-2, ev) refl
+
+pub ended-packed : (o : Outcome) (n x : ℕ) → o ≡ outcomes.Ended n → Parts x 2 n 0 0 → outcomeIn x ≡ o
+ended-packed o n x eo t =
+    let p = t .part-0 in
+    outcome-ended x (λ q. omega (arith, q, p)) (λ q. omega (arith, q, p)) ∙ rw (t .part-1, eo) refl
+
+pub value-packed : (o : Outcome) (v : Value) (x : ℕ) → o ≡ outcomes.Value v → outcomeIn x ≡ outcomes.Value v → outcomeIn x ≡ o
+value-packed o v x eo e = e ∙ sym eo
+
+-- the state of a visit that returned a number, by the counts that it left
+pub leaves-in : (o : Outcome) (x : ℕ) (e : Ending ℕ) (left made : ℕ) → outcomeIn x ≡ o → endingOf o ≡ e
+    → Leaves (record { outcome = outcomeIn x; left = left; made = made }) e left made
+leaves-in o x e left made f l = record { ending = ap endingOf f ∙ l; steps = refl; cells = refl }
+
+pub told-in : (x : ℕ) (o u : Outcome) → o ≡ outcomeIn x → o ≡ u → outcomeIn x ≡ u
+told-in x o u e f = sym e ∙ f
+
+pub reached-opened : (s : State) (x l m : ℕ) (after : List ℕ) (q : Reached ℕ Lent) → (s .outcome ≡ outcomeIn x) × (s .left ≡ l) × (s .made ≡ m)
+    → reachedOf (record { outcome = outcomeIn x; left = l; made = m }) after ≡ q → reachedOf s after ≡ q
+unfolding reachedOf
+reached-opened s x l m after q e g = rw (e .0, e .1, e .2) g
+
+-- cells that were read stay as they were
+pub unchanged : (s : State) (cells before : List ℕ) (q : Reached ℕ Lent) → cells ≡ before → reachedOf s before ≡ q → reachedOf s cells ≡ q
+unchanged s cells before q e g = rw e g
+
+pub visits-unchanged : (b : List ℕ) (rs : List ℤ) (most n k w left made : ℕ) (cells before : List ℕ) (q : Reached ℕ Lent) → cells ≡ before
+    → q ≡ visits b rs most n k w (stateOf left made cells) → q ≡ visits b rs most n k w (stateOf left made before)
+visits-unchanged b rs most n k w left made cells before q e g = rw e at g

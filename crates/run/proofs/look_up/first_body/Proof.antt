@@ -1,0 +1,31 @@
+-- `run::look_up::first_body` meets its contract: the body is the last node of the first run.
+use borrow.Author.Needs.{needs}
+use Rattle.run.proofs.LookUps.{first-count-least, first-body-reached}
+use Rattle.run.proofs.look_up.first_body.Statement.{statement}
+use Rattle.run.proofs.look_up.first_body.Tie as tie
+use Rattle.run.proofs.look_up.first_body.Reads as reads
+use Rattle.run.proofs.look_up.first_body.Lts as lts
+use Rattle.file_layout.proofs.layout.first_function.Reads as first-function-reads
+use Rattle.file_records.proofs.records.field.Reads as field-reads
+use Rattle.file_records.proofs.records.record.Reads as record-reads
+
+first-function-requires : tie.Need-first-function-requires
+first-function-requires c κs = search needs
+
+record-requires : tie.Need-record-requires
+record-requires c κs = search needs
+
+field-requires : tie.Need-field-requires
+field-requires c κs = search needs
+
+sub-result : tie.Need-sub-result
+sub-result c =
+    first-count-least _ _ _ _ (c .before .before .before .before .pre) (c .before .before .first-function .ensures .0) (c .before .record .ensures) (c .field .ensures)
+
+returns : tie.Need-returns
+returns c =
+    first-body-reached _ _ _ _ (c .before .before .before .before .pre) (c .before .before .first-function .ensures .0) (c .before .record .ensures) (c .field .ensures)
+
+pub first-body-spec : {M : Type 1} → statement M
+first-body-spec =
+    tie.close (tie.spec first-function-requires record-requires field-requires sub-result returns)

@@ -1,0 +1,25 @@
+-- An outcome in one number of 64 bits, and the state that it is the outcome of.
+use Prim.Native.Nat.{ℕ, _/_, _%_}
+use mathlib.Core.List.{List}
+use lib.ListN.{getD}
+use mathlib.Core.Bool.{Bool, true, false}
+use lib.Dec.{eqb}
+use mir.Syntax.{w32}
+use mir.Val.{toZ}
+use Rattle.run.specs.declared.state.Value.the-variants.{Number, Constructor}
+use Rattle.run.specs.declared.state.Outcome.{Outcome}
+use Rattle.run.specs.declared.state.Outcome.the-variants as outcomes
+use Rattle.run.specs.declared.state.State.{State}
+
+unfoldable pub either : Bool → Outcome → Outcome → Outcome
+either true a b = a
+either false a b = b
+
+unfoldable pub outcomeIn : ℕ → Outcome
+outcomeIn x =
+    either (eqb (x % 65536) 0) (outcomes.Value (Number (toZ w32 (x / 65536 % 4294967296))))
+    (either (eqb (x % 65536) 1) (outcomes.Value (Constructor (x / 65536 % 65536) (x / 4294967296 % 65536))) (outcomes.Ended (x / 65536 % 65536)))
+
+-- the state of a visit that returned a number, by the counts that it left
+abbrev pub stateIn : ℕ → List ℕ → State
+stateIn x counts = record { outcome = outcomeIn x; left = getD counts 0 0; made = getD counts 1 0 }

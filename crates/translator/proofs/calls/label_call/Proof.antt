@@ -1,0 +1,46 @@
+-- `translator::calls::label_call` meets its contract.
+use mathlib.Core.Path.{refl}
+use borrow.Author.Needs.{needs}
+use Rattle.translator.proofs.calls.label_call.Statement.{statement}
+use Rattle.translator.proofs.calls.label_call.Tie as tie
+
+mul-labels : tie.Need-mul-labels
+mul-labels c = search needs
+
+element-copy-out-labels : tie.Need-element-copy-out-labels
+element-copy-out-labels c = search needs
+
+mul-labels-2 : tie.Need-mul-labels-2
+mul-labels-2 c = search needs
+
+element-write-labels : tie.Need-element-write-labels
+element-write-labels c = search needs
+
+mul-counts : tie.Need-mul-counts
+mul-counts c = search needs
+
+element-copy-out-counts : tie.Need-element-copy-out-counts
+element-copy-out-counts c = search needs
+
+add-counts : tie.Need-add-counts
+add-counts c = search needs
+
+element-write-counts : tie.Need-element-write-counts
+element-write-counts c = search needs
+
+returns : tie.Need-returns
+returns c = record { label = refl; count = refl }
+
+pub label-call-spec : {M : Type 1} → statement M
+label-call-spec =
+    tie.close
+    (tie.spec
+    mul-labels
+    element-copy-out-labels
+    mul-labels-2
+    element-write-labels
+    mul-counts
+    element-copy-out-counts
+    add-counts
+    element-write-counts
+    returns)
