@@ -1,12 +1,17 @@
 /* Zifnora: rule sheets, their label translation and its run (document 01).
  *
- * Every call is proved: for whatever bytes, lengths and numbers it is given it returns, reads only what it is lent, writes only
- * what is said here, and keeps nothing between calls. Nothing is allocated. Buffers that are lent for writing must not overlap
- * any other buffer of the call. A buffer of length 0 may be any non-null pointer that is aligned for its type.
+ * Every call of the archive is proved: for whatever bytes, lengths and numbers it is given it returns, reads only what it is
+ * lent, writes only what is said here, and keeps nothing between calls. Nothing is allocated. Buffers that are lent for writing
+ * must not overlap any other buffer of the call. A buffer of length 0 may be any non-null pointer that is aligned for its type.
+ * The inline functions here are plain C.
  *
- * Build the archive with `rt staticlib zifnora_c`, and link target/staticlib/libzifnora_c.a. A run nests at most 1,024 visits
- * and takes 13 KiB of stack and 80 bytes more for each open visit, less than 96 KiB in all; the joined call takes less than
- * 144 KiB, the other calls less than 32 KiB. These bounds are measured (bench prints them), not proved.
+ * Platform: x86-64, System V calling convention; the archive is ELF. Build it with `rt staticlib zifnora_c`, and link
+ * target/staticlib/libzifnora_c.a. It needs `memcpy` and `memset` from what it is linked with, and nothing else (`nm -u`).
+ *
+ * Stack: a run takes less than 96 KiB, the joined call less than 144 KiB, the other calls less than 32 KiB. These bounds are
+ * measured, not proved. `bench` measures on files that nest in each way in which visits can nest, to 1,024 open visits, and
+ * prints: a run 12,704 bytes, 80 more for each visit that stays open, 94,152 at nesting 1,024; the joined call 57,952 and
+ * 135,096; translating 16,672; listing a context 24. Another build of the archive has to be measured again.
  */
 #ifndef ZIFNORA_H
 #define ZIFNORA_H
@@ -27,36 +32,124 @@ extern "C" {
 #define ZIFNORA_CELL_BYTES 4u             /* lent for each cell: label, number of the previous cell (two bytes each) */
 #define ZIFNORA_RECORD_BYTES 20u          /* the answer record */
 
-/* The numbers of document 01's table. Refusals: */
-#define ZIFNORA_CUT 1u             /* the file ends inside a record, or before the last one due */
-#define ZIFNORA_OVERSIZE 2u        /* the file is above its size */
-#define ZIFNORA_BAD_RECORD 3u      /* kind not due, length wrong, operator code above 5, or bytes after the last record */
-#define ZIFNORA_BAD_COUNT 4u       /* a count outside its range, or the sum of node counts */
-#define ZIFNORA_DANGLING 5u        /* a reference or a parameter position out of range; a damaged cell */
-#define ZIFNORA_MISGROWN 6u        /* a child, case or pattern rule broken */
-#define ZIFNORA_MISFIT 7u          /* argument count wrong, or `result` has parameters */
-#define ZIFNORA_SHORT_TRAY 8u      /* an output does not fit */
-#define ZIFNORA_SENSOR_COUNT 9u    /* the readings are not as many as the sheet asks for */
-#define ZIFNORA_BAD_ALLOWANCE 10u  /* a ceiling passed, nesting 0, or cells not lent */
-/* stops: */
-#define ZIFNORA_STEPS 11u
-#define ZIFNORA_NESTING_STOP 12u
-#define ZIFNORA_CELLS_STOP 13u
-/* run faults: */
-#define ZIFNORA_NUMBER_WANTED 14u
-#define ZIFNORA_CONSTRUCTOR_WANTED 15u
-#define ZIFNORA_NO_CLAUSE 16u
-#define ZIFNORA_ZERO_DIVISOR 17u
-#define ZIFNORA_NO_ACTUAL 18u
-#define ZIFNORA_NO_FIELD 19u
-/* outcomes that are values: */
-#define ZIFNORA_NUMBER 0u
-#define ZIFNORA_CONSTRUCTOR 100u
+/* The kinds of records, with document 01's words. */
+enum zifnora_sheet_kind {
+  ZIFNORA_SHEET_HEAD = 1,
+  ZIFNORA_SHEET_CONSTRUCTOR = 2,
+  ZIFNORA_SHEET_FUNCTION = 3,
+  ZIFNORA_SHEET_NUMBER = 16,
+  ZIFNORA_SHEET_READING = 17,
+  ZIFNORA_SHEET_PARAMETER = 18,
+  ZIFNORA_SHEET_PATTERN_VARIABLE = 19,
+  ZIFNORA_SHEET_OPERATOR = 20,
+  ZIFNORA_SHEET_IF = 21,
+  ZIFNORA_SHEET_CALL = 22,
+  ZIFNORA_SHEET_BUILD = 23,
+  ZIFNORA_SHEET_CASE = 24
+};
+
+enum zifnora_translation_kind {
+  ZIFNORA_TRANSLATION_HEAD = 33,
+  ZIFNORA_TRANSLATION_FUNCTION = 34,
+  ZIFNORA_TRANSLATION_FORMAL_LIST = 35, /* "formal": the list of its actuals */
+  ZIFNORA_TRANSLATION_NUMBER = 48,
+  ZIFNORA_TRANSLATION_READING = 49,
+  ZIFNORA_TRANSLATION_FORMAL = 50, /* "formal": a node */
+  ZIFNORA_TRANSLATION_SELECT = 51,
+  ZIFNORA_TRANSLATION_OPERATOR = 52,
+  ZIFNORA_TRANSLATION_IF = 53,
+  ZIFNORA_TRANSLATION_CALL = 54,
+  ZIFNORA_TRANSLATION_TUPLE = 55,
+  ZIFNORA_TRANSLATION_CASE = 56
+};
+
+enum zifnora_record_kind { ZIFNORA_ANSWER_RECORD = 64 };
+
+/* The codes of operators, with document 01's words. */
+enum zifnora_operator {
+  ZIFNORA_ADD = 0,
+  ZIFNORA_SUBTRACT = 1,
+  ZIFNORA_MULTIPLY = 2,
+  ZIFNORA_DIVIDE = 3,
+  ZIFNORA_LESS = 4,
+  ZIFNORA_EQUAL = 5
+};
+
+/* The numbers of document 01's table, with its word for each, and the two outcomes that are values. */
+enum zifnora_outcome {
+  ZIFNORA_NUMBER = 0,
+  ZIFNORA_CONSTRUCTOR = 100,
+  /* Refusals: */
+  ZIFNORA_TRUNCATED = 1,      /* "cut": the file ends inside a record, or before the last one due */
+  ZIFNORA_OVERSIZE = 2,       /* "oversize": the file is above its size */
+  ZIFNORA_BAD_RECORD = 3,     /* "bad record": kind not due, length wrong, operator code above 5, or bytes after the last record */
+  ZIFNORA_BAD_COUNT = 4,      /* "bad count": a count outside its range, or the sum of node counts */
+  ZIFNORA_OUT_OF_RANGE = 5,   /* "dangling": a reference or a parameter position out of range; a damaged cell */
+  ZIFNORA_BAD_TREE = 6,       /* "misgrown": a child, case or pattern rule broken */
+  ZIFNORA_BAD_ARGUMENTS = 7,  /* "misfit": argument count wrong, or `result` has parameters */
+  ZIFNORA_SHORT_OUTPUT = 8,   /* "short tray": an output does not fit */
+  ZIFNORA_BAD_READINGS = 9,   /* "sensor count": the readings are not as many as the sheet asks for */
+  ZIFNORA_BAD_ALLOWANCE = 10, /* "bad allowance": a ceiling passed, nesting 0, or cells not lent */
+  /* Stops: */
+  ZIFNORA_NO_STEP = 11,    /* "steps" */
+  ZIFNORA_NO_NESTING = 12, /* "nesting" */
+  ZIFNORA_NO_CELL = 13,    /* "cells" */
+  /* Run faults: */
+  ZIFNORA_NUMBER_WANTED = 14,      /* "number wanted": an operand or a condition is a constructor */
+  ZIFNORA_CONSTRUCTOR_WANTED = 15, /* "constructor wanted": a case or select on a number */
+  ZIFNORA_NO_CLAUSE = 16,          /* "no clause" */
+  ZIFNORA_ZERO_DIVISOR = 17,       /* "zero divisor" */
+  ZIFNORA_NO_ACTUAL = 18,          /* "no actual": empty context, or a label beyond the list */
+  ZIFNORA_NO_FIELD = 19            /* "no field": an index beyond the tuple */
+};
+
+/* The class of an outcome. Every number above is in one class, any other in none. */
+static inline int zifnora_is_number(uint32_t outcome) { return outcome == ZIFNORA_NUMBER; }
+static inline int zifnora_is_constructor(uint32_t outcome) { return outcome == ZIFNORA_CONSTRUCTOR; }
+static inline int zifnora_is_refusal(uint32_t outcome) {
+  return outcome >= ZIFNORA_TRUNCATED && outcome <= ZIFNORA_BAD_ALLOWANCE;
+}
+static inline int zifnora_is_stop(uint32_t outcome) { return outcome >= ZIFNORA_NO_STEP && outcome <= ZIFNORA_NO_CELL; }
+static inline int zifnora_is_fault(uint32_t outcome) {
+  return outcome >= ZIFNORA_NUMBER_WANTED && outcome <= ZIFNORA_NO_FIELD;
+}
 
 /* What a call returns: bits 32 to 47 are a refusal's number, 0 where nothing is refused; the low 32 bits are a length or a count,
  * or the refusal's place (the record's number from 0; the cell's number for a listing; 0 for 2, 8, 9 and 10). */
 #define ZIFNORA_REFUSAL(code) ((uint32_t)((code) >> 32))
 #define ZIFNORA_VALUE(code) ((uint32_t)(code))
+
+/* The answer record, field by field. In its 20 bytes, little-endian, they stand in this order after the length 20 and the kind 64
+ * (two bytes each); value and steps have 4 bytes, the others 2. */
+struct zifnora_record {
+  uint32_t outcome; /* of enum zifnora_outcome */
+  int32_t value;    /* the number, the constructor's tag, a refusal's place; else 0 */
+  uint32_t steps;   /* steps taken */
+  uint32_t node;    /* of a constructor, else 0 */
+  uint32_t context; /* of a constructor, a cell's number, else 0 */
+  uint32_t cells;   /* cells made */
+};
+
+/* The number in two bytes, and in four. */
+static inline uint32_t zifnora_word(const uint8_t *bytes) { return bytes[0] | (uint32_t)bytes[1] << 8; }
+static inline uint32_t zifnora_double_word(const uint8_t *bytes) { return zifnora_word(bytes) | zifnora_word(bytes + 2) << 16; }
+
+/* Decodes the 20 bytes of an answer record. Returns 1, or 0 where their length or kind is not that of an answer record; then
+ * `record` stays as it was. */
+static inline int zifnora_decode_record(const uint8_t *bytes, struct zifnora_record *record) {
+  const uint32_t value = zifnora_double_word(bytes + 6);
+  if (zifnora_word(bytes) != ZIFNORA_RECORD_BYTES || zifnora_word(bytes + 2) != ZIFNORA_ANSWER_RECORD) {
+    return 0;
+  }
+  record->outcome = zifnora_word(bytes + 4);
+  /* The lower half of the range as it stands, the upper half less 2^32. */
+  record->value = value <= 0x7fffffffu ? (int32_t)value : -(int32_t)(0xffffffffu - value) - 1;
+  record->steps = zifnora_double_word(bytes + 10);
+  record->node = zifnora_word(bytes + 14);
+  record->context = zifnora_word(bytes + 16);
+  record->cells = zifnora_word(bytes + 18);
+  return 1;
+}
 
 /* Translates a sheet. Returns the translation's length; `out` starts with the translation and stays as it was past it. A refusal
  * (1 to 8) leaves all of `out` as it was. */
@@ -78,12 +171,10 @@ uint64_t zifnora_translate_and_run_slice(const uint8_t *sheet, size_t sheet_leng
                                          size_t record_length);
 
 /* Runs a translation on readings, with allowances of steps, nesting and cells, in lent cells, and writes the answer record.
- * Returns 0, also where the run itself is refused: the record says so. 8 where `record` has fewer than 20 bytes: then nothing is
- * run, and nothing is written.
+ * Returns 0, also where the run itself is refused: the record's outcome says so. A refusal, of number 8, comes back only where
+ * `record` has fewer than 20 bytes: then nothing is run, and nothing is written.
  *
- * The record, little-endian: 20 and 64 (two bytes each); outcome (2): ZIFNORA_NUMBER, ZIFNORA_CONSTRUCTOR, or a refusal's, a
- * stop's or a run fault's number; value (4): the number, the constructor's tag, a refusal's place, else 0; steps taken (4); node
- * (2) and context (2) of a constructor, else 0; cells made (2). Bytes of `record` past 20 stay as they were.
+ * zifnora_decode_record reads the record. Bytes of `record` past 20 stay as they were.
  *
  * `cells` starts with the cells made, 4 bytes each, and stays as it was past them; a refusal leaves it as it was. */
 static inline uint64_t zifnora_run(const uint8_t *translation, size_t translation_length, const int32_t *readings,

@@ -1,8 +1,11 @@
 //! Translations and sheets whose visits nest in one way until the nesting
 //! allowance stops them.
 
-use compare::build_sheet::{build, call, case, cond, num, op, put_record, Expr, Program, ADD};
-use compare::kinds::translation::*;
+use zifnora::build_sheet::{
+    build, call, case, if_else, number, operator, put_record, Expr, Program, ADD,
+};
+use zifnora::kinds::translation::*;
+use zifnora::sizes::MOST_FUNCTIONS;
 
 type Record = (u16, Vec<u16>);
 
@@ -16,7 +19,7 @@ fn translation(actuals: &[Vec<u16>], functions: &[Vec<Record>]) -> Vec<u8> {
         put_record(&mut file, FUNCTION, &[function.len() as u16]);
     }
     for list in actuals {
-        put_record(&mut file, ACTUALS, list);
+        put_record(&mut file, FORMAL_LIST, list);
     }
     for (kind, fields) in functions.iter().flatten() {
         put_record(&mut file, *kind, fields);
@@ -62,7 +65,7 @@ pub fn translations() -> Vec<(&'static str, Vec<u8>)> {
 /// other to a tuple, whose first field is that call again and whose second
 /// is the formal; each selection makes the tuple's context longer.
 fn formals() -> Vec<u8> {
-    const FUNCTIONS: u16 = 64;
+    const FUNCTIONS: u16 = MOST_FUNCTIONS as u16;
     const SELECTIONS: u16 = 20;
     let formal = 0;
     let first_call = 1;
@@ -107,8 +110,8 @@ pub fn sheets() -> Vec<(&'static str, Vec<u8>)> {
         program.encode()
     };
     let again = || call(0, vec![]);
-    let sum = (0..500).fold(again(), |inner, _| op(ADD, inner, num(1)));
-    let ifs = (0..300).fold(again(), |inner, _| cond(inner, num(1), num(1)));
+    let sum = (0..500).fold(again(), |inner, _| operator(ADD, inner, number(1)));
+    let ifs = (0..300).fold(again(), |inner, _| if_else(inner, number(1), number(1)));
     vec![
         ("left operand", sheet(&[], sum)),
         ("condition", sheet(&[], ifs)),

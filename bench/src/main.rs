@@ -15,13 +15,15 @@ use compare::interface::Interface;
 
 #[cfg(feature = "archive")]
 fn subject() -> (&'static dyn Interface, &'static str) {
-    (&compare::ffi::Archive, "interface: the archive")
+    (&compare::archive::Archive, "interface: the archive")
 }
 
 #[cfg(not(feature = "archive"))]
 fn subject() -> (&'static dyn Interface, &'static str) {
-    static MODEL: compare::model::Model = compare::model::Model { fault: None };
-    (&MODEL, "interface: THE MODEL (no archive linked)")
+    (
+        compare::model::correct(),
+        "interface: THE MODEL (no archive linked)",
+    )
 }
 
 fn main() {

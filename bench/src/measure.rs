@@ -3,10 +3,11 @@
 use crate::nodes::decode;
 use crate::plain::accept;
 use crate::run::{run, Ended};
-use compare::interface::{Allowances, Interface};
+use compare::interface::{count, Allowances, Interface};
 use compare::model::answer::{Answer, RECORD};
 use std::hint::black_box;
 use std::time::Instant;
+use zifnora::sizes::{CELL_BYTES, MOST_CELLS, MOST_NESTING, TRANSLATION_BYTES};
 
 const BATCHES: usize = 50;
 const BATCH_NANOSECONDS: f64 = 2e6;
@@ -42,19 +43,17 @@ fn repeats(work: &mut dyn FnMut()) -> u32 {
     }
 }
 
-pub const CELLS: u32 = 8192;
-
 /// The greatest allowances, with so many steps.
 pub fn greatest(steps: u32) -> Allowances {
     Allowances {
         steps,
-        nesting: 1024,
-        cells: CELLS,
+        nesting: MOST_NESTING,
+        cells: MOST_CELLS,
     }
 }
 
 pub fn lent_cells() -> Vec<u8> {
-    vec![0; 4 * CELLS as usize]
+    vec![0; CELL_BYTES * MOST_CELLS as usize]
 }
 
 /// One run through the interface.
@@ -137,16 +136,15 @@ pub fn run_cost(on: &dyn Interface, file: &[u8]) -> RunCost {
 
 /// Translates; the translation.
 pub fn translated(on: &dyn Interface, sheet: &[u8]) -> Vec<u8> {
-    let mut out = vec![0; 40_960];
-    let answer = on.translate(sheet, &mut out);
-    assert_eq!(answer >> 32, 0, "the sheet is accepted");
-    out.truncate(answer as usize);
+    let mut out = vec![0; TRANSLATION_BYTES];
+    let length = count(on.translate(sheet, &mut out));
+    out.truncate(length.expect("the sheet is accepted"));
     out
 }
 
 /// Nanoseconds of one translation, by both.
 pub fn translate_cost(on: &dyn Interface, model: &dyn Interface, sheet: &[u8]) -> [f64; 2] {
-    let (mut one, mut two) = (vec![0; 40_960], vec![0; 40_960]);
+    let (mut one, mut two) = (vec![0; TRANSLATION_BYTES], vec![0; TRANSLATION_BYTES]);
     times([
         &mut || {
             black_box(on.translate(black_box(sheet), &mut one));

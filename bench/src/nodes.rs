@@ -1,8 +1,8 @@
 //! The nodes of an accepted translation, decoded once for the plain run.
 
-use crate::plain::{two, Index};
-use compare::kinds::operators;
-use compare::kinds::translation as kinds;
+use crate::plain::{two_bytes, Index};
+use zifnora::kinds::operators;
+use zifnora::kinds::translation as kinds;
 
 #[derive(Clone, Copy)]
 pub enum Operator {
@@ -70,15 +70,15 @@ pub fn decode(file: &[u8], index: &Index) -> Program {
 }
 
 fn fields(file: &[u8], at: usize) -> impl Iterator<Item = u16> + '_ {
-    let end = at + two(file, at) as usize;
+    let end = at + two_bytes(file, at) as usize;
     file[at + 4..end]
         .chunks_exact(2)
         .map(|pair| u16::from_le_bytes([pair[0], pair[1]]))
 }
 
 fn node(file: &[u8], at: usize, bodies: &[u16]) -> Node {
-    let field = |number: usize| two(file, at + 4 + 2 * number);
-    match two(file, at + 2) {
+    let field = |number: usize| two_bytes(file, at + 4 + 2 * number);
+    match two_bytes(file, at + 2) {
         kinds::NUMBER => Node::Number((field(0) as u32 | (field(1) as u32) << 16) as i32),
         kinds::READING => Node::Reading(field(0)),
         kinds::FORMAL => Node::Formal(field(0)),
@@ -104,12 +104,13 @@ fn node(file: &[u8], at: usize, bodies: &[u16]) -> Node {
             tag: field(0),
             fields: fields(file, at).skip(1).collect(),
         },
-        _ => Node::Case {
+        kinds::CASE => Node::Case {
             scrutinee: field(0),
-            clauses: (0..(two(file, at) as usize - 6) / 4)
+            clauses: (0..(two_bytes(file, at) as usize - 6) / 4)
                 .map(|clause| (field(1 + 2 * clause), field(2 + 2 * clause)))
                 .collect(),
         },
+        kind => unreachable!("kind {kind} is no node's"),
     }
 }
 
@@ -120,6 +121,7 @@ fn operator(code: u16) -> Operator {
         operators::MULTIPLY => Operator::Multiply,
         operators::DIVIDE => Operator::Divide,
         operators::LESS => Operator::Less,
-        _ => Operator::Equal,
+        operators::EQUAL => Operator::Equal,
+        code => unreachable!("code {code} is no operator's"),
     }
 }

@@ -1,7 +1,8 @@
 //! The same program in a larger file: unused functions before or after its
 //! own ones (`result` stays first).
 
-use compare::build_sheet::{num, op, Expr, Program, ADD};
+use zifnora::build_sheet::{number, operator, Expr, Program, ADD};
+use zifnora::sizes::MOST_FUNCTIONS;
 
 /// Pads to `nodes` nodes; before or after the program's own functions.
 pub fn pad(program: &Program, nodes: usize, before: bool) -> Program {
@@ -11,7 +12,7 @@ pub fn pad(program: &Program, nodes: usize, before: bool) -> Program {
         .map(|function| function.1.size())
         .sum();
     let mut left = nodes.saturating_sub(own);
-    let room = 64 - program.functions.len();
+    let room = MOST_FUNCTIONS - program.functions.len();
     let each = (left / room + 1).max(31) | 1;
     let mut unused = Vec::new();
     while left > 0 {
@@ -45,9 +46,9 @@ pub fn pad(program: &Program, nodes: usize, before: bool) -> Program {
 
 /// A sum of numbers with an odd number of nodes.
 fn sum(size: usize) -> Expr {
-    let mut expr = num(1);
+    let mut expr = number(1);
     for _ in 0..(size - 1) / 2 {
-        expr = op(ADD, expr, num(1));
+        expr = operator(ADD, expr, number(1));
     }
     expr
 }

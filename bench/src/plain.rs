@@ -1,8 +1,9 @@
 //! A plain reader to measure against: one pass over a translation checks it
 //! and notes where its formals and nodes start.
 
-use compare::kinds::operators::EQUAL;
-use compare::kinds::translation as kinds;
+use zifnora::kinds::operators::EQUAL;
+use zifnora::kinds::translation as kinds;
+use zifnora::sizes::{MOST_FORMALS, MOST_FUNCTIONS, MOST_NODES, MOST_READINGS, TRANSLATION_BYTES};
 
 const HEAD_BYTES: usize = 12;
 const FUNCTION_BYTES: usize = 6;
@@ -22,7 +23,7 @@ struct Counts {
     nodes: usize,
 }
 
-pub fn two(file: &[u8], at: usize) -> u16 {
+pub fn two_bytes(file: &[u8], at: usize) -> u16 {
     u16::from_le_bytes([file[at], file[at + 1]])
 }
 
@@ -38,7 +39,7 @@ pub fn accept(file: &[u8]) -> Option<Index> {
     for _ in 0..counts.formals {
         let length = record(file, at, actuals_length)?;
         let mut actuals = (at + 4..at + length).step_by(2);
-        if actuals.any(|field| two(file, field) as usize >= counts.nodes) {
+        if actuals.any(|field| two_bytes(file, field) as usize >= counts.nodes) {
             return None;
         }
         index.formals.push(at as u32);
@@ -62,7 +63,7 @@ fn bodies(file: &[u8], counts: Counts) -> Option<Vec<u16>> {
     for function in 0..counts.functions {
         let at = HEAD_BYTES + FUNCTION_BYTES * function;
         record(file, at, function_length)?;
-        let count = two(file, at + 4) as usize;
+        let count = two_bytes(file, at + 4) as usize;
         if count == 0 {
             return None;
         }
@@ -73,19 +74,21 @@ fn bodies(file: &[u8], counts: Counts) -> Option<Vec<u16>> {
 }
 
 fn head(file: &[u8]) -> Option<Counts> {
-    let starts = file.len() <= 40_960 && file.len() >= HEAD_BYTES;
-    if !starts || two(file, 0) as usize != HEAD_BYTES || two(file, 2) != kinds::HEAD {
+    let starts = file.len() <= TRANSLATION_BYTES && file.len() >= HEAD_BYTES;
+    if !starts || two_bytes(file, 0) as usize != HEAD_BYTES || two_bytes(file, 2) != kinds::HEAD {
         return None;
     }
-    let [readings, formals, functions, nodes] = [4, 6, 8, 10].map(|at| two(file, at) as usize);
+    let [readings, formals, functions, nodes] =
+        [4, 6, 8, 10].map(|at| two_bytes(file, at) as usize);
     let counts = Counts {
         readings,
         formals,
         functions,
         nodes,
     };
-    let ranges = readings <= 32 && formals <= 512;
-    (ranges && (1..=64).contains(&functions) && (1..=1024).contains(&nodes)).then_some(counts)
+    let ranges = readings <= MOST_READINGS && formals <= MOST_FORMALS;
+    let from_one = (1..=MOST_FUNCTIONS).contains(&functions) && (1..=MOST_NODES).contains(&nodes);
+    (ranges && from_one).then_some(counts)
 }
 
 /// The length of the record at a place, where it is whole and fits.
@@ -94,8 +97,8 @@ fn record(file: &[u8], at: usize, fits: impl Fn(u16, usize) -> bool) -> Option<u
     if left < 4 {
         return None;
     }
-    let length = two(file, at) as usize;
-    (fits(two(file, at + 2), length) && length <= left).then_some(length)
+    let length = two_bytes(file, at) as usize;
+    (fits(two_bytes(file, at + 2), length) && length <= left).then_some(length)
 }
 
 fn function_length(kind: u16, length: usize) -> bool {
@@ -103,7 +106,7 @@ fn function_length(kind: u16, length: usize) -> bool {
 }
 
 fn actuals_length(kind: u16, length: usize) -> bool {
-    kind == kinds::ACTUALS && (4..=2052).contains(&length) && length % 2 == 0
+    kind == kinds::FORMAL_LIST && (4..=2052).contains(&length) && length % 2 == 0
 }
 
 fn node_length(kind: u16, length: usize) -> bool {
@@ -118,10 +121,10 @@ fn node_length(kind: u16, length: usize) -> bool {
 }
 
 fn node_refers(record: &[u8], counts: Counts) -> bool {
-    let field = |number: usize| two(record, 4 + 2 * number) as usize;
+    let field = |number: usize| two_bytes(record, 4 + 2 * number) as usize;
     let fields = (record.len() - 4) / 2;
     let node = |number: usize| field(number) < counts.nodes;
-    match two(record, 2) {
+    match two_bytes(record, 2) {
         kinds::READING => field(0) < counts.readings,
         kinds::FORMAL => field(0) < counts.formals,
         kinds::SELECT => node(0),
@@ -130,6 +133,7 @@ fn node_refers(record: &[u8], counts: Counts) -> bool {
         kinds::CALL => field(1) < counts.functions,
         kinds::TUPLE => (1..fields).all(node),
         kinds::CASE => (0..fields).step_by(2).all(node),
+        // A number.
         _ => true,
     }
 }

@@ -1,6 +1,6 @@
 //! Small versions of document 002's benchmark programs, as sheets.
 
-use compare::build_sheet::*;
+use zifnora::build_sheet::*;
 
 pub struct Benchmark {
     pub name: &'static str,
@@ -61,79 +61,108 @@ fn numeric(functions: Vec<(u16, Expr)>) -> Program {
     }
 }
 
-fn minus(expr: Expr, number: i32) -> Expr {
-    op(SUBTRACT, expr, num(number))
+fn minus(expr: Expr, less: i32) -> Expr {
+    operator(SUBTRACT, expr, number(less))
 }
 
 /// fib n = if n < 2 then n else fib (n-1) + fib (n-2)
 pub fn fib(input: i32) -> Program {
-    let again = |less| call(1, vec![minus(par(0), less)]);
-    let body = cond(
-        op(LESS, par(0), num(2)),
-        par(0),
-        op(ADD, again(1), again(2)),
+    let again = |less| call(1, vec![minus(parameter(0), less)]);
+    let body = if_else(
+        operator(LESS, parameter(0), number(2)),
+        parameter(0),
+        operator(ADD, again(1), again(2)),
     );
-    numeric(vec![(0, call(1, vec![num(input)])), (1, body)])
+    numeric(vec![(0, call(1, vec![number(input)])), (1, body)])
 }
 
 /// ack m n, on (2, input)
 fn ack(input: i32) -> Program {
-    let inner = call(1, vec![par(0), minus(par(1), 1)]);
-    let body = cond(
-        op(EQUAL, par(0), num(0)),
-        op(ADD, par(1), num(1)),
-        cond(
-            op(EQUAL, par(1), num(0)),
-            call(1, vec![minus(par(0), 1), num(1)]),
-            call(1, vec![minus(par(0), 1), inner]),
+    let inner = call(1, vec![parameter(0), minus(parameter(1), 1)]);
+    let body = if_else(
+        operator(EQUAL, parameter(0), number(0)),
+        operator(ADD, parameter(1), number(1)),
+        if_else(
+            operator(EQUAL, parameter(1), number(0)),
+            call(1, vec![minus(parameter(0), 1), number(1)]),
+            call(1, vec![minus(parameter(0), 1), inner]),
         ),
     );
-    numeric(vec![(0, call(1, vec![num(2), num(input)])), (2, body)])
+    numeric(vec![
+        (0, call(1, vec![number(2), number(input)])),
+        (2, body),
+    ])
 }
 
 /// tak x y z, on (input, input / 2, 0)
 fn tak(input: i32) -> Program {
-    let again = |x, y, z| call(1, vec![minus(par(x), 1), par(y), par(z)]);
+    let again = |x, y, z| call(1, vec![minus(parameter(x), 1), parameter(y), parameter(z)]);
     let three = vec![again(0, 1, 2), again(1, 2, 0), again(2, 0, 1)];
-    let body = cond(op(LESS, par(1), par(0)), call(1, three), par(2));
+    let body = if_else(
+        operator(LESS, parameter(1), parameter(0)),
+        call(1, three),
+        parameter(2),
+    );
     numeric(vec![
-        (0, call(1, vec![num(input), num(input / 2), num(0)])),
+        (
+            0,
+            call(1, vec![number(input), number(input / 2), number(0)]),
+        ),
         (3, body),
     ])
 }
 
 /// collatz n = if n = 1 then 0 else 1 + collatz (if even n then n/2 else 3n+1)
 fn collatz(input: i32) -> Program {
-    let half = || op(DIVIDE, par(0), num(2));
-    let even = op(EQUAL, par(0), op(MULTIPLY, num(2), half()));
-    let odd = op(ADD, op(MULTIPLY, num(3), par(0)), num(1));
-    let next = call(1, vec![cond(even, half(), odd)]);
-    let body = cond(op(EQUAL, par(0), num(1)), num(0), op(ADD, num(1), next));
-    numeric(vec![(0, call(1, vec![num(input)])), (1, body)])
+    let half = || operator(DIVIDE, parameter(0), number(2));
+    let even = operator(EQUAL, parameter(0), operator(MULTIPLY, number(2), half()));
+    let odd = operator(ADD, operator(MULTIPLY, number(3), parameter(0)), number(1));
+    let next = call(1, vec![if_else(even, half(), odd)]);
+    let body = if_else(
+        operator(EQUAL, parameter(0), number(1)),
+        number(0),
+        operator(ADD, number(1), next),
+    );
+    numeric(vec![(0, call(1, vec![number(input)])), (1, body)])
 }
 
 /// Number of primes up to the input, by trial division.
 fn primes(input: i32) -> Program {
-    let count = cond(
-        op(LESS, par(0), num(2)),
-        num(0),
-        op(
+    let count = if_else(
+        operator(LESS, parameter(0), number(2)),
+        number(0),
+        operator(
             ADD,
-            call(2, vec![par(0), num(2)]),
-            call(1, vec![minus(par(0), 1)]),
+            call(2, vec![parameter(0), number(2)]),
+            call(1, vec![minus(parameter(0), 1)]),
         ),
     );
-    let multiple = op(MULTIPLY, par(1), op(DIVIDE, par(0), par(1)));
-    let prime = cond(
-        op(LESS, par(0), op(MULTIPLY, par(1), par(1))),
-        num(1),
-        cond(
-            op(EQUAL, par(0), multiple),
-            num(0),
-            call(2, vec![par(0), op(ADD, par(1), num(1))]),
+    let multiple = operator(
+        MULTIPLY,
+        parameter(1),
+        operator(DIVIDE, parameter(0), parameter(1)),
+    );
+    let prime = if_else(
+        operator(
+            LESS,
+            parameter(0),
+            operator(MULTIPLY, parameter(1), parameter(1)),
+        ),
+        number(1),
+        if_else(
+            operator(EQUAL, parameter(0), multiple),
+            number(0),
+            call(
+                2,
+                vec![parameter(0), operator(ADD, parameter(1), number(1))],
+            ),
         ),
     );
-    numeric(vec![(0, call(1, vec![num(input)])), (1, count), (2, prime)])
+    numeric(vec![
+        (0, call(1, vec![number(input)])),
+        (1, count),
+        (2, prime),
+    ])
 }
 
 const NIL: u16 = 0;
@@ -157,16 +186,16 @@ fn lists(functions: Vec<(u16, Expr)>) -> Program {
 
 /// range n = n : range (n-1); sum
 fn range_and_sum() -> [(u16, Expr); 2] {
-    let range = cond(
-        op(EQUAL, par(0), num(0)),
+    let range = if_else(
+        operator(EQUAL, parameter(0), number(0)),
         nil(),
-        cons(par(0), call(1, vec![minus(par(0), 1)])),
+        cons(parameter(0), call(1, vec![minus(parameter(0), 1)])),
     );
     let sum = case(
-        par(0),
+        parameter(0),
         vec![
-            (NIL, num(0)),
-            (CONS, op(ADD, pat(0), call(2, vec![pat(1)]))),
+            (NIL, number(0)),
+            (CONS, operator(ADD, pattern(0), call(2, vec![pattern(1)]))),
         ],
     );
     [(1, range), (1, sum)]
@@ -174,27 +203,30 @@ fn range_and_sum() -> [(u16, Expr); 2] {
 
 /// sum (reverse (range n)), reverse by append
 fn reverse(input: i32) -> Program {
-    let result = call(2, vec![call(3, vec![call(1, vec![num(input)])])]);
+    let result = call(2, vec![call(3, vec![call(1, vec![number(input)])])]);
     let [range, sum] = range_and_sum();
-    let back = call(4, vec![call(3, vec![pat(1)]), cons(pat(0), nil())]);
-    let reverse = case(par(0), vec![(NIL, nil()), (CONS, back)]);
-    let onto = cons(pat(0), call(4, vec![pat(1), par(1)]));
-    let append = case(par(0), vec![(NIL, par(1)), (CONS, onto)]);
+    let back = call(4, vec![call(3, vec![pattern(1)]), cons(pattern(0), nil())]);
+    let reverse = case(parameter(0), vec![(NIL, nil()), (CONS, back)]);
+    let onto = cons(pattern(0), call(4, vec![pattern(1), parameter(1)]));
+    let append = case(parameter(0), vec![(NIL, parameter(1)), (CONS, onto)]);
     lists(vec![(0, result), range, sum, (1, reverse), (2, append)])
 }
 
 /// sum (sort (range n)), insertion sort
 fn sort(input: i32) -> Program {
-    let result = call(2, vec![call(3, vec![call(1, vec![num(input)])])]);
+    let result = call(2, vec![call(3, vec![call(1, vec![number(input)])])]);
     let [range, sum] = range_and_sum();
-    let put = call(4, vec![pat(0), call(3, vec![pat(1)])]);
-    let sort = case(par(0), vec![(NIL, nil()), (CONS, put)]);
-    let further = cons(pat(0), call(4, vec![par(0), pat(1)]));
-    let place = cond(
-        op(LESS, par(0), pat(0)),
-        cons(par(0), cons(pat(0), pat(1))),
+    let put = call(4, vec![pattern(0), call(3, vec![pattern(1)])]);
+    let sort = case(parameter(0), vec![(NIL, nil()), (CONS, put)]);
+    let further = cons(pattern(0), call(4, vec![parameter(0), pattern(1)]));
+    let place = if_else(
+        operator(LESS, parameter(0), pattern(0)),
+        cons(parameter(0), cons(pattern(0), pattern(1))),
         further,
     );
-    let insert = case(par(1), vec![(NIL, cons(par(0), nil())), (CONS, place)]);
+    let insert = case(
+        parameter(1),
+        vec![(NIL, cons(parameter(0), nil())), (CONS, place)],
+    );
     lists(vec![(0, result), range, sum, (1, sort), (2, insert)])
 }

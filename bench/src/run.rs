@@ -3,9 +3,9 @@
 //! conditions, scrutinees and selected nodes; its last visit is a loop's turn.
 
 use crate::nodes::{Node, Operator, Program};
-use crate::plain::two;
+use crate::plain::two_bytes;
 use compare::interface::Allowances;
-use compare::numbers;
+use zifnora::numbers;
 
 #[derive(Clone, Copy)]
 enum Value {
@@ -102,10 +102,10 @@ impl<'a> Run<'a> {
     /// The two stops of a visit, and its step.
     fn count(&mut self, open: u32) -> Result<(), u16> {
         if self.steps == self.allowances.steps {
-            return Err(numbers::STEPS);
+            return Err(numbers::NO_STEP);
         }
         if open > self.allowances.nesting {
-            return Err(numbers::NESTING);
+            return Err(numbers::NO_NESTING);
         }
         self.steps += 1;
         Ok(())
@@ -141,7 +141,7 @@ impl<'a> Run<'a> {
             return Err(numbers::NO_ACTUAL);
         }
         let cell = &self.cells[4 * context as usize - 4..][..4];
-        let (label, tail) = (two(cell, 0), two(cell, 2));
+        let (label, tail) = (two_bytes(cell, 0), two_bytes(cell, 2));
         let actuals = &self.formals[formal as usize];
         let actual = actuals.get(label as usize).ok_or(numbers::NO_ACTUAL)?;
         Ok((*actual, tail))
@@ -150,7 +150,7 @@ impl<'a> Run<'a> {
     /// Adds a cell; its number.
     fn cell(&mut self, label: u16, context: u16) -> Result<u16, u16> {
         if self.made == self.allowances.cells {
-            return Err(numbers::CELLS);
+            return Err(numbers::NO_CELL);
         }
         let cell = &mut self.cells[4 * self.made as usize..][..4];
         cell[..2].copy_from_slice(&label.to_le_bytes());

@@ -13,15 +13,15 @@ pub fn depth(work: &mut dyn FnMut()) -> usize {
 }
 
 fn used(work: &mut dyn FnMut()) -> usize {
-    let mut most = 0;
+    let mut deepest = 0;
     for paint in PAINTS {
         let mut stack = vec![paint; WORDS];
         call_on(&mut stack, work);
         let left = stack.iter().take_while(|&&word| word == paint).count();
         assert!(left > WORDS / 2, "the stack is large enough");
-        most = most.max(8 * (WORDS - left));
+        deepest = deepest.max(8 * (WORDS - left));
     }
-    most
+    deepest
 }
 
 extern "C" fn call(work: &mut &mut dyn FnMut()) {

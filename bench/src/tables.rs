@@ -3,14 +3,15 @@
 use crate::measure::{
     agreed, greatest, lent_cells, plain_run, run_cost, translate_cost, translated,
 };
-use crate::plain::two;
+use crate::plain::two_bytes;
 use crate::{chains, pad, programs, stack};
-use compare::build_sheet::Program;
 use compare::generate::{ceiling, random::Random};
 use compare::interface::{Allowances, Interface};
 use compare::model::answer::RECORD;
-use compare::model::Model;
-use compare::numbers;
+use compare::model::correct;
+use zifnora::build_sheet::Program;
+use zifnora::numbers;
+use zifnora::sizes::{MOST_NESTING, MOST_NODES, TRANSLATION_BYTES};
 
 const MOST_STEPS: u32 = 20_000_000;
 
@@ -24,7 +25,7 @@ fn fitting(benchmark: &programs::Benchmark) -> (i32, Program) {
     let mut cells = lent_cells();
     for &input in &benchmark.inputs {
         let program = (benchmark.program)(input);
-        let file = translated(&Model::correct(), &program.encode());
+        let file = translated(correct(), &program.encode());
         if plain_run(&file, MOST_STEPS, &mut cells).outcome == numbers::NUMBER {
             return (input, program);
         }
@@ -97,9 +98,8 @@ pub fn sizes(subject: &dyn Interface) {
 pub fn translations(subject: &dyn Interface) {
     println!("Accepting and translating a sheet (model: the independent one of compare)");
     println!("sheet                   nodes  bytes        ns  ns/node     model  ratio");
-    let model = Model::correct();
     let row = |name: &str, count: usize, sheet: &[u8]| {
-        let [ours, theirs] = translate_cost(subject, &model, sheet);
+        let [ours, theirs] = translate_cost(subject, correct(), sheet);
         println!(
             "{:<22} {:>6} {:>6} {:>9.0} {:>8.1} {:>9.0} {:>6.2}",
             name,
@@ -116,7 +116,7 @@ pub fn translations(subject: &dyn Interface) {
         let padded = pad::pad(&program, count, false);
         row("fib 12, padded", nodes(&padded), &padded.encode());
     }
-    row("greatest (all limits)", 1024, &greatest_sheet());
+    row("greatest (all limits)", MOST_NODES, &greatest_sheet());
 }
 
 fn greatest_sheet() -> Vec<u8> {
@@ -131,20 +131,20 @@ pub fn stack(subject: &dyn Interface) {
     let mut translations = chains::translations();
     for (name, file) in &translations {
         let end = agreed(subject, file);
-        assert_eq!(end.outcome, numbers::NESTING, "{name} nests");
+        assert_eq!(end.outcome, numbers::NO_NESTING, "{name} nests");
     }
     translations.push(("(file at all limits)", translated(subject, &greatest)));
     let mut sheets = chains::sheets();
     sheets.push(("(sheet at all limits)", greatest.clone()));
-    let (mut cells, mut out, mut record) = (lent_cells(), vec![0; 40_960], [0; RECORD]);
+    let (mut cells, mut out, mut record) = (lent_cells(), vec![0; TRANSLATION_BYTES], [0; RECORD]);
     for (name, file) in translations {
-        let readings = vec![0; two(&file, 4) as usize];
+        let readings = vec![0; two_bytes(&file, 4) as usize];
         stack_row("run", name, |allowances| {
             subject.run(&file, &readings, allowances, &mut cells, &mut record);
         });
     }
     for (name, sheet) in sheets {
-        let readings = vec![0; two(&sheet, 4) as usize];
+        let readings = vec![0; two_bytes(&sheet, 4) as usize];
         let (cells, record) = (&mut cells, &mut record);
         stack_row("translate and run", name, |allowances| {
             subject.translate_and_run(&sheet, &mut out, &readings, allowances, cells, record);
@@ -165,13 +165,13 @@ fn stack_line(call: &str, name: &str, work: &mut dyn FnMut()) {
 
 /// One row: the stack at nesting 1 and 1,024, and of a visit.
 fn stack_row(call: &str, name: &str, mut work: impl FnMut(Allowances)) {
-    let [least, half, whole] = [1, 512, 1024].map(|nesting| {
+    let [least, half, whole] = [1, MOST_NESTING / 2, MOST_NESTING].map(|nesting| {
         let allowances = Allowances {
             nesting,
             ..greatest(u32::MAX)
         };
         stack::depth(&mut || work(allowances))
     });
-    let visit = (whole - half) as f64 / 512.0;
+    let visit = (whole - half) as f64 / (MOST_NESTING / 2) as f64;
     println!("{call:<18} {name:<21} {least:>8} {whole:>13} {visit:>8.1}");
 }

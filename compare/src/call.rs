@@ -37,11 +37,11 @@ pub enum Call {
     },
 }
 
-/// The answer and the buffers after a call. Output buffers carry guard bytes
-/// at both ends.
+/// What a call returned, and the buffers after it. Output buffers carry guard
+/// bytes at both ends.
 #[derive(Clone, Debug, PartialEq, Eq)]
 pub struct After {
-    pub answer: u64,
+    pub code: u64,
     pub out: Vec<u8>,
     pub cells: Vec<u8>,
     pub record: Vec<u8>,
@@ -96,9 +96,9 @@ impl Call {
 
 fn translate(on: &dyn Interface, sheet: &[u8], out: &[u8]) -> After {
     let (copy, mut out) = (sheet.to_vec(), guarded(out));
-    let answer = on.translate(&copy, lent(&mut out));
+    let code = on.translate(&copy, lent(&mut out));
     After {
-        answer,
+        code,
         out,
         cells: vec![],
         record: vec![],
@@ -109,7 +109,7 @@ fn translate(on: &dyn Interface, sheet: &[u8], out: &[u8]) -> After {
 fn run(on: &dyn Interface, file: &[u8], input: &RunInput) -> After {
     let (copy, readings) = (file.to_vec(), input.readings.clone());
     let (mut cells, mut record) = (guarded(&input.cells), guarded(&input.record));
-    let answer = on.run(
+    let code = on.run(
         &copy,
         &readings,
         input.allowances,
@@ -117,7 +117,7 @@ fn run(on: &dyn Interface, file: &[u8], input: &RunInput) -> After {
         lent(&mut record),
     );
     After {
-        answer,
+        code,
         out: vec![],
         cells,
         record,
@@ -129,7 +129,7 @@ fn joined(on: &dyn Interface, sheet: &[u8], out: &[u8], input: &RunInput) -> Aft
     let (copy, readings) = (sheet.to_vec(), input.readings.clone());
     let (mut cells, mut record) = (guarded(&input.cells), guarded(&input.record));
     let mut out = guarded(out);
-    let answer = on.translate_and_run(
+    let code = on.translate_and_run(
         &copy,
         lent(&mut out),
         &readings,
@@ -138,7 +138,7 @@ fn joined(on: &dyn Interface, sheet: &[u8], out: &[u8], input: &RunInput) -> Aft
         lent(&mut record),
     );
     After {
-        answer,
+        code,
         out,
         cells,
         record,
@@ -148,9 +148,9 @@ fn joined(on: &dyn Interface, sheet: &[u8], out: &[u8], input: &RunInput) -> Aft
 
 fn list(on: &dyn Interface, cells: &[u8], cell: u32, out: &[u8]) -> After {
     let (copy, mut out) = (cells.to_vec(), guarded(out));
-    let answer = on.list_context(&copy, cell, lent(&mut out));
+    let code = on.list_context(&copy, cell, lent(&mut out));
     After {
-        answer,
+        code,
         out,
         cells: vec![],
         record: vec![],

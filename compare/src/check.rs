@@ -2,11 +2,9 @@
 //! answer of a translated sheet's run with call by name.
 
 use crate::call::{inner, After, Call, RunInput};
-use crate::interface::Interface;
+use crate::interface::{shown, Interface};
 use crate::model::answer::Answer;
-use crate::model::name;
-use crate::model::{sheet, Model};
-use crate::numbers::is_end;
+use crate::model::{name, Behaviour, Correct};
 
 /// What differs, in words, and the call to try again.
 #[derive(Debug)]
@@ -16,7 +14,11 @@ pub struct Difference {
 }
 
 /// Performs the call on both sides; what the reference left, if both agree.
-pub fn check(call: &Call, subject: &dyn Interface, reference: &Model) -> Result<After, Difference> {
+pub fn check(
+    call: &Call,
+    subject: &dyn Interface,
+    reference: &dyn Interface,
+) -> Result<After, Difference> {
     let ours = call.perform(reference);
     let theirs = call.perform(subject);
     let what = match differs(&theirs, &ours) {
@@ -34,9 +36,8 @@ pub fn check(call: &Call, subject: &dyn Interface, reference: &Model) -> Result<
 
 /// Describes the first difference between the two sides.
 pub fn differs(theirs: &After, ours: &After) -> Option<String> {
-    let packed = |answer: u64| format!("{} with {}", answer >> 32, answer as u32);
-    if theirs.answer != ours.answer {
-        let (theirs, ours) = (packed(theirs.answer), packed(ours.answer));
+    if theirs.code != ours.code {
+        let (theirs, ours) = (shown(theirs.code), shown(ours.code));
         return Some(format!("answer: interface {theirs}, model {ours}"));
     }
     if !theirs.input_kept {
@@ -81,11 +82,11 @@ fn against_meaning(call: &Call, after: &After) -> Option<String> {
         Call::Joined { sheet, input, .. } => (sheet, input),
         _ => return None,
     };
-    if after.answer != 0 {
+    if after.code != 0 {
         return None;
     }
     let answer = Answer::from_record(inner(&after.record))?;
-    if !is_end(answer.outcome) {
+    if !answer.is_own() {
         return None;
     }
     compare_meaning(sheet, input, &answer)
@@ -94,7 +95,7 @@ fn against_meaning(call: &Call, after: &After) -> Option<String> {
 /// Call by name never takes more steps, nor more depth, than the run, so the
 /// run's own figures are a budget within which it must answer.
 fn compare_meaning(file: &[u8], input: &RunInput, answer: &Answer) -> Option<String> {
-    let read = match sheet::read(&Model::correct(), file) {
+    let read = match Correct.read_sheet(file) {
         Ok(read) => read,
         Err(refusal) => return Some(format!("run of a sheet that is refused: {refusal:?}")),
     };

@@ -4,19 +4,20 @@ use crate::call::{inner, After, Call, RunInput};
 use crate::check::{check, Difference};
 use crate::generate::random::Random;
 use crate::generate::sizes;
-use crate::interface::{Allowances, Interface};
-use crate::model::answer::Answer;
-use crate::model::{joined, listing, Model};
-use crate::numbers::{is_refusal, is_stop, NESTING};
+use crate::interface::{count, Allowances, Interface};
+use crate::model::answer::{Answer, RECORD};
 use crate::tally::Tally;
+use zifnora::numbers::{is_refusal, is_stop, NO_NESTING};
+use zifnora::sizes::{CELL_BYTES, LABEL_BYTES, MOST_CELLS, MOST_NESTING, TRANSLATION_BYTES};
 
 pub struct Examiner<'a> {
     pub subject: &'a dyn Interface,
-    pub reference: &'a Model,
+    pub reference: &'a dyn Interface,
     pub tally: &'a mut Tally,
 }
 
-/// Readings due, by the head of a sheet or translation (small if damaged).
+/// Readings due, by the head of a sheet or translation; a damaged head asks
+/// for 40 at most.
 fn readings_due(file: &[u8]) -> usize {
     match file.len() {
         0..=5 => 0,
@@ -33,8 +34,8 @@ impl Examiner<'_> {
 
     /// A sheet, well-formed or damaged.
     pub fn sheet(&mut self, random: &mut Random, sheet: &[u8]) -> Result<(), Difference> {
-        let mut scratch = vec![0; 40_960];
-        let length = joined::translate_into(self.reference, sheet, &mut scratch);
+        let mut scratch = vec![0; TRANSLATION_BYTES];
+        let length = count(self.reference.translate(sheet, &mut scratch));
         let room = sizes::room(random, length.unwrap_or(100));
         let out = random.bytes(room);
         self.check(&Call::Translate {
@@ -52,7 +53,7 @@ impl Examiner<'_> {
         self.list(random, inner(&after.cells), &after)?;
 
         match length {
-            Ok(length) => {
+            Some(length) => {
                 // Just enough room, so that every accepted sheet is translated.
                 let out = random.bytes(length);
                 self.check(&Call::Translate {
@@ -61,8 +62,8 @@ impl Examiner<'_> {
                 })?;
                 self.translation(random, &scratch[..length], Some(sheet))
             }
-            Err(_) if random.chance(5) => self.translation(random, sheet, None),
-            Err(_) => Ok(()),
+            None if random.chance(5) => self.translation(random, sheet, None),
+            None => Ok(()),
         }
     }
 
@@ -96,7 +97,7 @@ impl Examiner<'_> {
             let after = self.check(&call(input.clone()))?;
             // Where nesting and steps run out at once.
             match Answer::from_record(inner(&after.record)) {
-                Some(answer) if answer.outcome == NESTING => {
+                Some(answer) if answer.outcome == NO_NESTING => {
                     self.check(&call(with_steps(input, answer.steps)))?;
                 }
                 _ => {}
@@ -114,18 +115,18 @@ impl Examiner<'_> {
         if answer.cells == 0 && !random.chance(5) {
             return Ok(());
         }
-        let lent = some_cells(random, cells, 4 * answer.cells as usize);
+        let lent = some_cells(random, cells, CELL_BYTES * answer.cells as usize);
         let cell = match random.below(8) {
             0 => 0,
             1 => answer.context as u32,
             2 => answer.cells as u32,
             3 => answer.cells as u32 + 1,
             4 if random.chance(10) => random.bits() as u32,
-            _ => random.below(lent.len() / 4 + 2) as u32,
+            _ => random.below(lent.len() / CELL_BYTES + 2) as u32,
         };
         let mut scratch = vec![0; 2 * lent.len()];
-        let count = listing::list(self.reference, &lent, cell, &mut scratch).unwrap_or(3);
-        let room = sizes::room(random, 2 * count as usize);
+        let labels = count(self.reference.list_context(&lent, cell, &mut scratch));
+        let room = sizes::room(random, LABEL_BYTES * labels.unwrap_or(3));
         let out = random.bytes(room);
         self.check(&Call::List {
             cells: lent,
@@ -141,8 +142,8 @@ impl Examiner<'_> {
     /// bytes can name.
     fn list_many(&mut self, random: &mut Random) -> Result<(), Difference> {
         let count = random.between(65_536, 65_600);
-        let mut cells = random.bytes(4 * count);
-        for (number, cell) in cells.chunks_exact_mut(4).enumerate() {
+        let mut cells = random.bytes(CELL_BYTES * count);
+        for (number, cell) in cells.chunks_exact_mut(CELL_BYTES).enumerate() {
             cell[2..].copy_from_slice(&(number.min(65_535) as u16).to_le_bytes());
         }
         let cell = random.pick(&[65_535, 65_536, count, count + 1]) as u32;
@@ -187,8 +188,8 @@ fn with_steps(input: RunInput, steps: u32) -> RunInput {
 /// Ample allowances and the right number of readings.
 fn ample_input(random: &mut Random, due: usize) -> RunInput {
     let (steps, cells) = match random.below(100) {
-        0 => (40_000, 8192),
-        1..=3 => (3000, 8192),
+        0 => (40_000, MOST_CELLS),
+        1..=3 => (3000, MOST_CELLS),
         _ => (1500, 300),
     };
     let readings = (0..due).map(|_| random.number()).collect();
@@ -196,11 +197,11 @@ fn ample_input(random: &mut Random, due: usize) -> RunInput {
         readings,
         allowances: Allowances {
             steps,
-            nesting: 1024,
+            nesting: MOST_NESTING,
             cells,
         },
-        cells: random.bytes(4 * cells as usize),
-        record: random.bytes(20),
+        cells: random.bytes(CELL_BYTES * cells as usize),
+        record: random.bytes(RECORD),
     }
 }
 
@@ -218,12 +219,12 @@ fn run_input(random: &mut Random, due: usize) -> RunInput {
 
 /// The same readings with other allowances and buffers.
 fn edge_input(random: &mut Random, ample: &RunInput, allowances: Allowances) -> RunInput {
-    let lent = 4 * (allowances.cells as usize).min(8200);
+    let lent = CELL_BYTES * (allowances.cells as usize).min(sizes::CELLS_LENT);
     RunInput {
         readings: ample.readings.clone(),
         allowances,
         cells: random.bytes(lent),
-        record: random.bytes(20),
+        record: random.bytes(RECORD),
     }
 }
 

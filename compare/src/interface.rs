@@ -1,23 +1,17 @@
-//! The calls that both sides offer. The archive's side is `ffi::Archive`,
+//! The calls that both sides offer. The archive's side is `archive::Archive`,
 //! the model's side is `model::Model`.
 
-/// The three allowances of a run.
-#[derive(Clone, Copy, Debug, PartialEq, Eq)]
-pub struct Allowances {
-    pub steps: u32,
-    pub nesting: u32,
-    pub cells: u32,
-}
+pub use zifnora::Allowances;
 
-/// The C interface, with slices in place of pointers and lengths.
-/// Every answer holds a number in its bits 32.. and, in its low 32 bits, a
-/// length, a count or a place.
+/// The C interface, with slices in place of pointers and lengths. Every call
+/// returns a code: a number of the table in its bits from 32 on, and in its
+/// low 32 bits a length, a count or a place.
 pub trait Interface {
     fn translate(&self, sheet: &[u8], out: &mut [u8]) -> u64;
 
     fn run(
         &self,
-        file: &[u8],
+        translation: &[u8],
         readings: &[i32],
         allowances: Allowances,
         cells: &mut [u8],
@@ -35,4 +29,19 @@ pub trait Interface {
     ) -> u64;
 
     fn list_context(&self, cells: &[u8], cell: u32, out: &mut [u8]) -> u64;
+}
+
+/// The table's number in a code, 0 where nothing is refused.
+pub fn refusal(code: u64) -> u16 {
+    (code >> 32) as u16
+}
+
+/// A code in words.
+pub fn shown(code: u64) -> String {
+    format!("{} with {}", refusal(code), code as u32)
+}
+
+/// The length or count in a code, if nothing is refused.
+pub fn count(code: u64) -> Option<usize> {
+    (refusal(code) == 0).then_some(code as u32 as usize)
 }

@@ -1,18 +1,18 @@
 //! Comparison of an implementation of document 01 ("Rule sheets and their
 //! label translation"), reached through its C interface, with an independent
-//! model written from the document alone.
+//! model written from the papers alone. Of the crate `zifnora` both sides
+//! share the numbers and kinds by name, the builder of sheets and two plain
+//! structs; the model reads, writes and decodes by itself.
 
-pub mod build_sheet;
+#[cfg(feature = "archive")]
+pub mod archive;
 pub mod call;
 pub mod check;
 pub mod examine;
-#[cfg(feature = "archive")]
-pub mod ffi;
+pub mod faulty;
 pub mod generate;
 pub mod interface;
-pub mod kinds;
 pub mod model;
-pub mod numbers;
 pub mod replay;
 pub mod selftest;
 pub mod tally;

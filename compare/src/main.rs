@@ -4,8 +4,8 @@
 //! compare case sheet|damaged NUMBER SEED   one case again
 
 use compare::generate::case::{damaged, well_formed};
-use compare::interface::Interface;
-use compare::model::Model;
+use compare::interface::{shown, Interface};
+use compare::model::correct;
 use compare::selftest::{examine, selftest};
 use compare::tally::Tally;
 use compare::{check, replay};
@@ -19,13 +19,12 @@ mod watchdog;
 
 #[cfg(feature = "archive")]
 fn subject() -> (&'static dyn Interface, &'static str) {
-    (&compare::ffi::Archive, "interface against model")
+    (&compare::archive::Archive, "interface against model")
 }
 
 #[cfg(not(feature = "archive"))]
 fn subject() -> (&'static dyn Interface, &'static str) {
-    static MODEL: Model = Model { fault: None };
-    (&MODEL, "MODEL AGAINST MODEL (no archive linked)")
+    (correct(), "MODEL AGAINST MODEL (no archive linked)")
 }
 
 const FOLDER: &str = "differences";
@@ -75,7 +74,7 @@ fn one(subject: &dyn Interface, kind: &str, number: u64, seed: u64, tally: &mut 
         "damaged" => damaged(seed, number),
         _ => usage(),
     };
-    let Err(difference) = examine(case, subject, &Model::correct(), tally) else {
+    let Err(difference) = examine(case, subject, correct(), tally) else {
         return true;
     };
     let origin = format!("case {kind} {number} {seed}");
@@ -135,15 +134,14 @@ fn replay_call(subject: &dyn Interface, folder: &Path) -> bool {
         }
     };
     let theirs = call.perform(subject);
-    let ours = call.perform(&Model::correct());
-    let show = |answer: u64| format!("{} with {}", answer >> 32, answer as u32);
+    let ours = call.perform(correct());
     println!(
         "{}: interface {}, model {}",
         call.name(),
-        show(theirs.answer),
-        show(ours.answer)
+        shown(theirs.code),
+        shown(ours.code)
     );
-    match check::check(&call, subject, &Model::correct()) {
+    match check::check(&call, subject, correct()) {
         Ok(_) => {
             println!("no difference");
             true

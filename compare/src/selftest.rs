@@ -3,10 +3,11 @@
 
 use crate::check::Difference;
 use crate::examine::Examiner;
+use crate::faulty::fault::{AGAINST_MEANING, ALL};
+use crate::faulty::Faulty;
 use crate::generate::case::{damaged, well_formed, Case};
 use crate::generate::random::Random;
 use crate::interface::Interface;
-use crate::model::fault::{AGAINST_MEANING, ALL};
 use crate::model::Model;
 use crate::tally::Tally;
 
@@ -14,7 +15,7 @@ use crate::tally::Tally;
 pub fn examine(
     case: (Case, Random),
     subject: &dyn Interface,
-    reference: &Model,
+    reference: &dyn Interface,
     tally: &mut Tally,
 ) -> Result<(), Difference> {
     let (case, mut random) = case;
@@ -33,7 +34,7 @@ pub fn examine(
 /// damaged files: its number from 1, and what differs.
 fn first_difference(
     subject: &dyn Interface,
-    reference: &Model,
+    reference: &dyn Interface,
     seed: u64,
     limit: u64,
 ) -> Option<(u64, Difference)> {
@@ -62,12 +63,12 @@ pub fn selftest(subject: &dyn Interface, seed: u64) -> bool {
         }
     };
     for &(fault, words, limit) in ALL {
-        let found = first_difference(subject, &Model::with(fault), seed, limit);
+        let found = first_difference(subject, &Model(Faulty(fault)), seed, limit);
         report(words, limit, found);
     }
     println!("With both sides wrong alike, by call by name:");
     for &fault in AGAINST_MEANING {
-        let wrong = Model::with(fault);
+        let wrong = Model(Faulty(fault));
         let (_, words, _) = ALL.iter().find(|known| known.0 == fault).expect("listed");
         report(
             words,

@@ -1,8 +1,8 @@
 //! Counts of what the compared calls answered, to show what was covered.
 
 use crate::call::{inner, After, Call};
+use crate::interface::refusal;
 use crate::model::answer::Answer;
-use crate::numbers::is_end;
 
 const KINDS: [&str; 4] = ["translate", "run", "translate_and_run", "list_context"];
 
@@ -32,13 +32,13 @@ impl Tally {
             Call::Joined { .. } => 2,
             Call::List { .. } => 3,
         };
-        let mut number = (after.answer >> 32) as usize;
+        let mut number = refusal(after.code) as usize;
         if number == 0 && (kind == 1 || kind == 2) {
             if let Some(answer) = Answer::from_record(inner(&after.record)) {
                 number = answer.outcome as usize;
                 self.steps += answer.steps as u64;
                 let of_sheet = !matches!(call, Call::Run { of: None, .. });
-                self.by_name += (of_sheet && is_end(answer.outcome)) as u64;
+                self.by_name += (of_sheet && answer.is_own()) as u64;
             }
         }
         self.counts[kind][number.min(127)] += 1;

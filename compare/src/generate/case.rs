@@ -3,7 +3,8 @@
 
 use super::random::Random;
 use super::{ceiling, damage, sheet, targeted, translation};
-use crate::model::{joined, Model};
+use crate::model::{Behaviour, Correct};
+use zifnora::sizes::{SHEET_BYTES, TRANSLATION_BYTES};
 
 pub enum Case {
     Sheet(Vec<u8>),
@@ -34,11 +35,11 @@ pub fn damaged(seed: u64, number: u64) -> (Case, Random) {
         3 => Case::Sheet(few_bytes(&mut random)),
         4 => {
             let file = sheet::sheet(&mut random);
-            Case::Sheet(resized(&mut random, file, 32_768))
+            Case::Sheet(resized(&mut random, file, SHEET_BYTES))
         }
         5 => {
             let file = translation::translation(&mut random);
-            Case::Translation(resized(&mut random, file, 40_960))
+            Case::Translation(resized(&mut random, file, TRANSLATION_BYTES))
         }
         6..=59 => {
             let file = sheet::sheet(&mut random);
@@ -88,8 +89,8 @@ fn few_bytes(random: &mut Random) -> Vec<u8> {
 }
 
 fn translated(sheet: &[u8]) -> Vec<u8> {
-    let mut out = vec![0; 40_960];
-    let length = joined::translate_into(&Model::correct(), sheet, &mut out);
+    let mut out = vec![0; TRANSLATION_BYTES];
+    let length = Correct.translate_into(sheet, &mut out);
     out.truncate(length.expect("generated sheets are accepted"));
     out
 }
@@ -105,7 +106,13 @@ fn either(random: &mut Random, file: &mut Vec<u8>) {
 
 /// A sheet file at or near 32,768 bytes.
 fn long_sheet(random: &mut Random) -> Vec<u8> {
-    let target = random.pick(&[32_764, 32_766, 32_768, 32_768, 32_770]);
+    let target = random.pick(&[
+        SHEET_BYTES - 4,
+        SHEET_BYTES - 2,
+        SHEET_BYTES,
+        SHEET_BYTES,
+        SHEET_BYTES + 2,
+    ]);
     let wild = random.chance(30);
     let mut file = ceiling::long(random, target, wild);
     grow_or_cut(random, &mut file);

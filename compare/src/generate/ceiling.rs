@@ -4,18 +4,19 @@ use super::expr::Grow;
 use super::plan::{plan, Limits, Plan};
 use super::random::Random;
 use super::sheet::encode;
-use crate::build_sheet::{build, num, op, put_record, Expr, Program};
-use crate::kinds::sheet as kinds;
+use zifnora::build_sheet::{build, number, operator, put_record, Expr, Program};
+use zifnora::kinds::sheet as kinds;
+use zifnora::sizes::{MOST_CONSTRUCTORS, MOST_FIELDS, MOST_FUNCTIONS, MOST_NODES, MOST_READINGS};
 
 /// A well-formed sheet with 32 readings, 64 constructors, 64 functions of 8
 /// parameters, a case of up to 64 clauses and exactly 1,024 nodes.
 pub fn greatest(random: &mut Random) -> Vec<u8> {
     let limits = Limits {
-        readings: (32, 32),
-        constructors: (64, 64),
-        functions: (64, 64),
-        parameters: (8, 8),
-        arity: (0, 8),
+        readings: (MOST_READINGS, MOST_READINGS),
+        constructors: (MOST_CONSTRUCTORS, MOST_CONSTRUCTORS),
+        functions: (MOST_FUNCTIONS, MOST_FUNCTIONS),
+        parameters: (MOST_FIELDS, MOST_FIELDS),
+        arity: (0, MOST_FIELDS),
     };
     let plan = plan(random, &limits);
     let arities: Vec<u16> = plan
@@ -23,24 +24,25 @@ pub fn greatest(random: &mut Random) -> Vec<u8> {
         .iter()
         .map(|constructor| constructor.fields.len() as u16)
         .collect();
-    let wide = random.below(63);
-    let mut left: usize = 1024;
+    let last = MOST_FUNCTIONS - 1;
+    let wide = random.below(last);
+    let mut left = MOST_NODES;
     let mut functions = Vec::new();
-    for number in 0..63 {
-        let body = body(random, &plan, number, wide, left);
+    for function in 0..last {
+        let body = body(random, &plan, function, wide, left);
         left -= body.size();
-        functions.push((plan.functions[number].parameters.len() as u16, body));
+        functions.push((plan.functions[function].parameters.len() as u16, body));
     }
     // The last function takes the nodes that are left.
     let single = arities
         .iter()
         .position(|&arity| arity == 1)
         .map(|number| number as u16);
-    functions.push((8, exact(random, left, single)));
+    functions.push((MOST_FIELDS as u16, exact(random, left, single)));
     encode(
         random,
         &Program {
-            readings: 32,
+            readings: MOST_READINGS as u16,
             arities,
             functions,
         },
@@ -49,17 +51,17 @@ pub fn greatest(random: &mut Random) -> Vec<u8> {
 
 /// A body that keeps nodes for the wide case and the functions still to
 /// come, of those left.
-fn body(random: &mut Random, plan: &Plan, number: usize, wide: usize, left: usize) -> Expr {
+fn body(random: &mut Random, plan: &Plan, function: usize, wide: usize, left: usize) -> Expr {
     let spend = random.between(1, 14) as i32;
-    let mut grow = Grow::new(random, plan, number, spend);
-    if number == wide {
+    let mut grow = Grow::new(random, plan, function, spend);
+    if function == wide {
         return wide_case(&mut grow);
     }
     let body = grow.body();
-    let coming = 64 - number;
+    let coming = MOST_FUNCTIONS - function;
     let spare = left.saturating_sub(80 + coming);
     if body.size() > 2 * spare / coming {
-        num(number as i32)
+        number(function as i32)
     } else {
         body
     }
@@ -69,29 +71,27 @@ fn body(random: &mut Random, plan: &Plan, number: usize, wide: usize, left: usiz
 fn wide_case(grow: &mut Grow) -> Expr {
     let scrutinee = build_any(grow);
     let mut clauses = Vec::new();
-    for number in 0..64 {
-        let position = grow
-            .random
-            .below(1 + grow.plan.constructors[number].fields.len());
-        let field = position < grow.plan.constructors[number].fields.len();
-        let node = match field {
+    for constructor in 0..MOST_CONSTRUCTORS {
+        let arity = grow.plan.constructors[constructor].fields.len();
+        let position = grow.random.below(1 + arity);
+        let node = match position < arity {
             true => Expr::Pattern(position as u16),
-            false => num(number as i32),
+            false => number(constructor as i32),
         };
-        clauses.push((number as u16, node));
+        clauses.push((constructor as u16, node));
     }
     if grow.random.chance(30) {
-        clauses.remove(grow.random.below(64));
+        clauses.remove(grow.random.below(MOST_CONSTRUCTORS));
     }
     Expr::Case(Box::new(scrutinee), clauses)
 }
 
 fn build_any(grow: &mut Grow) -> Expr {
-    let constructor = grow.random.below(64);
+    let constructor = grow.random.below(MOST_CONSTRUCTORS);
     let arity = grow.plan.constructors[constructor].fields.len();
     build(
         constructor as u16,
-        (0..arity).map(|_| num(grow.random.number())).collect(),
+        (0..arity).map(|_| number(grow.random.number())).collect(),
     )
 }
 
@@ -99,14 +99,14 @@ fn build_any(grow: &mut Grow) -> Expr {
 /// 1. Without one a size of 2 comes out as 1.
 fn exact(random: &mut Random, size: usize, single: Option<u16>) -> Expr {
     match (size, single) {
-        (2, Some(single)) => build(single, vec![num(random.number())]),
-        (0..=2, _) => num(random.number()),
+        (2, Some(single)) => build(single, vec![number(random.number())]),
+        (0..=2, _) => number(random.number()),
         _ => {
             let left = random.between(1, size - 2);
             let code = random.below(6) as u16;
             let low = exact(random, left, single);
             let high = exact(random, size - 1 - left, single);
-            op(code, low, high)
+            operator(code, low, high)
         }
     }
 }
@@ -115,18 +115,22 @@ fn exact(random: &mut Random, size: usize, single: Option<u16>) -> Expr {
 /// fine but whose nodes are mostly wide cases. No sheet so long keeps the
 /// child rules; `wild` lets references leave their ranges too.
 pub fn long(random: &mut Random, target: usize, wild: bool) -> Vec<u8> {
-    let constructors = random.between(60, 64);
-    let functions = random.between(1, 64);
+    let constructors = random.between(MOST_CONSTRUCTORS - 4, MOST_CONSTRUCTORS);
+    let functions = random.between(1, MOST_FUNCTIONS);
     let lengths = lengths(random, target - 12 - 6 * constructors - 8 * functions);
     if lengths.len() < functions {
         return long(random, target, wild);
     }
     let nodes = lengths.len();
     let mut file = Vec::new();
-    let head = [32, constructors as u16, functions as u16, nodes as u16];
+    let head = [MOST_READINGS, constructors, functions, nodes].map(|count| count as u16);
     put_record(&mut file, kinds::HEAD, &head);
     for _ in 0..constructors {
-        put_record(&mut file, kinds::CONSTRUCTOR, &[random.below(9) as u16]);
+        put_record(
+            &mut file,
+            kinds::CONSTRUCTOR,
+            &[random.below(MOST_FIELDS + 1) as u16],
+        );
     }
     for number in 0..functions {
         let count = if number == 0 {
@@ -176,7 +180,7 @@ fn long_node(
 ) {
     let mut node = || random.below(bound) as u16;
     match length {
-        6 => put_record(file, kinds::READING, &[node() % 32]),
+        6 => put_record(file, kinds::READING, &[node() % MOST_READINGS as u16]),
         8 => put_record(file, kinds::NUMBER, &[node(), node()]),
         10 => put_record(file, kinds::IF, &[node(), node(), node()]),
         _ => {

@@ -2,7 +2,11 @@
 //! to neighbouring or marginal values.
 
 use super::random::Random;
-use crate::kinds::{sheet, translation};
+use zifnora::build_sheet::put_record;
+use zifnora::kinds::{sheet, translation};
+
+/// Length of a head's record.
+pub const HEAD_BYTES: usize = 12;
 
 /// Start and length of each whole record, walking by lengths.
 pub fn records(file: &[u8]) -> Vec<(usize, usize)> {
@@ -83,6 +87,7 @@ fn damage_record(
         16 => swap_fields(random, file, chosen),
         17 => field(random, file, records[0]),
         18 => {
+            // The neighbouring kind, by its lowest bit.
             let kind = get(file, at + 2);
             set(file, at + 2, kind ^ 1);
         }
@@ -202,14 +207,12 @@ fn add_node(file: &mut Vec<u8>, records: &[(usize, usize)]) {
         .iter()
         .rev()
         .find(|record| get(file, record.0 + 2) == function);
-    let (Some(last), 12) = (last, records[0].1) else {
+    let (Some(last), HEAD_BYTES) = (last, records[0].1) else {
         return;
     };
     let count_at = last.0 + last.1 - 2;
     let (total, count) = (get(file, 10), get(file, count_at));
     set(file, 10, total.wrapping_add(1));
     set(file, count_at, count.wrapping_add(1));
-    file.extend_from_slice(&8u16.to_le_bytes());
-    file.extend_from_slice(&number.to_le_bytes());
-    file.extend_from_slice(&[1, 0, 0, 0]);
+    put_record(file, number, &[1, 0]);
 }

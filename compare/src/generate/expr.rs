@@ -2,8 +2,10 @@
 
 use super::plan::Plan;
 use super::random::Random;
-use crate::build_sheet::{build, call, case, cond, num, op, par, pat, Expr};
-use crate::build_sheet::{ADD, DIVIDE, LESS, SUBTRACT};
+use zifnora::build_sheet::{
+    build, call, case, if_else, number, operator, parameter, pattern, Expr,
+};
+use zifnora::build_sheet::{ADD, DIVIDE, LESS, SUBTRACT};
 
 /// Grows the expressions of one function.
 pub struct Grow<'a> {
@@ -100,9 +102,9 @@ impl<'a> Grow<'a> {
         self.left = all - all / 3;
         let go = self.busy(result);
         match self.random.below(3) {
-            0 => cond(op(LESS, par(0), num(1)), stop, go),
-            1 => cond(par(0), go, stop),
-            _ => cond(op(LESS, num(0), par(0)), go, stop),
+            0 => if_else(operator(LESS, parameter(0), number(1)), stop, go),
+            1 => if_else(parameter(0), go, stop),
+            _ => if_else(operator(LESS, number(0), parameter(0)), go, stop),
         }
     }
 
@@ -116,7 +118,7 @@ impl<'a> Grow<'a> {
                     let code = self.random.below(6) as u16;
                     let left = self.call(one, DEPTH);
                     let right = self.call(two, DEPTH);
-                    return op(code, left, right);
+                    return operator(code, left, right);
                 }
             }
             if let Some(function) = self.callee(of) {
@@ -151,19 +153,19 @@ impl<'a> Grow<'a> {
         let condition = self.expr(0, depth - 1);
         let yes = self.expr(of, depth - 1);
         let no = self.expr(of, depth - 1);
-        cond(condition, yes, no)
+        if_else(condition, yes, no)
     }
 
     /// An operator or a built constructor.
     fn make(&mut self, of: u16, depth: u32) -> Expr {
         if of == 0 {
             if self.random.chance(3) {
-                return op(DIVIDE, num(i32::MIN), num(-1));
+                return operator(DIVIDE, number(i32::MIN), number(-1));
             }
             let code = self.random.below(6) as u16;
             let left = self.expr(0, depth - 1);
             let right = self.expr(0, depth - 1);
-            return op(code, left, right);
+            return operator(code, left, right);
         }
         match self.constructor(of, usize::MAX) {
             Some(constructor) => self.build(constructor, depth - 1),
@@ -181,11 +183,11 @@ impl<'a> Grow<'a> {
         build(constructor as u16, arguments)
     }
 
-    fn constructor(&mut self, of: u16, most: usize) -> Option<usize> {
+    fn constructor(&mut self, of: u16, greatest_arity: usize) -> Option<usize> {
         let all: Vec<usize> = (0..self.plan.constructors.len())
             .filter(|&number| {
                 let constructor = &self.plan.constructors[number];
-                constructor.own == of && constructor.fields.len() <= most
+                constructor.own == of && constructor.fields.len() <= greatest_arity
             })
             .collect();
         (!all.is_empty()).then(|| self.random.pick(&all))
@@ -218,12 +220,12 @@ impl<'a> Grow<'a> {
     /// The fuel handed on: one less than the own, or a small number.
     fn fuel(&mut self) -> Expr {
         if self.plan.functions[self.function].parameters.is_empty() {
-            return num(self.random.below(8) as i32);
+            return number(self.random.below(8) as i32);
         }
         match self.random.below(12) {
-            0 => op(ADD, num(-1), par(0)),
-            1 => num(self.random.below(3) as i32),
-            _ => op(SUBTRACT, par(0), num(1)),
+            0 => operator(ADD, number(-1), parameter(0)),
+            1 => number(self.random.below(3) as i32),
+            _ => operator(SUBTRACT, parameter(0), number(1)),
         }
     }
 
@@ -238,18 +240,18 @@ impl<'a> Grow<'a> {
         if let Some(constructor) = self.clause {
             let fields = positions(&plan.constructors[constructor].fields);
             if !fields.is_empty() && self.random.chance(60) {
-                return pat(self.random.pick(&fields));
+                return pattern(self.random.pick(&fields));
             }
         }
         let parameters = positions(&plan.functions[self.function].parameters);
         if !parameters.is_empty() && self.random.chance(75) {
-            return par(self.random.pick(&parameters));
+            return parameter(self.random.pick(&parameters));
         }
         if of == 0 {
             if plan.readings > 0 && self.random.chance(30) {
                 return Expr::Reading(self.random.below(plan.readings as usize) as u16);
             }
-            return num(self.random.number());
+            return number(self.random.number());
         }
         if let Some(constructor) = self.constructor(of, 0) {
             return build(constructor as u16, vec![]);
@@ -259,7 +261,7 @@ impl<'a> Grow<'a> {
             Some(constructor) if depth > 0 && self.left > -200 => {
                 self.build(constructor, depth.min(2) - 1)
             }
-            _ => num(self.random.number()),
+            _ => number(self.random.number()),
         }
     }
 }

@@ -3,7 +3,8 @@
 use super::expr::Grow;
 use super::plan::{plan, Limits};
 use super::random::Random;
-use crate::build_sheet::{Expr, Program};
+use zifnora::build_sheet::{Expr, Program};
+use zifnora::sizes::MOST_NODES;
 
 /// A well-formed sheet of small or middle size.
 pub fn sheet(random: &mut Random) -> Vec<u8> {
@@ -21,7 +22,7 @@ pub fn sheet(random: &mut Random) -> Vec<u8> {
             .iter()
             .map(|function| function.1.size())
             .sum();
-        if total <= 1024 {
+        if total <= MOST_NODES {
             return encode(random, &program);
         }
     }

@@ -2,6 +2,11 @@
 
 use super::random::Random;
 use crate::interface::Allowances;
+use crate::model::answer::RECORD;
+use zifnora::sizes::{CELL_BYTES, MOST_CELLS, MOST_NESTING};
+
+/// Bytes are lent for no more cells than these, whatever is allowed.
+pub const CELLS_LENT: usize = 8200;
 
 /// Allowances: mostly in range, sometimes at a ceiling or one above.
 pub fn allowances(random: &mut Random) -> Allowances {
@@ -11,39 +16,45 @@ pub fn allowances(random: &mut Random) -> Allowances {
         6..=12 => random.below(300),
         _ => random.below(2500),
     };
-    let nesting = match random.below(40) {
-        0 => 0,
-        1 => 1025,
-        2 => random.bits() as u32 as usize,
-        3..=6 => 1024,
-        7 => 1023,
-        8..=15 => random.between(1, 8),
-        16..=24 => random.between(1, 40),
-        _ => random.between(40, 1024),
-    };
-    let cells = match random.below(60) {
-        0 => 8193,
-        1 => random.bits() as u32 as usize,
-        2 => 8192,
-        3 => 8191,
-        4..=8 => 0,
-        9..=20 => random.below(8),
-        21..=50 => random.below(100),
-        _ => random.below(1000),
-    };
     Allowances {
         steps: steps as u32,
-        nesting: nesting as u32,
-        cells: cells as u32,
+        nesting: nesting(random),
+        cells: cells(random),
+    }
+}
+
+fn nesting(random: &mut Random) -> u32 {
+    match random.below(40) {
+        0 => 0,
+        1 => MOST_NESTING + 1,
+        2 => random.bits() as u32,
+        3..=6 => MOST_NESTING,
+        7 => MOST_NESTING - 1,
+        8..=15 => random.between(1, 8) as u32,
+        16..=24 => random.between(1, 40) as u32,
+        _ => random.between(40, MOST_NESTING as usize) as u32,
+    }
+}
+
+fn cells(random: &mut Random) -> u32 {
+    match random.below(60) {
+        0 => MOST_CELLS + 1,
+        1 => random.bits() as u32,
+        2 => MOST_CELLS,
+        3 => MOST_CELLS - 1,
+        4..=8 => 0,
+        9..=20 => random.below(8) as u32,
+        21..=50 => random.below(100) as u32,
+        _ => random.below(1000) as u32,
     }
 }
 
 /// Bytes lent for cells: mostly just enough or a little more.
 pub fn lent(random: &mut Random, cells: u32) -> usize {
-    let due = 4 * (cells as usize).min(8200);
+    let due = CELL_BYTES * (cells as usize).min(CELLS_LENT);
     match random.below(20) {
         0 => due.saturating_sub(1),
-        1 => due.saturating_sub(4),
+        1 => due.saturating_sub(CELL_BYTES),
         2 => random.below(due + 1),
         3..=6 => due + random.between(1, 9),
         _ => due,
@@ -66,10 +77,10 @@ pub fn room(random: &mut Random, length: usize) -> usize {
 /// Size of the buffer for an answer record.
 pub fn record(random: &mut Random) -> usize {
     match random.below(24) {
-        0 => 19,
-        1 => random.below(20),
-        2..=4 => random.between(21, 40),
-        _ => 20,
+        0 => RECORD - 1,
+        1 => random.below(RECORD),
+        2..=4 => random.between(RECORD + 1, 2 * RECORD),
+        _ => RECORD,
     }
 }
 

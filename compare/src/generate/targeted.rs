@@ -1,9 +1,9 @@
 //! Targeted damage: the records stay fine, single references, clause orders
 //! and pattern positions are set to the nearest wrong (or other right) value.
 
-use super::damage::records;
+use super::damage::{records, HEAD_BYTES};
 use super::random::Random;
-use crate::kinds::{sheet, translation};
+use zifnora::kinds::{sheet, translation};
 
 #[derive(Clone, Copy, PartialEq)]
 enum Class {
@@ -22,10 +22,10 @@ fn class(kind: u16, field: usize) -> Class {
     match (kind, field) {
         (sheet::READING | translation::READING, _) => Class::Reading,
         (sheet::PARAMETER, _) => Class::Parameter,
-        (sheet::PATTERN, _) => Class::Pattern,
+        (sheet::PATTERN_VARIABLE, _) => Class::Pattern,
         (translation::FORMAL, _) => Class::Formal,
         (translation::SELECT, 0) => Class::Node,
-        (sheet::IF | translation::IF | translation::ACTUALS, _) => Class::Node,
+        (sheet::IF | translation::IF | translation::FORMAL_LIST, _) => Class::Node,
         (sheet::OPERATOR | translation::OPERATOR, 1 | 2) => Class::Node,
         (sheet::CALL, 0) | (translation::CALL, 1) => Class::Function,
         (sheet::BUILD, 0) => Class::Constructor,
@@ -46,7 +46,7 @@ struct Parts<'a> {
 /// Breaks one to three rules of a well-formed sheet or translation.
 pub fn break_rules(random: &mut Random, file: &mut Vec<u8>) {
     let records = records(file);
-    if records.is_empty() || records[0].1 != 12 {
+    if records.is_empty() || records[0].1 != HEAD_BYTES {
         return;
     }
     let mut head = [0; 4];
@@ -75,6 +75,11 @@ impl Parts<'_> {
     fn kind(&self, record: usize) -> u16 {
         let at = self.records[record].0;
         u16::from_le_bytes([self.file[at + 2], self.file[at + 3]])
+    }
+
+    fn set_kind(&mut self, record: usize, kind: u16) {
+        let at = self.records[record].0;
+        self.file[at + 2..at + 4].copy_from_slice(&kind.to_le_bytes());
     }
 
     fn fields(&self, record: usize) -> usize {
@@ -158,8 +163,7 @@ impl Parts<'_> {
     /// Turns a reading or parameter into a pattern variable.
     fn pattern_somewhere(&mut self, random: &mut Random) {
         if let Some(record) = self.some(random, &[sheet::READING, sheet::PARAMETER]) {
-            let at = self.records[record].0;
-            self.file[at + 2] = sheet::PATTERN as u8;
+            self.set_kind(record, sheet::PATTERN_VARIABLE);
             self.set(record, 0, random.below(3) as u16);
         }
     }
@@ -167,7 +171,11 @@ impl Parts<'_> {
     fn pattern_position(&mut self, random: &mut Random) {
         if let Some(record) = self.some(
             random,
-            &[sheet::PATTERN, sheet::PATTERN, sheet::CONSTRUCTOR],
+            &[
+                sheet::PATTERN_VARIABLE,
+                sheet::PATTERN_VARIABLE,
+                sheet::CONSTRUCTOR,
+            ],
         ) {
             let old = self.get(record, 0) as usize;
             let value = random.pick(&[old + 1, old + 2, old.saturating_sub(1), 0, 7, 8]);
@@ -215,8 +223,11 @@ impl Parts<'_> {
         let Some(record) = self.some(random, &[sheet::IF, translation::IF]) else {
             return;
         };
-        let at = self.records[record].0;
-        self.file[at + 2] += 3;
+        let case = match self.kind(record) {
+            sheet::IF => sheet::CASE,
+            _ => translation::CASE,
+        };
+        self.set_kind(record, case);
         let constructor = random.below(self.head[1].max(1)) as u16;
         self.set(record, 1, constructor);
     }

@@ -3,7 +3,10 @@
 use super::case::{well_formed, Case};
 use super::random::Random;
 use super::{ceiling, translation};
-use crate::model::{joined, sheet, translation as read_translation, Model};
+use crate::model::translation as read_translation;
+use crate::model::{Behaviour, Correct};
+use zifnora::numbers::BAD_TREE;
+use zifnora::sizes::{SHEET_BYTES, TRANSLATION_BYTES};
 
 #[test]
 fn well_formed_sheets_are_accepted() {
@@ -11,10 +14,10 @@ fn well_formed_sheets_are_accepted() {
         let (Case::Sheet(file), _) = well_formed(3, number) else {
             panic!("a sheet")
         };
-        let mut out = vec![0; 40_960];
-        let length = joined::translate_into(&Model::correct(), &file, &mut out);
+        let mut out = vec![0; TRANSLATION_BYTES];
+        let length = Correct.translate_into(&file, &mut out);
         let length = length.expect("accepted and short enough");
-        assert!(read_translation::read(&Model::correct(), &out[..length]).is_ok());
+        assert!(read_translation::read(&Correct, &out[..length]).is_ok());
     }
 }
 
@@ -22,7 +25,7 @@ fn well_formed_sheets_are_accepted() {
 fn greatest_sheets_are_at_the_ceilings() {
     for seed in 0..50 {
         let file = ceiling::greatest(&mut Random::new(seed));
-        let read = sheet::read(&Model::correct(), &file).expect("accepted");
+        let read = Correct.read_sheet(&file).expect("accepted");
         assert_eq!(
             (read.readings, read.arities.len(), read.counts.len()),
             (32, 64, 64)
@@ -35,13 +38,13 @@ fn greatest_sheets_are_at_the_ceilings() {
 #[test]
 fn long_files_have_their_length() {
     for seed in 0..50 {
-        let file = ceiling::long(&mut Random::new(seed), 32_768, false);
-        assert_eq!(file.len(), 32_768);
-        let refusal = sheet::read(&Model::correct(), &file).unwrap_err();
-        assert_eq!(refusal.number, 6);
+        let file = ceiling::long(&mut Random::new(seed), SHEET_BYTES, false);
+        assert_eq!(file.len(), SHEET_BYTES);
+        let refusal = Correct.read_sheet(&file).unwrap_err();
+        assert_eq!(refusal.number, BAD_TREE);
         let file = translation::longest(&mut Random::new(seed));
-        assert_eq!(file.len(), 40_960);
-        assert!(read_translation::read(&Model::correct(), &file).is_ok());
+        assert_eq!(file.len(), TRANSLATION_BYTES);
+        assert!(read_translation::read(&Correct, &file).is_ok());
     }
 }
 
@@ -49,6 +52,6 @@ fn long_files_have_their_length() {
 fn random_translations_are_accepted() {
     for seed in 0..2000 {
         let file = translation::translation(&mut Random::new(seed));
-        assert!(file.len() > 40_960 || read_translation::read(&Model::correct(), &file).is_ok());
+        assert!(file.len() > TRANSLATION_BYTES || read_translation::read(&Correct, &file).is_ok());
     }
 }

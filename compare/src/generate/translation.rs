@@ -1,10 +1,9 @@
 //! Random translations, most of them such as no translator writes.
 
 use super::random::Random;
-use crate::build_sheet::put_record;
-use crate::kinds::translation as kinds;
-
-const GREATEST: usize = 40_960;
+use zifnora::build_sheet::put_record;
+use zifnora::kinds::translation as kinds;
+use zifnora::sizes::TRANSLATION_BYTES;
 
 /// A translation whose records and references are all in range.
 pub fn translation(random: &mut Random) -> Vec<u8> {
@@ -44,7 +43,7 @@ pub fn longest(random: &mut Random) -> Vec<u8> {
         .map(|number| node(random, number, nodes, formals, functions, 32))
         .collect();
     let used: usize = records.iter().map(|record| 4 + 2 * record.1.len()).sum();
-    let mut left = (GREATEST - 12 - 6 * functions - used - 4 * formals) / 2;
+    let mut left = (TRANSLATION_BYTES - 12 - 6 * functions - used - 4 * formals) / 2;
     let mut actuals = Vec::new();
     for _ in 0..formals {
         let count = left.min(1024);
@@ -82,7 +81,7 @@ fn encode(
         put_record(&mut file, kinds::FUNCTION, &[count as u16]);
     }
     for list in actuals {
-        put_record(&mut file, kinds::ACTUALS, list);
+        put_record(&mut file, kinds::FORMAL_LIST, list);
     }
     for (kind, fields) in records {
         put_record(&mut file, *kind, fields);

@@ -1,7 +1,8 @@
 //! Answers and their record of kind 64.
 
 use super::Refusal;
-use crate::kinds::ANSWER;
+use zifnora::kinds::ANSWER;
+use zifnora::numbers::{is_refusal, is_stop};
 
 /// The answer of a run, in the fields of its record.
 #[derive(Clone, Copy, Debug, PartialEq, Eq, Default)]
@@ -25,6 +26,12 @@ impl Answer {
             value: refusal.place as i32,
             ..Answer::default()
         }
+    }
+
+    /// A number, a constructor or a run fault, which has to be the sheet's
+    /// own answer.
+    pub fn is_own(&self) -> bool {
+        !is_refusal(self.outcome) && !is_stop(self.outcome)
     }
 
     /// The record of kind 64.

@@ -1,7 +1,9 @@
-//! The independent implementation of document 01.
+//! The independent implementation of document 01. Each of its steps stands in
+//! one of these files as document 01 has it; `Behaviour` names the steps that
+//! a deliberately faulty model (`crate::faulty`) does otherwise.
 
 pub mod answer;
-pub mod fault;
+pub mod behaviour;
 pub mod joined;
 pub mod listing;
 pub mod name;
@@ -17,37 +19,15 @@ pub mod translation;
 #[cfg(test)]
 mod tests;
 
-use fault::Fault;
+use crate::interface::Interface;
+pub use behaviour::{Behaviour, Correct};
+pub use zifnora::Refusal;
 
-/// The model; with a fault switched on it is wrong on purpose (self-test).
-#[derive(Clone, Copy, Debug)]
-pub struct Model {
-    pub fault: Option<Fault>,
-}
+/// A model with a behaviour, behind the calls that are compared.
+pub struct Model<B>(pub B);
 
-impl Model {
-    pub fn correct() -> Model {
-        Model { fault: None }
-    }
-
-    pub fn with(fault: Fault) -> Model {
-        Model { fault: Some(fault) }
-    }
-
-    pub fn has(&self, fault: Fault) -> bool {
-        self.fault == Some(fault)
-    }
-}
-
-/// A number of the table with its place.
-#[derive(Clone, Copy, Debug, PartialEq, Eq)]
-pub struct Refusal {
-    pub number: u16,
-    pub place: u32,
-}
-
-impl Refusal {
-    pub fn new(number: u16, place: u32) -> Refusal {
-        Refusal { number, place }
-    }
+/// The model as the papers have it, behind the same calls. It is compiled in
+/// this crate, which the times that `bench` takes of it go by.
+pub fn correct() -> &'static dyn Interface {
+    &Model(Correct)
 }

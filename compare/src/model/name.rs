@@ -4,8 +4,7 @@
 
 use super::operator;
 use super::sheet::{Node, Sheet};
-use super::Model;
-use crate::numbers::{CONSTRUCTOR, CONSTRUCTOR_WANTED, NO_CLAUSE, NUMBER, NUMBER_WANTED};
+use zifnora::numbers::{CONSTRUCTOR, CONSTRUCTOR_WANTED, NO_CLAUSE, NUMBER, NUMBER_WANTED};
 
 /// The sheet's own answer.
 #[derive(Clone, Copy, Debug, PartialEq, Eq)]
@@ -66,7 +65,6 @@ enum End {
 }
 
 struct Meaning<'a> {
-    model: Model,
     sheet: &'a Sheet,
     readings: &'a [i32],
     settings: Vec<Setting>,
@@ -82,7 +80,6 @@ pub fn answer(sheet: &Sheet, readings: &[i32], steps: u64, depth: u32) -> Own {
         held: None,
     };
     let mut meaning = Meaning {
-        model: Model::correct(),
         sheet,
         readings,
         settings: vec![nothing],
@@ -131,7 +128,7 @@ impl<'a> Meaning<'a> {
             Node::Operator { code, left, right } => {
                 let left = self.number(*left, setting, depth + 1)?;
                 let right = self.number(*right, setting, depth + 1)?;
-                let result = operator::apply(&self.model, *code, left, right);
+                let result = operator::apply(*code, left, right);
                 result.map(Value::Number).map_err(End::Fault)
             }
         }

@@ -1,17 +1,17 @@
 //! The model behind the same calls as the C interface.
 
 use super::answer::RECORD;
-use super::{joined, listing, run, Model, Refusal};
+use super::{run, Behaviour, Model, Refusal};
 use crate::interface::{Allowances, Interface};
-use crate::numbers::SHORT_TRAY;
+use zifnora::numbers::SHORT_OUTPUT;
 
 fn packed(refusal: Refusal) -> u64 {
     (refusal.number as u64) << 32 | refusal.place as u64
 }
 
-impl Interface for Model {
+impl<B: Behaviour> Interface for Model<B> {
     fn translate(&self, sheet: &[u8], out: &mut [u8]) -> u64 {
-        match joined::translate_into(self, sheet, out) {
+        match self.0.translate_into(sheet, out) {
             Ok(length) => length as u64,
             Err(refusal) => packed(refusal),
         }
@@ -19,16 +19,16 @@ impl Interface for Model {
 
     fn run(
         &self,
-        file: &[u8],
+        translation: &[u8],
         readings: &[i32],
         allowances: Allowances,
         cells: &mut [u8],
         record: &mut [u8],
     ) -> u64 {
         if record.len() < RECORD {
-            return packed(Refusal::new(SHORT_TRAY, 0));
+            return packed(Refusal::new(SHORT_OUTPUT, 0));
         }
-        let answer = run::run(self, file, readings, allowances, cells);
+        let answer = run::run(&self.0, translation, readings, allowances, cells);
         record[..RECORD].copy_from_slice(&answer.record());
         0
     }
@@ -43,15 +43,17 @@ impl Interface for Model {
         record: &mut [u8],
     ) -> u64 {
         if record.len() < RECORD {
-            return packed(Refusal::new(SHORT_TRAY, 0));
+            return packed(Refusal::new(SHORT_OUTPUT, 0));
         }
-        let answer = joined::translate_and_run(self, sheet, out, readings, allowances, cells);
+        let answer = self
+            .0
+            .translate_and_run(sheet, out, readings, allowances, cells);
         record[..RECORD].copy_from_slice(&answer.record());
         0
     }
 
     fn list_context(&self, cells: &[u8], cell: u32, out: &mut [u8]) -> u64 {
-        match listing::list(self, cells, cell, out) {
+        match self.0.list(cells, cell, out) {
             Ok(count) => count as u64,
             Err(refusal) => packed(refusal),
         }

@@ -1,10 +1,9 @@
 //! Records: splitting a file into records, with the checks that need one
 //! record alone (1, 3).
 
-use super::fault::Fault;
-use super::{Model, Refusal};
-use crate::kinds::{operators::EQUAL, sheet, translation};
-use crate::numbers::{BAD_RECORD, CUT};
+use super::Refusal;
+use zifnora::kinds::{operators::EQUAL, sheet, translation};
+use zifnora::numbers::{BAD_RECORD, TRUNCATED};
 
 /// Lengths that a kind may have: least, step, greatest (step 0: fixed).
 fn lengths(kind: u16) -> Option<(usize, usize, usize)> {
@@ -12,10 +11,10 @@ fn lengths(kind: u16) -> Option<(usize, usize, usize)> {
         sheet::HEAD | translation::HEAD => (12, 0, 12),
         sheet::CONSTRUCTOR | translation::FUNCTION => (6, 0, 6),
         sheet::FUNCTION => (8, 0, 8),
-        translation::ACTUALS => (4, 2, 2052),
+        translation::FORMAL_LIST => (4, 2, 2052),
         sheet::NUMBER | translation::NUMBER => (8, 0, 8),
         sheet::READING | translation::READING => (6, 0, 6),
-        sheet::PARAMETER | sheet::PATTERN | translation::FORMAL => (6, 0, 6),
+        sheet::PARAMETER | sheet::PATTERN_VARIABLE | translation::FORMAL => (6, 0, 6),
         sheet::OPERATOR | translation::OPERATOR => (10, 0, 10),
         sheet::IF | translation::IF => (10, 0, 10),
         sheet::CALL | sheet::BUILD | translation::TUPLE => (6, 2, 22),
@@ -71,43 +70,44 @@ impl Record<'_> {
 
 /// Takes the records of a file one after another.
 pub struct Records<'a> {
-    model: &'a Model,
     file: &'a [u8],
     at: usize,
     number: u32,
 }
 
-fn two_bytes(bytes: &[u8], at: usize) -> u16 {
+/// The number in two bytes.
+pub fn two_bytes(bytes: &[u8], at: usize) -> u16 {
     u16::from_le_bytes([bytes[at], bytes[at + 1]])
 }
 
 impl<'a> Records<'a> {
-    pub fn new(model: &'a Model, file: &'a [u8]) -> Records<'a> {
+    pub fn new(file: &'a [u8]) -> Records<'a> {
         Records {
-            model,
             file,
             at: 0,
             number: 0,
         }
     }
 
+    /// The next record's number, and what is left of the file.
+    pub fn left(&self) -> (u32, &'a [u8]) {
+        (self.number, &self.file[self.at..])
+    }
+
     /// The next record, which has to be of one of the kinds due.
     pub fn next(&mut self, due: &[u16]) -> Result<Record<'a>, Refusal> {
         let refuse = |number| Err(Refusal::new(number, self.number));
-        let left = &self.file[self.at..];
+        let (_, left) = self.left();
         if left.len() < 4 {
-            return refuse(CUT);
+            return refuse(TRUNCATED);
         }
         let length = two_bytes(left, 0) as usize;
         let kind = two_bytes(left, 2);
-        if self.model.has(Fault::CutBeforeKind) && left.len() < length {
-            return refuse(CUT);
-        }
         if !due.contains(&kind) || !length_fits(kind, length) {
             return refuse(BAD_RECORD);
         }
         if left.len() < length {
-            return refuse(CUT);
+            return refuse(TRUNCATED);
         }
         let record = Record {
             number: self.number,
@@ -128,8 +128,7 @@ impl<'a> Records<'a> {
         if self.at == self.file.len() {
             return Ok(());
         }
-        let wrong = self.model.has(Fault::LeftOverPlace) as u32;
-        Err(Refusal::new(BAD_RECORD, self.number - wrong))
+        Err(Refusal::new(BAD_RECORD, self.number))
     }
 }
 

@@ -2,38 +2,28 @@
 //! record, then 6 by node (child, case and clause order rules), then 6 by
 //! node (pattern rules).
 
-use super::fault::Fault;
-use super::sheet::{children, Node, Sheet};
-use super::{Model, Refusal};
-use crate::numbers::{DANGLING, MISFIT, MISGROWN};
-
-fn place(model: &Model, sheet: &Sheet, node: usize) -> u32 {
-    sheet.record_of(node) + model.has(Fault::PlaceOffByOne) as u32
-}
+use super::sheet::{Node, Sheet};
+use super::{Behaviour, Refusal};
+use zifnora::numbers::{BAD_ARGUMENTS, BAD_TREE, OUT_OF_RANGE};
 
 /// 5 and 7. Head and constructor records hold no reference.
-pub fn check_references(model: &Model, sheet: &Sheet) -> Result<(), Refusal> {
+pub fn check_references(sheet: &Sheet) -> Result<(), Refusal> {
     if sheet.parameters[0] != 0 {
-        return Err(Refusal::new(MISFIT, 1 + sheet.arities.len() as u32));
+        return Err(Refusal::new(BAD_ARGUMENTS, 1 + sheet.arities.len() as u32));
     }
     for (number, node) in sheet.nodes.iter().enumerate() {
-        let at = place(model, sheet, number);
-        let (dangling, misfit) = (dangles(sheet, number, node), misfits(sheet, node));
-        if model.has(Fault::MisfitFirst) && misfit {
-            return Err(Refusal::new(MISFIT, at));
+        if out_of_range(sheet, number, node) {
+            return Err(Refusal::new(OUT_OF_RANGE, sheet.record_of(number)));
         }
-        if dangling {
-            return Err(Refusal::new(DANGLING, at));
-        }
-        if misfit {
-            return Err(Refusal::new(MISFIT, at));
+        if bad_arguments(sheet, node) {
+            return Err(Refusal::new(BAD_ARGUMENTS, sheet.record_of(number)));
         }
     }
     Ok(())
 }
 
 /// A reference or a parameter position is out of range.
-fn dangles(sheet: &Sheet, number: usize, node: &Node) -> bool {
+fn out_of_range(sheet: &Sheet, number: usize, node: &Node) -> bool {
     let constructors = sheet.arities.len();
     let own = match node {
         Node::Reading(reading) => *reading >= sheet.readings,
@@ -45,11 +35,11 @@ fn dangles(sheet: &Sheet, number: usize, node: &Node) -> bool {
             .any(|clause| clause.0 as usize >= constructors),
         _ => false,
     };
-    own || children(node).any(|child| child as usize >= sheet.nodes.len())
+    own || node.any_child(|child| child as usize >= sheet.nodes.len())
 }
 
 /// The number of arguments is not that of the function or constructor.
-fn misfits(sheet: &Sheet, node: &Node) -> bool {
+pub fn bad_arguments(sheet: &Sheet, node: &Node) -> bool {
     let (due, arguments) = match node {
         Node::Call {
             function,
@@ -65,108 +55,104 @@ fn misfits(sheet: &Sheet, node: &Node) -> bool {
 }
 
 /// 6: child, case and clause order rules, by node.
-pub fn check_growth(model: &Model, sheet: &Sheet) -> Result<(), Refusal> {
-    let uses = count_uses(model, sheet);
+pub fn check_tree<B: Behaviour>(behaviour: &B, sheet: &Sheet) -> Result<(), Refusal> {
+    let uses = behaviour.count_uses(sheet);
     for (number, node) in sheet.nodes.iter().enumerate() {
         let owner = sheet.owners[number];
         let body = sheet.bodies[owner as usize] as usize == number;
-        let bad_child = children(node).any(|child| {
+        let bad_child = node.any_child(|child| {
             let child = child as usize;
             child >= number || sheet.owners[child] != owner
         });
         let bad_use = !body && uses[number] != 1;
-        let bad_case = matches!(node, Node::Case { .. }) && !body;
-        let late = model.has(Fault::ClauseOrderByPattern);
-        let bad_order = !late && !rising(model, node);
-        if bad_child || bad_use || bad_case || bad_order {
-            return Err(Refusal::new(MISGROWN, place(model, sheet, number)));
-        }
-    }
-    if model.has(Fault::ClauseOrderByPattern) {
-        for (number, node) in sheet.nodes.iter().enumerate() {
-            if !rising(model, node) {
-                return Err(Refusal::new(MISGROWN, place(model, sheet, number)));
-            }
+        let bad_case = match node {
+            Node::Case { clauses, .. } => !body || !behaviour.clauses_rise(clauses),
+            _ => false,
+        };
+        if bad_child || bad_use || bad_case {
+            return Err(Refusal::new(BAD_TREE, sheet.record_of(number)));
         }
     }
     Ok(())
 }
 
 /// How often each node is named as a child, in the whole sheet.
-fn count_uses(model: &Model, sheet: &Sheet) -> Vec<u32> {
+pub fn count_uses(sheet: &Sheet) -> Vec<u32> {
     let mut uses = vec![0; sheet.nodes.len()];
-    for (number, node) in sheet.nodes.iter().enumerate() {
-        children(node).for_each(|child| {
-            let child = child as usize;
-            let foreign = sheet.owners[child] != sheet.owners[number];
-            if !(foreign && model.has(Fault::OwnFunctionCount)) {
-                uses[child] += 1;
-            }
-        });
+    for node in &sheet.nodes {
+        node.each_child(|child| uses[child as usize] += 1);
     }
     uses
 }
 
 /// Clause constructors of a case rise strictly.
-fn rising(model: &Model, node: &Node) -> bool {
-    let Node::Case { clauses, .. } = node else {
-        return true;
-    };
-    clauses.windows(2).all(|pair| {
-        pair[0].0 < pair[1].0 || model.has(Fault::ClauseOrderLoose) && pair[0].0 == pair[1].0
-    })
+pub fn clauses_rise(clauses: &[(u16, u16)]) -> bool {
+    clauses.windows(2).all(|pair| pair[0].0 < pair[1].0)
 }
 
 /// 6: pattern rules, by node.
-pub fn check_patterns(model: &Model, sheet: &Sheet) -> Result<(), Refusal> {
+pub fn check_patterns<B: Behaviour>(behaviour: &B, sheet: &Sheet) -> Result<(), Refusal> {
     let parents = parents(sheet);
     for (number, node) in sheet.nodes.iter().enumerate() {
         let Node::Pattern(position) = node else {
             continue;
         };
-        let fits = match clause_around(model, sheet, &parents, number) {
-            None => false,
-            Some(constructor) => {
-                let loose = model.has(Fault::PatternArityLoose) as u16;
-                *position < sheet.arities[constructor as usize] + loose
-            }
-        };
-        if !fits {
-            return Err(Refusal::new(MISGROWN, place(model, sheet, number)));
+        let constructor = behaviour.clause_around(sheet, &parents, number);
+        let arity = constructor.map(|constructor| sheet.arities[constructor as usize]);
+        if !arity.is_some_and(|arity| behaviour.position_fits(*position, arity)) {
+            return Err(Refusal::new(BAD_TREE, sheet.record_of(number)));
         }
     }
     Ok(())
+}
+
+/// A pattern variable is below its constructor's arity.
+pub fn position_fits(position: u16, arity: u16) -> bool {
+    position < arity
 }
 
 /// The parent of each node: the last node that has it as a child.
 fn parents(sheet: &Sheet) -> Vec<Option<usize>> {
     let mut parents = vec![None; sheet.nodes.len()];
     for (number, node) in sheet.nodes.iter().enumerate() {
-        children(node).for_each(|child| parents[child as usize] = Some(number));
+        node.each_child(|child| parents[child as usize] = Some(number));
     }
     parents
 }
 
-/// The constructor of the clause that a node stands in.
-fn clause_around(
-    model: &Model,
-    sheet: &Sheet,
+/// The constructor of the clause that a node stands in; none in a scrutinee.
+pub fn clause_around(sheet: &Sheet, parents: &[Option<usize>], node: usize) -> Option<u16> {
+    let around = case_around(sheet, parents, node)?;
+    if around.scrutinee == around.child {
+        return None;
+    }
+    let mut clauses = around.clauses.iter();
+    let clause = clauses.find(|clause| clause.1 == around.child);
+    clause.map(|clause| clause.0)
+}
+
+/// The case above a node, and the child of it that the node is or stands in.
+pub struct CaseAround<'a> {
+    pub scrutinee: u16,
+    pub clauses: &'a [(u16, u16)],
+    pub child: u16,
+}
+
+pub fn case_around<'a>(
+    sheet: &'a Sheet,
     parents: &[Option<usize>],
-    number: usize,
-) -> Option<u16> {
-    let mut node = number;
-    while let Some(parent) = parents[node] {
+    node: usize,
+) -> Option<CaseAround<'a>> {
+    let mut child = node;
+    while let Some(parent) = parents[child] {
         if let Node::Case { scrutinee, clauses } = &sheet.nodes[parent] {
-            if *scrutinee as usize == node {
-                let accept = model.has(Fault::PatternInScrutinee);
-                return if accept { Some(clauses[0].0) } else { None };
-            }
-            return clauses
-                .iter()
-                .find(|clause| clause.1 as usize == node)
-                .map(|clause| clause.0);
+            return Some(CaseAround {
+                scrutinee: *scrutinee,
+                clauses,
+                child: child as u16,
+            });
         }
-        node = parent;
+        child = parent;
     }
     None
 }

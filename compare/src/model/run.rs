@@ -1,16 +1,19 @@
 //! The run of a translation.
 
 use super::answer::Answer;
-use super::fault::Fault;
-use super::operator;
 use super::translation::{self, Node, Translation};
-use super::{Model, Refusal};
+use super::{Behaviour, Refusal};
 use crate::interface::Allowances;
-use crate::numbers;
+use zifnora::numbers;
+
+/// The ceilings of the allowances, and the bytes lent for each cell.
+const NESTING: u32 = 1024;
+const CELLS: u32 = 8192;
+const CELL_BYTES: usize = 4;
 
 /// What a visit ends with when it is no stop and no fault.
 #[derive(Clone, Copy, Debug)]
-enum Value {
+pub enum Value {
     Number(i32),
     Tuple { node: u16, context: u16 },
 }
@@ -22,8 +25,8 @@ struct Cell {
     previous: u16,
 }
 
-struct Run<'a> {
-    model: &'a Model,
+pub struct Run<'a, B> {
+    behaviour: &'a B,
     translation: &'a Translation,
     readings: &'a [i32],
     allowances: Allowances,
@@ -32,89 +35,107 @@ struct Run<'a> {
 }
 
 /// Runs a translation file; the cells made are left in the lent bytes.
-pub fn run(
-    model: &Model,
+pub fn run<B: Behaviour>(
+    behaviour: &B,
     file: &[u8],
     readings: &[i32],
     allowances: Allowances,
     lent: &mut [u8],
 ) -> Answer {
-    let translation = match accept(model, file, readings, allowances, lent.len()) {
-        Ok(translation) => translation,
-        Err(refusal) => return Answer::refused(refusal),
-    };
-    let cells = Vec::new();
-    let mut run = Run {
-        model,
-        translation: &translation,
-        readings,
-        allowances,
-        steps: 0,
-        cells,
-    };
-    let end = run.visit(translation.bodies[0], 0, 1);
-    for (cell, bytes) in run.cells.iter().zip(lent.chunks_exact_mut(4)) {
-        bytes[..2].copy_from_slice(&cell.label.to_le_bytes());
-        bytes[2..].copy_from_slice(&cell.previous.to_le_bytes());
+    match behaviour.accept(file, readings, allowances, lent.len()) {
+        Ok(translation) => behaviour.run_accepted(&translation, readings, allowances, lent),
+        Err(refusal) => Answer::refused(refusal),
     }
-    if model.has(Fault::CellsCleared) {
-        lent[4 * run.cells.len()..].fill(0);
-    }
-    answer(&run, end)
-}
-
-/// The answer of a run that ended so.
-fn answer(run: &Run, end: Result<Value, u16>) -> Answer {
-    let mut answer = Answer {
-        steps: run.steps,
-        cells: run.cells.len() as u16,
-        ..Answer::default()
-    };
-    match end {
-        Ok(Value::Number(number)) => answer.value = number,
-        Ok(Value::Tuple { node, context }) => {
-            answer.outcome = numbers::CONSTRUCTOR;
-            answer.value = run.tuple(node).0 as i32;
-            answer.node = node;
-            answer.context = context;
-        }
-        Err(number) => answer.outcome = number,
-    }
-    answer
 }
 
 /// The file's own checks, then the count of readings, then the allowances.
-fn accept(
-    model: &Model,
+pub fn accept<B: Behaviour>(
+    behaviour: &B,
     file: &[u8],
     readings: &[i32],
     allowances: Allowances,
     lent: usize,
 ) -> Result<Translation, Refusal> {
-    let translation = translation::read(model, file)?;
-    let wrong_count = readings.len() != translation.readings as usize;
-    let bad = bad_allowance(allowances, lent);
-    if bad && model.has(Fault::AllowanceFirst) {
-        return Err(Refusal::new(numbers::BAD_ALLOWANCE, 0));
+    let translation = translation::read(behaviour, file)?;
+    if readings.len() != translation.readings as usize {
+        return Err(Refusal::new(numbers::BAD_READINGS, 0));
     }
-    if wrong_count {
-        return Err(Refusal::new(numbers::SENSOR_COUNT, 0));
-    }
-    if bad {
+    if bad_allowance(allowances, lent) {
         return Err(Refusal::new(numbers::BAD_ALLOWANCE, 0));
     }
     Ok(translation)
 }
 
-fn bad_allowance(allowances: Allowances, lent: usize) -> bool {
-    !(1..=1024).contains(&allowances.nesting)
-        || allowances.cells > 8192
-        || lent < 4 * allowances.cells as usize
+pub fn bad_allowance(allowances: Allowances, lent: usize) -> bool {
+    !(1..=NESTING).contains(&allowances.nesting)
+        || allowances.cells > CELLS
+        || lent < CELL_BYTES * allowances.cells as usize
 }
 
-impl Run<'_> {
+/// Runs a translation on readings that are as many as it asks for, with
+/// allowances that are within their ceilings.
+pub fn run_accepted<B: Behaviour>(
+    behaviour: &B,
+    translation: &Translation,
+    readings: &[i32],
+    allowances: Allowances,
+    lent: &mut [u8],
+) -> Answer {
+    let mut run = Run {
+        behaviour,
+        translation,
+        readings,
+        allowances,
+        steps: 0,
+        cells: Vec::new(),
+    };
+    let end = run.visit(translation.bodies[0], 0, 1);
+    for (cell, bytes) in run.cells.iter().zip(lent.chunks_exact_mut(CELL_BYTES)) {
+        bytes[..2].copy_from_slice(&cell.label.to_le_bytes());
+        bytes[2..].copy_from_slice(&cell.previous.to_le_bytes());
+    }
+    run.answer(end)
+}
+
+/// The stop of a visit for which no step is left or which is too deep: 11
+/// before 12.
+pub fn stop(no_step: bool) -> u16 {
+    if no_step {
+        numbers::NO_STEP
+    } else {
+        numbers::NO_NESTING
+    }
+}
+
+/// The node of the first clause with a tag.
+pub fn chosen_clause(clauses: &[(u16, u16)], tag: u16) -> Option<u16> {
+    let clause = clauses.iter().find(|clause| clause.0 == tag);
+    clause.map(|clause| clause.1)
+}
+
+impl<B: Behaviour> Run<'_, B> {
+    /// The answer of a run that ended so.
+    fn answer(&self, end: Result<Value, u16>) -> Answer {
+        let mut answer = Answer {
+            steps: self.steps,
+            cells: self.cells.len() as u16,
+            ..Answer::default()
+        };
+        match end {
+            Ok(Value::Number(number)) => answer.value = number,
+            Ok(Value::Tuple { node, context }) => {
+                answer.outcome = numbers::CONSTRUCTOR;
+                answer.value = self.tuple(node).0 as i32;
+                answer.node = node;
+                answer.context = context;
+            }
+            Err(number) => answer.outcome = number,
+        }
+        answer
+    }
+
     /// Visits a node; `open` counts the open visits, this one included.
-    fn visit(&mut self, node: u16, context: u16, open: u32) -> Result<Value, u16> {
+    pub fn visit(&mut self, node: u16, context: u16, open: u32) -> Result<Value, u16> {
         self.count(open)?;
         let translation = self.translation;
         match &translation.nodes[node as usize] {
@@ -123,7 +144,9 @@ impl Run<'_> {
             Node::Formal(formal) => self.formal(*formal, context, open),
             Node::Select { node, index } => self.select(*node, *index, context, open),
             Node::Operator { code, left, right } => {
-                self.operator(*code, *left, *right, context, open)
+                let behaviour = self.behaviour;
+                let (left, right) = behaviour.operands(self, (*left, *right), context, open)?;
+                behaviour.operate(*code, left, right).map(Value::Number)
             }
             Node::If { condition, yes, no } => {
                 let condition = self.number(*condition, context, open)?;
@@ -131,14 +154,7 @@ impl Run<'_> {
                 self.visit(taken, context, open + 1)
             }
             Node::Call { label, function } => self.call(*label, *function, context, open),
-            Node::Tuple { fields, .. } => {
-                if self.model.has(Fault::FieldsBuilt) {
-                    for &field in fields {
-                        self.visit(field, context, open + 1)?;
-                    }
-                }
-                Ok(Value::Tuple { node, context })
-            }
+            Node::Tuple { .. } => self.behaviour.visit_tuple(self, node, context, open),
             Node::Case { scrutinee, clauses } => self.case(*scrutinee, clauses, context, open),
         }
     }
@@ -146,28 +162,18 @@ impl Run<'_> {
     /// The two stops of a visit, and its step.
     fn count(&mut self, open: u32) -> Result<(), u16> {
         let no_step = self.steps == self.allowances.steps;
-        let loose = self.model.has(Fault::NestingLimit) as u32;
-        let too_deep = open > self.allowances.nesting + loose;
-        if !no_step && !too_deep {
-            self.steps += 1;
-            return Ok(());
+        let too_deep = open > self.allowances.nesting;
+        if no_step || too_deep {
+            return Err(self.behaviour.stop(no_step, too_deep));
         }
-        if self.model.has(Fault::StoppedCounted) {
-            self.steps = self.steps.wrapping_add(1);
-        }
-        let nesting_first = self.model.has(Fault::NestingFirst);
-        Err(if !no_step || too_deep && nesting_first {
-            numbers::NESTING
-        } else {
-            numbers::STEPS
-        })
+        self.steps += 1;
+        Ok(())
     }
 
     /// One cell more, and the body under it.
     fn call(&mut self, label: u16, function: u16, context: u16, open: u32) -> Result<Value, u16> {
-        let loose = self.model.has(Fault::CellLimit) as usize;
-        if self.cells.len() == self.allowances.cells as usize + loose {
-            return Err(numbers::CELLS);
+        if self.cells.len() == self.allowances.cells as usize {
+            return Err(numbers::NO_CELL);
         }
         self.cells.push(Cell {
             label,
@@ -194,51 +200,37 @@ impl Run<'_> {
         }
     }
 
-    fn tuple(&self, node: u16) -> (u16, &[u16]) {
+    /// Tag and fields of a tuple.
+    pub fn tuple(&self, node: u16) -> (u16, &[u16]) {
         match &self.translation.nodes[node as usize] {
             Node::Tuple { tag, fields } => (*tag, fields),
             _ => unreachable!("a tuple value names a tuple node"),
         }
     }
 
-    fn operator(
+    /// The left operand has to be a number before the right is visited.
+    pub fn operands(
         &mut self,
-        code: u16,
-        left: u16,
-        right: u16,
+        (left, right): (u16, u16),
         context: u16,
         open: u32,
-    ) -> Result<Value, u16> {
-        if self.model.has(Fault::RightBeforeCheck) {
-            let left = self.visit(left, context, open + 1)?;
-            let right = self.visit(right, context, open + 1)?;
-            let (Value::Number(left), Value::Number(right)) = (left, right) else {
-                return Err(numbers::NUMBER_WANTED);
-            };
-            return operator::apply(self.model, code, left, right).map(Value::Number);
-        }
+    ) -> Result<(i32, i32), u16> {
         let left = self.number(left, context, open)?;
         let right = self.number(right, context, open)?;
-        operator::apply(self.model, code, left, right).map(Value::Number)
+        Ok((left, right))
     }
 
     /// The actual that the head label names, under the tail.
     fn formal(&mut self, formal: u16, context: u16, open: u32) -> Result<Value, u16> {
-        let missing = if self.model.has(Fault::NoActualNoField) {
-            numbers::NO_FIELD
-        } else {
-            numbers::NO_ACTUAL
-        };
         if context == 0 {
-            return Err(missing);
+            return Err(numbers::NO_ACTUAL);
         }
         let cell = self.cells[context as usize - 1];
         let actuals = &self.translation.formals[formal as usize];
         let Some(&actual) = actuals.get(cell.label as usize) else {
-            return Err(missing);
+            return Err(numbers::NO_ACTUAL);
         };
-        let whole = self.model.has(Fault::WholeContext);
-        let under = if whole { context } else { cell.previous };
+        let under = self.behaviour.actual_context(context, cell.previous);
         self.visit(actual, under, open + 1)
     }
 
@@ -250,17 +242,13 @@ impl Run<'_> {
             return Ok(Value::Number(tag as i32));
         }
         let Some(&field) = fields.get(index as usize - 1) else {
-            return Err(if self.model.has(Fault::NoActualNoField) {
-                numbers::NO_ACTUAL
-            } else {
-                numbers::NO_FIELD
-            });
+            return Err(numbers::NO_FIELD);
         };
-        let selecting = self.model.has(Fault::SelectingContext);
-        let under = if selecting { context } else { own };
+        let under = self.behaviour.field_context(context, own);
         self.visit(field, under, open + 1)
     }
 
+    /// The scrutinee, then the first clause with its tag.
     fn case(
         &mut self,
         scrutinee: u16,
@@ -270,14 +258,7 @@ impl Run<'_> {
     ) -> Result<Value, u16> {
         let (tuple, _) = self.constructor(scrutinee, context, open)?;
         let (tag, _) = self.tuple(tuple);
-        let mut found = clauses.iter().find(|clause| clause.0 == tag);
-        if self.model.has(Fault::FirstClause) {
-            found = clauses.first();
-        }
-        if self.model.has(Fault::LastClause) {
-            found = clauses.iter().rfind(|clause| clause.0 == tag);
-        }
-        let Some(&(_, clause)) = found else {
+        let Some(clause) = self.behaviour.chosen_clause(clauses, tag) else {
             return Err(numbers::NO_CLAUSE);
         };
         self.visit(clause, context, open + 1)

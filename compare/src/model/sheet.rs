@@ -1,11 +1,10 @@
 //! Sheets: their form in memory and the reader. The reader's verdict is the
 //! sheet or a refusal before number 8.
 
-use super::fault::Fault;
 use super::records::{bodies, owners, Record, Records};
-use super::{rules, Model, Refusal};
-use crate::kinds::sheet as kinds;
-use crate::numbers::{BAD_COUNT, OVERSIZE};
+use super::{Behaviour, Refusal};
+use zifnora::kinds::sheet as kinds;
+use zifnora::numbers::{BAD_COUNT, OVERSIZE};
 
 #[derive(Clone, Debug, PartialEq, Eq)]
 pub enum Node {
@@ -63,11 +62,11 @@ impl Sheet {
 const GREATEST: usize = 32_768;
 
 /// Reads a sheet: accepted, or the first refusal in document 01's order.
-pub fn read(model: &Model, file: &[u8]) -> Result<Sheet, Refusal> {
-    let sheet = read_records(model, file)?;
-    rules::check_references(model, &sheet)?;
-    rules::check_growth(model, &sheet)?;
-    rules::check_patterns(model, &sheet)?;
+pub fn read<B: Behaviour>(behaviour: &B, file: &[u8]) -> Result<Sheet, Refusal> {
+    let sheet = read_records(behaviour, file)?;
+    behaviour.check_references(&sheet)?;
+    behaviour.check_tree(&sheet)?;
+    behaviour.check_patterns(&sheet)?;
     Ok(sheet)
 }
 
@@ -78,14 +77,13 @@ const FUNCTIONS: u16 = 64;
 const NODES: u16 = 1024;
 const ARITY: u16 = 8;
 
-/// Record by record: oversize, then cut, bad records and bad counts.
-fn read_records(model: &Model, file: &[u8]) -> Result<Sheet, Refusal> {
-    let greatest = GREATEST - model.has(Fault::SizeLimit) as usize;
-    if file.len() > greatest {
+/// Record by record: 2, then 1, 3 and 4.
+fn read_records<B: Behaviour>(behaviour: &B, file: &[u8]) -> Result<Sheet, Refusal> {
+    if file.len() > GREATEST {
         return Err(Refusal::new(OVERSIZE, 0));
     }
-    let mut records = Records::new(model, file);
-    let head = records.next(&[kinds::HEAD])?;
+    let mut records = Records::new(file);
+    let head = behaviour.next_record(&mut records, &[kinds::HEAD])?;
     let [readings, constructors, functions, nodes_due] = [0, 1, 2, 3].map(|at| head.field(at));
     let ranges = readings <= READINGS && constructors <= CONSTRUCTORS;
     if !ranges || !(1..=FUNCTIONS).contains(&functions) || !(1..=NODES).contains(&nodes_due) {
@@ -93,18 +91,18 @@ fn read_records(model: &Model, file: &[u8]) -> Result<Sheet, Refusal> {
     }
     let mut arities = Vec::new();
     for _ in 0..constructors {
-        let record = records.next(&[kinds::CONSTRUCTOR])?;
+        let record = behaviour.next_record(&mut records, &[kinds::CONSTRUCTOR])?;
         if record.field(0) > ARITY {
             return Err(Refusal::new(BAD_COUNT, record.number));
         }
         arities.push(record.field(0));
     }
-    let (parameters, counts) = read_functions(model, &mut records, functions, nodes_due)?;
+    let (parameters, counts) = read_functions(behaviour, &mut records, functions, nodes_due)?;
     let mut nodes = Vec::with_capacity(nodes_due as usize);
     for _ in 0..nodes_due {
-        nodes.push(node(records.next(&kinds::NODES)?));
+        nodes.push(node(behaviour.next_record(&mut records, &kinds::NODES)?));
     }
-    records.finish()?;
+    behaviour.finish(&records)?;
     Ok(Sheet {
         readings,
         arities,
@@ -117,29 +115,34 @@ fn read_records(model: &Model, file: &[u8]) -> Result<Sheet, Refusal> {
 }
 
 /// Parameter and node counts of the functions.
-fn read_functions(
-    model: &Model,
+fn read_functions<B: Behaviour>(
+    behaviour: &B,
     records: &mut Records,
     functions: u16,
     nodes_due: u16,
 ) -> Result<(Vec<u16>, Vec<u16>), Refusal> {
     let (mut parameters, mut counts) = (Vec::new(), Vec::new());
-    let mut sum: u64 = 0;
     for function in 1..=functions {
-        let record = records.next(&[kinds::FUNCTION])?;
+        let record = behaviour.next_record(records, &[kinds::FUNCTION])?;
         if record.field(0) > ARITY || record.field(1) < 1 {
             return Err(Refusal::new(BAD_COUNT, record.number));
         }
         parameters.push(record.field(0));
         counts.push(record.field(1));
-        sum += record.field(1) as u64;
-        if function == functions && sum != nodes_due as u64 {
-            let wrong = model.has(Fault::SumPlace);
-            let place = if wrong { 0 } else { record.number };
-            return Err(Refusal::new(BAD_COUNT, place));
+        if function == functions {
+            behaviour.check_sum(&counts, nodes_due, record.number)?;
         }
     }
     Ok((parameters, counts))
+}
+
+/// The node counts sum to the nodes due; else 4 at the last function.
+pub fn check_sum(counts: &[u16], nodes_due: u16, place: u32) -> Result<(), Refusal> {
+    let sum: u64 = counts.iter().map(|&count| count as u64).sum();
+    if sum != nodes_due as u64 {
+        return Err(Refusal::new(BAD_COUNT, place));
+    }
+    Ok(())
 }
 
 fn node(record: Record) -> Node {
@@ -148,7 +151,7 @@ fn node(record: Record) -> Node {
         kinds::NUMBER => Node::Number(record.signed()),
         kinds::READING => Node::Reading(field(0)),
         kinds::PARAMETER => Node::Parameter(field(0)),
-        kinds::PATTERN => Node::Pattern(field(0)),
+        kinds::PATTERN_VARIABLE => Node::Pattern(field(0)),
         kinds::OPERATOR => Node::Operator {
             code: field(0),
             left: field(1),
@@ -175,18 +178,27 @@ fn node(record: Record) -> Node {
     }
 }
 
-/// The children of a node, in the order of its fields.
-pub fn children(node: &Node) -> impl Iterator<Item = u16> + '_ {
-    let (own, list, clauses): ([Option<u16>; 3], &[u16], &[(u16, u16)]) = match node {
-        Node::Number(_) | Node::Reading(_) | Node::Parameter(_) | Node::Pattern(_) => {
-            ([None; 3], &[], &[])
+impl Node {
+    /// Whether a test holds of a child, tried in the order of the fields.
+    pub fn any_child(&self, mut test: impl FnMut(u16) -> bool) -> bool {
+        match self {
+            Node::Number(_) | Node::Reading(_) | Node::Parameter(_) | Node::Pattern(_) => false,
+            Node::Operator { left, right, .. } => test(*left) || test(*right),
+            Node::If { condition, yes, no } => test(*condition) || test(*yes) || test(*no),
+            Node::Call { arguments, .. } | Node::Build { arguments, .. } => {
+                arguments.iter().any(|&argument| test(argument))
+            }
+            Node::Case { scrutinee, clauses } => {
+                test(*scrutinee) || clauses.iter().any(|clause| test(clause.1))
+            }
         }
-        Node::Operator { left, right, .. } => ([Some(*left), Some(*right), None], &[], &[]),
-        Node::If { condition, yes, no } => ([Some(*condition), Some(*yes), Some(*no)], &[], &[]),
-        Node::Call { arguments, .. } | Node::Build { arguments, .. } => ([None; 3], arguments, &[]),
-        Node::Case { scrutinee, clauses } => ([Some(*scrutinee), None, None], &[], clauses),
-    };
-    let listed = list.iter().copied();
-    let chosen = clauses.iter().map(|clause| clause.1);
-    own.into_iter().flatten().chain(listed).chain(chosen)
+    }
+
+    /// Sees every child, in the order of the fields.
+    pub fn each_child(&self, mut see: impl FnMut(u16)) {
+        self.any_child(|child| {
+            see(child);
+            false
+        });
+    }
 }

@@ -1,21 +1,15 @@
 //! The translator (002, figure 7, with the labels of section 2.1).
 
-use super::fault::Fault;
 use super::sheet::{self, Sheet};
 use super::translation::{Node, Translation};
-use super::Model;
 
 /// The translation of an accepted sheet.
-pub fn translate(model: &Model, sheet: &Sheet) -> Translation {
+pub fn translate(sheet: &Sheet) -> Translation {
     let mut calls = Calls::new(sheet);
     let mut nodes = Vec::with_capacity(sheet.nodes.len());
     for (number, node) in sheet.nodes.iter().enumerate() {
         let owner = sheet.owners[number] as usize;
-        let first_of_function = number == 0 || sheet.owners[number - 1] as usize != owner;
-        if model.has(Fault::LabelsRestart) && first_of_function {
-            calls.next_label.fill(0);
-        }
-        nodes.push(translate_node(model, sheet, owner, node, &mut calls));
+        nodes.push(translate_node(sheet, owner, node, &mut calls));
     }
     Translation {
         readings: sheet.readings,
@@ -62,20 +56,14 @@ impl Calls {
     }
 }
 
-fn translate_node(
-    model: &Model,
-    sheet: &Sheet,
-    owner: usize,
-    node: &sheet::Node,
-    calls: &mut Calls,
-) -> Node {
+fn translate_node(sheet: &Sheet, owner: usize, node: &sheet::Node, calls: &mut Calls) -> Node {
     match node {
         &sheet::Node::Number(number) => Node::Number(number),
         &sheet::Node::Reading(reading) => Node::Reading(reading),
         &sheet::Node::Parameter(position) => Node::Formal(calls.first_formal[owner] + position),
         &sheet::Node::Pattern(position) => Node::Select {
             node: scrutinee(sheet, owner),
-            index: position + !model.has(Fault::IndexNotRaised) as u16,
+            index: position + 1,
         },
         &sheet::Node::Operator { code, left, right } => Node::Operator { code, left, right },
         &sheet::Node::If { condition, yes, no } => Node::If { condition, yes, no },

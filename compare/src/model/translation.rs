@@ -1,9 +1,9 @@
 //! Translations: their form in memory, the reader and the writer.
 
 use super::records::{bodies, Record, Records};
-use super::{Model, Refusal};
-use crate::kinds::translation as kinds;
-use crate::numbers::{BAD_COUNT, DANGLING, OVERSIZE};
+use super::{Behaviour, Refusal};
+use zifnora::kinds::translation as kinds;
+use zifnora::numbers::{BAD_COUNT, OUT_OF_RANGE, OVERSIZE};
 
 #[derive(Clone, Debug, PartialEq, Eq)]
 pub enum Node {
@@ -59,27 +59,28 @@ const FUNCTIONS: u16 = 64;
 const NODES: u16 = 1024;
 
 /// Reads a translation: accepted, or the first refusal.
-pub fn read(model: &Model, file: &[u8]) -> Result<Translation, Refusal> {
+pub fn read<B: Behaviour>(behaviour: &B, file: &[u8]) -> Result<Translation, Refusal> {
     if file.len() > GREATEST {
         return Err(Refusal::new(OVERSIZE, 0));
     }
-    let mut records = Records::new(model, file);
-    let head = records.next(&[kinds::HEAD])?;
+    let mut records = Records::new(file);
+    let head = behaviour.next_record(&mut records, &[kinds::HEAD])?;
     let [readings, formals_due, functions, nodes_due] = [0, 1, 2, 3].map(|at| head.field(at));
     let ranges = readings <= READINGS && formals_due <= FORMALS;
     if !ranges || !(1..=FUNCTIONS).contains(&functions) || !(1..=NODES).contains(&nodes_due) {
         return Err(Refusal::new(BAD_COUNT, 0));
     }
-    let counts = read_functions(&mut records, functions, nodes_due)?;
+    let counts = read_functions(behaviour, &mut records, functions, nodes_due)?;
     let mut formals = Vec::new();
     for _ in 0..formals_due {
-        formals.push(records.next(&[kinds::ACTUALS])?.fields(0));
+        let record = behaviour.next_record(&mut records, &[kinds::FORMAL_LIST])?;
+        formals.push(record.fields(0));
     }
     let mut nodes = Vec::with_capacity(nodes_due as usize);
     for _ in 0..nodes_due {
-        nodes.push(node(records.next(&kinds::NODES)?));
+        nodes.push(node(behaviour.next_record(&mut records, &kinds::NODES)?));
     }
-    records.finish()?;
+    behaviour.finish(&records)?;
     let translation = Translation {
         readings,
         formals,
@@ -92,7 +93,8 @@ pub fn read(model: &Model, file: &[u8]) -> Result<Translation, Refusal> {
 }
 
 /// Node counts of the functions.
-fn read_functions(
+fn read_functions<B: Behaviour>(
+    behaviour: &B,
     records: &mut Records,
     functions: u16,
     nodes_due: u16,
@@ -100,7 +102,7 @@ fn read_functions(
     let mut counts = Vec::new();
     let mut sum: u64 = 0;
     for function in 1..=functions {
-        let record = records.next(&[kinds::FUNCTION])?;
+        let record = behaviour.next_record(records, &[kinds::FUNCTION])?;
         let count = record.field(0);
         counts.push(count);
         sum += count as u64;
@@ -154,12 +156,12 @@ fn check_references(translation: &Translation) -> Result<(), Refusal> {
     let first_formal = 1 + translation.counts.len();
     for (number, actuals) in translation.formals.iter().enumerate() {
         if actuals.iter().any(far) {
-            return Err(Refusal::new(DANGLING, (first_formal + number) as u32));
+            return Err(Refusal::new(OUT_OF_RANGE, (first_formal + number) as u32));
         }
     }
     let first_node = first_formal + translation.formals.len();
     for (number, node) in translation.nodes.iter().enumerate() {
-        let dangling = match node {
+        let out_of_range = match node {
             Node::Number(_) => false,
             Node::Reading(reading) => *reading >= translation.readings,
             Node::Formal(formal) => *formal as usize >= translation.formals.len(),
@@ -172,8 +174,8 @@ fn check_references(translation: &Translation) -> Result<(), Refusal> {
                 far(scrutinee) || clauses.iter().any(|clause| far(&clause.1))
             }
         };
-        if dangling {
-            return Err(Refusal::new(DANGLING, (first_node + number) as u32));
+        if out_of_range {
+            return Err(Refusal::new(OUT_OF_RANGE, (first_node + number) as u32));
         }
     }
     Ok(())
@@ -209,7 +211,7 @@ pub fn write(translation: &Translation) -> Vec<u8> {
         put_record(&mut file, kinds::FUNCTION, &[count]);
     }
     for actuals in &translation.formals {
-        put_record(&mut file, kinds::ACTUALS, actuals);
+        put_record(&mut file, kinds::FORMAL_LIST, actuals);
     }
     for node in &translation.nodes {
         write_node(&mut file, node);

@@ -6,7 +6,7 @@ use native.Mathlib.Omega.{arith}
 use native.Mathlib.Nat.{not-suc-le-zero, zero-add, suc-add}
 use native.Mathlib.Decide.{ℕ-discrete, decLt}
 use Rattle.definitions.specs.Lists.{countOf, lastOf}
-use Rattle.accepted.proofs.Sums.{Below, one-more}
+use Rattle.accepted.proofs.Sums.{SomeBelow, one-more}
 
 count-step : (t : Bool) (n : ℕ) → n ≤ cond t (suc n) n
 count-step true n = omega arith
@@ -51,22 +51,22 @@ count-once i j n test c h k e f =
 
 -- each number below the count counts the passes before one that passes
 counted : (n l : ℕ) (test : ℕ → Bool) (t : Bool) → test n ≡ t
-    → (l < countOf n test → Below n (λ i. (test i ≡ true) × (countOf i test ≡ l)))
+    → (l < countOf n test → SomeBelow n (λ i. (test i ≡ true) × (countOf i test ≡ l)))
     → l < cond t (suc (countOf n test)) (countOf n test)
     → Dec (l ≡ countOf n test)
-    → Below (suc n) (λ i. (test i ≡ true) × (countOf i test ≡ l))
+    → SomeBelow (suc n) (λ i. (test i ≡ true) × (countOf i test ≡ l))
 counted n l test true e f h (yes p) = record { at = n; below = omega arith; holds = (e, sym p) }
 counted n l test true e f h (no p) = one-more n (λ i. (test i ≡ true) × (countOf i test ≡ l)) (f (omega arith))
 counted n l test false e f h d = one-more n (λ i. (test i ≡ true) × (countOf i test ≡ l)) (f h)
 
-pub count-reached : (n l : ℕ) (test : ℕ → Bool) → l < countOf n test → Below n (λ i. (test i ≡ true) × (countOf i test ≡ l))
+pub count-reached : (n l : ℕ) (test : ℕ → Bool) → l < countOf n test → SomeBelow n (λ i. (test i ≡ true) × (countOf i test ≡ l))
 unfolding countOf
 count-reached zero l test h = absurd (not-suc-le-zero h)
 count-reached (suc n) l test h =
     counted n l test (test n) refl (count-reached n l test) h (ℕ-discrete l (countOf n test))
 
 -- a count that is not 0 has a number that passes
-pub count-found : (n : ℕ) (test : ℕ → Bool) → 0 < countOf n test → Below n (λ i. test i ≡ true)
+pub count-found : (n : ℕ) (test : ℕ → Bool) → 0 < countOf n test → SomeBelow n (λ i. test i ≡ true)
 count-found n test h =
     let f = count-reached n 0 test h in
     record { at = f .at; below = f .below; holds = f .holds .0 }

@@ -1,15 +1,14 @@
--- The ranges of the head's counts in a file whose shape is accepted, and how many records are due at most.
+-- The ranges of the head's counts in a file whose shape is accepted.
 use mathlib.Core.Path.{_≡_}
-use Prim.Native.Nat.{ℕ, _+_, _≤_}
+use Prim.Native.Nat.{ℕ, _≤_}
 use mathlib.Core.List.{List}
 use native.Mathlib.Omega.{arith}
 use borrow.Author.Tests.{eqb-true}
 use Rattle.definitions.specs.Records.{recordOf, kindOf}
-use Rattle.definitions.specs.Layouts.{readings, items, functions, nodes, due, headKind, isDue}
+use Rattle.definitions.specs.Layouts.{readings, items, functions, nodes, headKind, isDue}
 use Rattle.definitions.specs.Shape.{itemLimit, fileShape}
-use Rattle.definitions.specs.Sizes.{mostReadings, mostFunctions, mostNodes, mostRecords}
+use Rattle.definitions.specs.Sizes.{mostReadings, mostFunctions, mostNodes}
 use Rattle.definitions.specs.declared.Layout.{Layout}
-use Rattle.definitions.specs.declared.Layout.the-variants.{Sheet, Translation}
 use Rattle.definitions.specs.declared.Verdict.the-variants.{Accepted}
 use Rattle.laws.proofs.Walk.{HeadRanges, head-ranges}
 use Rattle.accepted.proofs.Records.{kind-due, counts-right}
@@ -44,13 +43,3 @@ module _ (y : Layout) (b : List ℕ) (accepted : fileShape y b ≡ Accepted) whe
 
   pub nodes-limit : nodes b ≤ mostNodes
   nodes-limit = ranges .nodes
-
-  pub due-limit : due b ≤ 1089 + itemLimit y
-  due-limit = omega (arith, items-limit, functions-limit, nodes-limit)
-
--- the records due in a sheet and in a translation
-pub sheet-due : (b : List ℕ) → fileShape Sheet b ≡ Accepted → due b ≤ 1153
-sheet-due b e = due-limit Sheet b e
-
-pub translation-due : (b : List ℕ) → fileShape Translation b ≡ Accepted → due b ≤ mostRecords
-translation-due b e = due-limit Translation b e

@@ -9,6 +9,7 @@ use native.Mathlib.Nat.{add-sub-cancel-left}
 use lib.ListN.{length}
 use lib.Dec.{ltb}
 use borrow.Author.Tests.{ltb-true, eqb-true, eq-eqb, ne-eqb}
+use Rattle.definitions.specs.OperatorCodes
 use Rattle.definitions.specs.Records.{kindOf, field, fieldCount}
 use Rattle.definitions.specs.SheetKinds
 use Rattle.definitions.specs.Lists.{allOf}
@@ -45,7 +46,7 @@ module _ (b rec : List ℕ) (r : ℕ) (h : namesInRange b r rec ≡ true) where
   unfolding namesInRange
   constructor-named (is-build e l g) = ltb-true (field rec 0) (items b) (rw e at h)
 
-code-by : (rec : List ℕ) {o l r : ℕ} → operatorCode rec ≡ true → SheetRecord rec (operator o l r) → o ≤ 5
+code-by : (rec : List ℕ) {o l r : ℕ} → operatorCode rec ≡ true → SheetRecord rec (operator o l r) → o ≤ OperatorCodes.greatest
 unfolding operatorCode
 code-by rec h (is-operator e c) = within-by 0 5 (field rec 0) (rw e at h) .greatest
 
@@ -114,14 +115,6 @@ module _ (b : List ℕ) (accepted : sheetVerdict b ≡ Accepted) where
         let d : sheetNodeOf b k ≡ call (field rec 0) (fieldsFrom rec 1) = rw e refl in
         sym (listed-length (fieldCount rec - 1) (λ i. field rec (1 + i))) ∙ call-count d
 
-    pub build-fields : kindOf (nodeRecord b k) ≡ SheetKinds.build
-        → fieldCount (nodeRecord b k) - 1 ≡ arity b (field (nodeRecord b k) 0)
-    unfolding sheetNodeOf sheetNode fieldsFrom
-    build-fields e =
-        let rec = nodeRecord b k in
-        let d : sheetNodeOf b k ≡ build (field rec 0) (fieldsFrom rec 1) = rw e refl in
-        sym (listed-length (fieldCount rec - 1) (λ i. field rec (1 + i))) ∙ build-count d
-
     -- an operator's code is one of six
-    pub operator-code : {o l r : ℕ} → sheetNodeOf b k ≡ operator o l r → o ≤ 5
+    pub operator-code : {o l r : ℕ} → sheetNodeOf b k ≡ operator o l r → o ≤ OperatorCodes.greatest
     operator-code e = code-by (nodeRecord b k) (code-right Sheet b (sheet-shape b accepted) (firstNode b + k) (omega arith)) (node-is b (sheet-shape b accepted) k h e)

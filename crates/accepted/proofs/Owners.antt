@@ -1,7 +1,7 @@
 -- The runs of nodes that functions own, in a file whose shape is accepted: the runs follow each other and fill the nodes, a
 -- body is the last node of its run, and each node has one owner.
 use mathlib.Core.Path.{_≡_, refl}
-use Prim.Native.Nat.{ℕ, zero, suc, _+_, _-_, _≤_, _<_}
+use Prim.Native.Nat.{ℕ, suc, _+_, _-_, _≤_, _<_}
 use mathlib.Core.List.{List}
 use native.Mathlib.Omega.{arith}
 use native.Mathlib.Nat.{suc-pred-eq-of-pos}
@@ -77,28 +77,12 @@ module _ (y : Layout) (b : List ℕ) (accepted : fileShape y b ≡ Accepted) whe
       let e : runEnd y b (functions b - 1) ≡ nodes b = last-end (functions b - 1) (omega arith) in
       omega (arith, not-ended k (functions b - 1) (omega arith) (omega arith))
 
-  -- its run holds the node: earlier runs have ended, and it has not
-  pub earlier-ended : (k g : ℕ) → k < nodes b → g < ownerOf y b k → runEnd y b g ≤ k
-  earlier-ended k g h l =
-      elim (decLe (runEnd y b g) k) [
-        | yes p ↦ p
-        | no p ↦ absurd (omega (arith, l, not-ended k g (omega (arith, l, owner-below k h)) (omega (arith, p))))
-      ]
-
   pub owner-not-ended : (k : ℕ) → k < nodes b → k < runEnd y b (ownerOf y b k)
   owner-not-ended k h =
       elim (decLe (runEnd y b (ownerOf y b k)) k) [
         | yes p ↦ absurd (omega (arith, ended-before k (ownerOf y b k) (owner-below k h) p))
         | no p ↦ omega (arith, p)
       ]
-
-  pub owner-started : (k : ℕ) → k < nodes b → sumOf (ownerOf y b k) (nodeCount y b) ≤ k
-  unfolding sumOf runEnd
-  owner-started k h = from (ownerOf y b k) (λ g. earlier-ended k g h)
-    where
-      from : (o : ℕ) → ((g : ℕ) → g < o → runEnd y b g ≤ k) → sumOf o (nodeCount y b) ≤ k
-      from zero e = omega arith
-      from (suc g) e = e g (omega arith)
 
   -- a function whose run holds the node is the owner
   pub owner-unique : (k f : ℕ) → f < functions b → sumOf f (nodeCount y b) ≤ k → k < runEnd y b f → ownerOf y b k ≡ f

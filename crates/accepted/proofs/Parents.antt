@@ -15,11 +15,10 @@ use Rattle.definitions.specs.Checks.{timesChild, isBody, parentOf, sheetVerdict
 use Rattle.definitions.specs.declared.Layout.the-variants.{Sheet}
 use Rattle.definitions.specs.declared.Verdict.the-variants.{Accepted}
 use Rattle.accepted.specs.Child.{Child}
-use Rattle.accepted.proofs.Sums.{Below, sum-term, sum-two, sum-found}
+use Rattle.accepted.proofs.Sums.{SomeBelow, sum-term, sum-two, sum-found}
 use Rattle.accepted.proofs.Counts.{count-term, count-once, count-found, last-found}
-use Rattle.accepted.proofs.SheetRecords.{node-record}
-use Rattle.accepted.proofs.Children.{ChildAt, ChildOf, child-at}
-use Rattle.accepted.proofs.Checks.{sheet-shape, tree-right}
+use Rattle.accepted.proofs.Children.{ChildAt, ChildOf}
+use Rattle.accepted.proofs.Checks.{tree-right}
 use Rattle.accepted.proofs.Trees.{tree-parts, child-of-record, record-child, record-child-no-body}
 
 -- how often node k is a child of a record
@@ -28,7 +27,9 @@ times rec k = countOf (children rec) (λ j. eqb (child rec j) k)
 
 times-counted : (rec : List ℕ) (k : ℕ) → ChildOf rec k → 0 < times rec k
 times-counted rec k c =
-    let p = count-term (c .place) (children rec) (λ j. eqb (child rec j) k) (c .there .below) (eq-eqb (child rec (c .place)) k (c .there .is)) in
+    let place = c .place in
+    let there = c .there in
+    let p = count-term (place) (children rec) (λ j. eqb (child rec j) k) (there .below) (eq-eqb (child rec (place)) k (there .is)) in
     omega (arith, p)
 
 times-found : (rec : List ℕ) (k : ℕ) → 0 < times rec k → ChildOf rec k
@@ -54,7 +55,7 @@ module _ (b : List ℕ) (accepted : sheetVerdict b ≡ Accepted) where
   child-once k h n = once-by (isBody b k) k refl (tree-parts b k (tree-right b accepted k h) .once) n
 
   module _ (k : ℕ) (h : k < nodes b) (n : k ≡ bodyOf Sheet b (ownerOf Sheet b k) → ⊥) where
-    record-parent : Below (nodes b) (λ p. ChildOf (nodeRecord b p) k)
+    record-parent : SomeBelow (nodes b) (λ p. ChildOf (nodeRecord b p) k)
     unfolding timesChild
     record-parent =
         let e = child-once k h n in
@@ -109,22 +110,6 @@ module _ (b : List ℕ) (accepted : sheetVerdict b ≡ Accepted) where
       let f = record-parent k h n in
       let e = record-parentOf (f .at) k (f .below) (f .holds) in
       (rw e (f .below), rw e (f .holds))
-
-  -- a node that is no body is a child
-  pub parent-found : (k : ℕ) → k < nodes b → (k ≡ bodyOf Sheet b (ownerOf Sheet b k) → ⊥)
-      → Below (nodes b) (λ p. Child (sheetNodeOf b p) k)
-  parent-found k h n =
-      let f = record-parent k h n in
-      let c = f .holds in
-      record {
-        at = f .at;
-        below = f .below;
-        holds = rw (c .there .is) at (child-at (nodeRecord b (f .at)) (node-record b (sheet-shape b accepted) (f .at) (f .below)) (c .place) (c .there .below));
-      }
-
-  -- of one node only
-  pub one-parent : (p q k : ℕ) → p < nodes b → q < nodes b → Child (sheetNodeOf b p) k → Child (sheetNodeOf b q) k → p ≡ q
-  one-parent p q k h g c d = record-parents p q k h g (child-of-record b accepted p h refl c) (child-of-record b accepted q g refl d)
 
   pub parent-is : (p : ℕ) → p < nodes b → {nd : SheetNode} {k : ℕ} → sheetNodeOf b p ≡ nd → Child nd k → parentOf b k ≡ p
   parent-is p h e c = record-parentOf p _ h (child-of-record b accepted p h e c)

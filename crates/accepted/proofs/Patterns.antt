@@ -20,7 +20,7 @@ use Rattle.definitions.specs.Checks.{parentOf, clauseOf, clauseWithin, belowAri
 use Rattle.definitions.specs.Translate.{scrutineeOf}
 use Rattle.definitions.specs.declared.Layout.the-variants.{Sheet}
 use Rattle.definitions.specs.declared.Verdict.the-variants.{Accepted}
-use Rattle.accepted.proofs.Sums.{Below, one-more}
+use Rattle.accepted.proofs.Sums.{SomeBelow, one-more}
 use Rattle.accepted.proofs.Owners.{owner-below, body-below}
 use Rattle.accepted.proofs.SheetRecords.{SheetRecord, is-patternVariable, is-case, node-is}
 use Rattle.accepted.proofs.Children.{clause-element}
@@ -59,12 +59,12 @@ case-decoded rec e = rw (eqb-true (kindOf rec) SheetKinds.caseOf e) refl
 
 -- a clause that is found is one of the record's
 found-by : (rec : List ℕ) (n k c : ℕ) (t : Bool) → eqb (child rec (suc n)) k ≡ t
-    → (clauseOf rec n k ≡ some c → Below n (λ j. clauseConstructor rec j ≡ c))
-    → cond t (some (clauseConstructor rec n)) (clauseOf rec n k) ≡ some c → Below (suc n) (λ j. clauseConstructor rec j ≡ c)
+    → (clauseOf rec n k ≡ some c → SomeBelow n (λ j. clauseConstructor rec j ≡ c))
+    → cond t (some (clauseConstructor rec n)) (clauseOf rec n k) ≡ some c → SomeBelow (suc n) (λ j. clauseConstructor rec j ≡ c)
 found-by rec n k c true e f g = record { at = n; below = omega arith; holds = cc }
 found-by rec n k c false e f g = one-more n (λ j. clauseConstructor rec j ≡ c) (f g)
 
-clause-of-found : (rec : List ℕ) (n k c : ℕ) → clauseOf rec n k ≡ some c → Below n (λ j. clauseConstructor rec j ≡ c)
+clause-of-found : (rec : List ℕ) (n k c : ℕ) → clauseOf rec n k ≡ some c → SomeBelow n (λ j. clauseConstructor rec j ≡ c)
 unfolding clauseOf
 clause-of-found rec zero k c e = absurd (Option·none-ne-some c e)
 clause-of-found rec (suc n) k c e = found-by rec n k c (eqb (child rec (suc n)) k) refl (clause-of-found rec n k c) e
@@ -132,23 +132,23 @@ module _ (b : List ℕ) (accepted : sheetVerdict b ≡ Accepted) where
       first-field (is-case e c l g) = refl
 
 -- a pattern variable i in the clause of a constructor
-pub record Held (b : List ℕ) (k i : ℕ) : Type 0 where
+pub record PatternInClause (b : List ℕ) (k i : ℕ) : Type 0 where
   pub constructor : ℕ
   pub within : clauseWithin b (nodes b) k ≡ some constructor
   pub below : i < arity b constructor
 
-held-by : (b : List ℕ) (k i : ℕ) (o : Option ℕ) → clauseWithin b (nodes b) k ≡ o → belowArity b i o ≡ true → Held b k i
+held-by : (b : List ℕ) (k i : ℕ) (o : Option ℕ) → clauseWithin b (nodes b) k ≡ o → belowArity b i o ≡ true → PatternInClause b k i
 unfolding belowArity
 held-by b k i none e f = absurd (false≢true f)
 held-by b k i (some c) e f = record { constructor = c; within = e; below = ltb-true i (arity b c) f }
 
 pattern-by : (b rec : List ℕ) (k : ℕ) {i : ℕ} → SheetRecord rec (patternVariable i)
     → cond (eqb (kindOf rec) SheetKinds.patternVariable) (belowArity b (field rec 0) (clauseWithin b (nodes b) k)) true ≡ true
-    → Held b k i
+    → PatternInClause b k i
 pattern-by b rec k (is-patternVariable e c) h = held-by b k (field rec 0) (clauseWithin b (nodes b) k) refl (rw e at h)
 
 -- "A pattern variable stands only in a clause and is below that constructor's arity"
 pub pattern-held : (b : List ℕ) → sheetVerdict b ≡ Accepted → (k : ℕ) → k < nodes b → {i : ℕ}
-    → sheetNodeOf b k ≡ patternVariable i → Held b k i
+    → sheetNodeOf b k ≡ patternVariable i → PatternInClause b k i
 unfolding patternRight
 pattern-held b accepted k h e = pattern-by b (nodeRecord b k) k (node-is b (sheet-shape b accepted) k h e) (pattern-right b accepted k h)

@@ -1,24 +1,23 @@
--- How many fields the records before the nodes have, in a file whose shape is accepted.
+-- How many fields the head of a file and the functions of a sheet have, where the shape is accepted.
 use mathlib.Core.Path.{_≡_, refl}
-use Prim.Native.Nat.{ℕ, _+_, _≤_, _<_}
+use Prim.Native.Nat.{ℕ, _+_, _<_}
 use mathlib.Core.List.{List}
 use mathlib.Core.Bool.{true}
 use native.Mathlib.Omega.{arith}
 use lib.ListN.{length}
-use Rattle.definitions.specs.Sizes.{mostNodes}
 use Rattle.definitions.specs.Records.{recordOf, kindOf, fieldCount}
 use Rattle.definitions.specs.SheetKinds
 use Rattle.definitions.specs.TranslationKinds
 use Rattle.definitions.specs.Kinds.{row, rows, rowIn, rowOf, allows}
-use Rattle.definitions.specs.Layouts.{items, functions, due, itemRecord, functionRecord}
+use Rattle.definitions.specs.Layouts.{items, functions, due, functionRecord}
 use Rattle.definitions.specs.Shape.{fileShape}
 use Rattle.definitions.specs.declared.Layout.{Layout}
 use Rattle.definitions.specs.declared.Layout.the-variants.{Sheet, Translation}
 use Rattle.definitions.specs.declared.Verdict.the-variants.{Accepted}
-use Rattle.accepted.proofs.Widths.{fields-fixed, fields-greatest}
+use Rattle.accepted.proofs.Widths.{fields-fixed}
 use Rattle.accepted.proofs.Records.{length-allowed}
 use Rattle.accepted.proofs.Head.{head-kind}
-use Rattle.accepted.proofs.Sections.{constructor-kind, sheet-function-kind, translation-function-kind, formal-kind}
+use Rattle.accepted.proofs.Sections.{sheet-function-kind}
 
 -- the length of a record of a known kind is allowed to that kind
 allowed-as : (y : Layout) (b : List ℕ) → fileShape y b ≡ Accepted → (r k : ℕ) → r < due b → kindOf (recordOf b r) ≡ k
@@ -34,31 +33,9 @@ head-fields Translation b e =
     fields-fixed (recordOf b 0) TranslationKinds.head (allowed-as Translation b e 0 TranslationKinds.head (omega arith) (head-kind Translation b e)) 4 refl refl
 
 module _ (b : List ℕ) (accepted : fileShape Sheet b ≡ Accepted) where
-  -- a constructor has its arity
-  pub constructor-fields : (c : ℕ) → c < items b → fieldCount (itemRecord Sheet b c) ≡ 1
-  unfolding rowOf rows rowIn row
-  constructor-fields c h =
-      fields-fixed (itemRecord Sheet b c) SheetKinds.constructor
-      (allowed-as Sheet b accepted (1 + c) SheetKinds.constructor (omega arith) (constructor-kind b accepted c h)) 1 refl refl
-
   -- a function has its parameters and its node count
   pub sheet-function-fields : (f : ℕ) → f < functions b → fieldCount (functionRecord Sheet b f) ≡ 2
   unfolding rowOf rows rowIn row
   sheet-function-fields f h =
       fields-fixed (functionRecord Sheet b f) SheetKinds.function
       (allowed-as Sheet b accepted (1 + items b + f) SheetKinds.function (omega arith) (sheet-function-kind b accepted f h)) 2 refl refl
-
-module _ (b : List ℕ) (accepted : fileShape Translation b ≡ Accepted) where
-  -- a translation's function has its node count
-  pub translation-function-fields : (f : ℕ) → f < functions b → fieldCount (functionRecord Translation b f) ≡ 1
-  unfolding rowOf rows rowIn row
-  translation-function-fields f h =
-      fields-fixed (functionRecord Translation b f) TranslationKinds.function
-      (allowed-as Translation b accepted (1 + f) TranslationKinds.function (omega arith) (translation-function-kind b accepted f h)) 1 refl refl
-
-  -- a formal lists at most 1,024 actuals
-  pub formal-fields : (p : ℕ) → p < items b → fieldCount (itemRecord Translation b p) ≤ mostNodes
-  unfolding rowOf rows rowIn row
-  formal-fields p h =
-      fields-greatest (itemRecord Translation b p) TranslationKinds.formalList
-      (allowed-as Translation b accepted (1 + functions b + p) TranslationKinds.formalList (omega arith) (formal-kind b accepted p h)) mostNodes refl

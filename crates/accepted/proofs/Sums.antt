@@ -6,12 +6,12 @@ use native.Mathlib.Nat.{not-suc-le-zero, zero-add, suc-add, suc-mul}
 use Rattle.definitions.specs.Lists.{sumOf}
 
 -- one of the first n numbers of which something holds
-pub record Below (n : ℕ) (P : ℕ → Type 0) : Type 0 where
+pub record SomeBelow (n : ℕ) (P : ℕ → Type 0) : Type 0 where
   pub at : ℕ
   pub below : at < n
   pub holds : P at
 
-pub one-more : (n : ℕ) (P : ℕ → Type 0) → Below n P → Below (suc n) P
+pub one-more : (n : ℕ) (P : ℕ → Type 0) → SomeBelow n P → SomeBelow (suc n) P
 one-more n P f = record { at = f .at; below = omega (arith, f .below); holds = f .holds }
 
 sum-from : (k i : ℕ) (at : ℕ → ℕ) → sumOf i at ≤ sumOf (k + i) at
@@ -33,12 +33,12 @@ pub sum-two : (i j n : ℕ) (at : ℕ → ℕ) → i < j → j < n → at i + at
 sum-two i j n at l h = omega (arith, sum-term i j at l, sum-term j n at h)
 
 -- a sum that is not 0 has a term that is not 0
-found-at : (n x : ℕ) (at : ℕ → ℕ) → at n ≡ x → 1 ≤ sumOf n at + x → (1 ≤ sumOf n at → Below n (λ i. 1 ≤ at i))
-    → Below (suc n) (λ i. 1 ≤ at i)
+found-at : (n x : ℕ) (at : ℕ → ℕ) → at n ≡ x → 1 ≤ sumOf n at + x → (1 ≤ sumOf n at → SomeBelow n (λ i. 1 ≤ at i))
+    → SomeBelow (suc n) (λ i. 1 ≤ at i)
 found-at n zero at e h f = one-more n (λ i. 1 ≤ at i) (f (omega arith))
 found-at n (suc x) at e h f = record { at = n; below = omega arith; holds = rw e (omega arith) }
 
-pub sum-found : (n : ℕ) (at : ℕ → ℕ) → 1 ≤ sumOf n at → Below n (λ i. 1 ≤ at i)
+pub sum-found : (n : ℕ) (at : ℕ → ℕ) → 1 ≤ sumOf n at → SomeBelow n (λ i. 1 ≤ at i)
 unfolding sumOf
 sum-found zero at h = absurd (not-suc-le-zero h)
 sum-found (suc n) at h = found-at n (at n) at refl h (sum-found n at)

@@ -1,6 +1,6 @@
--- What the nodes and the formals of an accepted translation name is there, and operator codes are in range.
+-- What the nodes and the formals of an accepted translation name is there.
 use mathlib.Core.Path.{_≡_, refl, _∙_}
-use Prim.Native.Nat.{ℕ, suc, _+_, _*_, _-_, _≤_, _<_}
+use Prim.Native.Nat.{ℕ, suc, _+_, _*_, _-_, _<_}
 use mathlib.Core.List.{List}
 use mathlib.Core.Option.{some}
 use mathlib.Core.Bool.{true, and-eq-true-iff}
@@ -8,11 +8,11 @@ use native.Mathlib.Omega.{arith}
 use native.Mathlib.Nat.{zero-add}
 use lib.Dec.{ltb}
 use borrow.Author.Tests.{ltb-true}
+use Rattle.definitions.specs.OperatorCodes
 use Rattle.definitions.specs.TranslationKinds
 use Rattle.definitions.specs.Records.{recordOf, kindOf, field, fieldCount}
 use Rattle.definitions.specs.Lists.{allOf}
 use Rattle.definitions.specs.Layouts.{readings, items, functions, nodes, firstNode, due, itemRecord, nodeRecord}
-use Rattle.definitions.specs.Shape.{operatorCode}
 use Rattle.definitions.specs.References.{fromFirst, fromSecond, everyOther, childCount, childField, children, child, clauses, namesInRange, inRange}
 use Rattle.definitions.specs.NodeFields.{fieldsFrom}
 use Rattle.definitions.specs.TranslationNodes.{TranslationNode, reading, formal, operator, call, translationNodeOf, actual}
@@ -21,11 +21,9 @@ use Rattle.definitions.specs.declared.Layout.the-variants.{Translation}
 use Rattle.definitions.specs.declared.Verdict.the-variants.{Accepted}
 use Rattle.laws.proofs.Lists.{all-each}
 use Rattle.accepted.specs.Mention.{Mention, selected, left, right, condition, ifNonzero, ifZero, component, scrutinee, clause}
-use Rattle.laws.proofs.Ranges.{within-by}
 use Rattle.accepted.proofs.Elements.{listed-found}
-use Rattle.accepted.proofs.Records.{code-right}
 use Rattle.accepted.proofs.Sections.{formal-kind}
-use Rattle.accepted.proofs.Children.{ChildOf, clause-field, clause-found, argument-found}
+use Rattle.accepted.proofs.Children.{ChildOf, child-of, clause-field, clause-found, argument-found}
 use Rattle.accepted.proofs.TranslationRecords.{TranslationRecord, is-reading, is-formal, is-select, is-operator, is-conditional, is-call, is-tuple, is-case, translation-node-is}
 use Rattle.accepted.proofs.Checks.{translation-shape, translation-in-range}
 
@@ -79,25 +77,21 @@ module _ (rec : List ℕ) where
   unfolding child childField everyOther fromFirst
   list-mention e j = rw e refl
 
-  -- a node that the record names, by its place among them
-  mention-of : (n j m : ℕ) → children rec ≡ m → j < m → child rec j ≡ n → ChildOf rec n
-  mention-of n j m c h e = record { place = j; there = record { below = rw c h; is = e } }
-
   mention-place : {nd : TranslationNode} {n : ℕ} → TranslationRecord rec nd → Mention nd n → ChildOf rec n
-  mention-place (is-select e c) selected = mention-of (field rec 0) 0 1 (select-mentions e c) (omega arith) (select-mention e 0)
-  mention-place (is-operator e c) left = mention-of (field rec 1) 0 2 (operator-mentions e c) (omega arith) (operator-mention e 0)
-  mention-place (is-operator e c) right = mention-of (field rec 2) 1 2 (operator-mentions e c) (omega arith) (operator-mention e 1)
-  mention-place (is-conditional e c) condition = mention-of (field rec 0) 0 3 (conditional-mentions e c) (omega arith) (conditional-mention e 0)
-  mention-place (is-conditional e c) ifNonzero = mention-of (field rec 1) 1 3 (conditional-mentions e c) (omega arith) (conditional-mention e 1)
-  mention-place (is-conditional e c) ifZero = mention-of (field rec 2) 2 3 (conditional-mentions e c) (omega arith) (conditional-mention e 2)
+  mention-place (is-select e c) selected = child-of rec (field rec 0) 0 1 (select-mentions e c) (omega arith) (select-mention e 0)
+  mention-place (is-operator e c) left = child-of rec (field rec 1) 0 2 (operator-mentions e c) (omega arith) (operator-mention e 0)
+  mention-place (is-operator e c) right = child-of rec (field rec 2) 1 2 (operator-mentions e c) (omega arith) (operator-mention e 1)
+  mention-place (is-conditional e c) condition = child-of rec (field rec 0) 0 3 (conditional-mentions e c) (omega arith) (conditional-mention e 0)
+  mention-place (is-conditional e c) ifNonzero = child-of rec (field rec 1) 1 3 (conditional-mentions e c) (omega arith) (conditional-mention e 1)
+  mention-place (is-conditional e c) ifZero = child-of rec (field rec 2) 2 3 (conditional-mentions e c) (omega arith) (conditional-mention e 2)
   mention-place (is-tuple e l g) (component i p) =
       let q = argument-found rec i p in
-      mention-of _ i (fieldCount rec - 1) (tuple-mentions e) (q .below) (tuple-mention e i ∙ q .is)
+      child-of rec _ i (fieldCount rec - 1) (tuple-mentions e) (q .below) (tuple-mention e i ∙ q .is)
   mention-place (is-case e c l g) scrutinee =
-      mention-of (field rec 0) 0 (suc (clauses rec)) (case-mentions e c) (omega arith) (case-mention e 0)
+      child-of rec (field rec 0) 0 (suc (clauses rec)) (case-mentions e c) (omega arith) (case-mention e 0)
   mention-place (is-case e c l g) (clause j p q) =
       let s = clause-found rec j p in
-      mention-of _ (suc j) (suc (clauses rec)) (case-mentions e c) (omega (arith, s .below))
+      child-of rec _ (suc j) (suc (clauses rec)) (case-mentions e c) (omega (arith, s .below))
       (case-mention e (suc j) ∙ clause-field rec j ∙ s .leads ∙ q)
 
 -- over one record
@@ -113,10 +107,6 @@ module _ (b rec : List ℕ) (r : ℕ) (h : namesInRange b r rec ≡ true) where
   function-named : {l f : ℕ} → TranslationRecord rec (call l f) → f < functions b
   unfolding namesInRange
   function-named (is-call e c) = ltb-true (field rec 1) (functions b) (rw e at h)
-
-code-by : (rec : List ℕ) {o l r : ℕ} → operatorCode rec ≡ true → TranslationRecord rec (operator o l r) → o ≤ 5
-unfolding operatorCode
-code-by rec h (is-operator e c) = within-by 0 5 (field rec 0) (rw e at h) .greatest
 
 module _ (b : List ℕ) (accepted : translationVerdict b ≡ Accepted) where
   -- a node that a record names is there
@@ -137,7 +127,7 @@ module _ (b : List ℕ) (accepted : translationVerdict b ≡ Accepted) where
       let f = listed-found (fieldCount rec - 0) (λ j. field rec (0 + j)) l e in
       let i : field rec l ≡ _ = rw zero-add at (f .is) in
       record-mention (1 + functions b + p) _ (omega arith)
-      (mention-of rec _ l (fieldCount rec) (list-mentions rec k) (omega (arith, f .below)) (list-mention rec k l ∙ i))
+      (child-of rec _ l (fieldCount rec) (list-mentions rec k) (omega (arith, f .below)) (list-mention rec k l ∙ i))
 
   module _ (k : ℕ) (h : k < nodes b) where
     node-names : namesInRange b (firstNode b + k) (nodeRecord b k) ≡ true
@@ -161,9 +151,3 @@ module _ (b : List ℕ) (accepted : translationVerdict b ≡ Accepted) where
     mention-below e m =
         record-mention (firstNode b + k) _ (omega arith)
         (mention-place (nodeRecord b k) (translation-node-is b (translation-shape b accepted) k h e) m)
-
-    -- an operator's code is one of six
-    pub translation-operator-code : {o l r : ℕ} → translationNodeOf b k ≡ operator o l r → o ≤ 5
-    translation-operator-code e =
-        code-by (nodeRecord b k) (code-right Translation b (translation-shape b accepted) (firstNode b + k) (omega arith))
-        (translation-node-is b (translation-shape b accepted) k h e)

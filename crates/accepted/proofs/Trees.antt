@@ -93,9 +93,3 @@ module _ (b : List ℕ) (accepted : sheetVerdict b ≡ Accepted) where
   case-body k h e =
       eqb-true k (bodyOf Sheet b (ownerOf Sheet b k))
       (case-parts b (nodeRecord b k) k (node-is b (sheet-shape b accepted) k h e) (tree-parts b k (tree-right b accepted k h) .cases) .0)
-
-  -- its clauses pass the check of their order
-  pub case-rises : (k : ℕ) → k < nodes b → {n : ℕ} {cs : List Clause} → sheetNodeOf b k ≡ caseOf n cs
-      → clausesRise (nodeRecord b k) ≡ true
-  case-rises k h e =
-      case-parts b (nodeRecord b k) k (node-is b (sheet-shape b accepted) k h e) (tree-parts b k (tree-right b accepted k h) .cases) .1

@@ -12,12 +12,12 @@ use Rattle.definitions.specs.Kinds.{Row, row, rows, rowIn, rowOf, allows}
 use Rattle.definitions.specs.References.{clauses}
 
 -- the three tests of a row
-pub record Allowed (r : Row) (n : ℕ) : Type 0 where
+pub record LengthAllowed (r : Row) (n : ℕ) : Type 0 where
   pub least : r .least ≤ n
   pub greatest : n ≤ r .greatest
   pub step : (n - r .least) % r .step ≡ 0
 
-pub allowed-by : (r : Row) (n : ℕ) → allows r n ≡ true → Allowed r n
+pub allowed-by : (r : Row) (n : ℕ) → allows r n ≡ true → LengthAllowed r n
 unfolding allows
 allowed-by r n e =
     let p = and-eq-true-iff (leb (r .least) n && leb n (r .greatest)) (eqb ((n - r .least) % r .step) 0) .0 e in

@@ -7,7 +7,7 @@ use mathlib.Core.Bool.{true, false}
 use native.Mathlib.Omega.{arith}
 use lib.IntN.{ℤ}
 use lib.ListN.{length}
-use Rattle.definitions.specs.Numbers.{noActual, noField, isStop, isAnswer}
+use Rattle.definitions.specs.Numbers.{isStop, isAnswer}
 use Rattle.definitions.specs.Layouts.{bodyOf}
 use Rattle.definitions.specs.SheetNodes.{sheetNodeOf}
 use Rattle.definitions.specs.Outcomes.{Outcome}
@@ -15,7 +15,6 @@ use Rattle.definitions.specs.Checks.{sheetVerdict}
 use Rattle.definitions.specs.Translate.{translation}
 use Rattle.definitions.specs.Rule.{Reached, visited}
 use Rattle.definitions.specs.Cells.{Cell, byCells, evaluation}
-use Rattle.definitions.specs.Ranges.{within}
 use Rattle.definitions.specs.Run.{endingOutcome, ruleEnd}
 use Rattle.agreement.specs.Meaning.{Setting, End, Means, outcomeOf, OwnAnswer}
 use Rattle.definitions.specs.declared.Layout.the-variants.{Sheet, Translation}
@@ -27,7 +26,7 @@ use Rattle.rule_laws.specs.Reads.{stateOf}
 use Rattle.rule_laws.specs.Found.{stopped}
 use Rattle.rule_laws.specs.Reached.{Allowed}
 use Rattle.agreement.specs.Answers.{ruleOutcome, RuleGives}
-use Rattle.rule_laws.specs.Visits.{depthOf, stepsOf, cellsOf}
+use Rattle.rule_laws.specs.Derivations.{depthOf, stepsOf, cellsOf}
 use Rattle.agreement.specs.Contexts.{Stands, outermost}
 use Rattle.agreement.specs.Corresponds.{At, Visited}
 use Rattle.agreement.proofs.CellReads.{cellReads}
@@ -38,31 +37,31 @@ use Rattle.agreement.proofs.Becomes.{becomes}
 use Rattle.agreement.proofs.Sound.{sound}
 use Rattle.agreement.proofs.Complete.{complete}
 use Rattle.laws.proofs.Classes.{answer-no-stop}
-use Rattle.agreement.proofs.Outcomes.{same-shown, same-meant, stop-shown, own-answer, own-listed}
+use Rattle.agreement.proofs.Outcomes.{same-shown, same-meant, stop-shown, own-answer}
 
 -- the visit of node k under cell w, at a nesting and a cell allowance, from so many steps left and these cells
 abbrev pub visitOf : List ℕ → List ℤ → ℕ → ℕ → ℕ → List Cell → ℕ → ℕ → Reached ℕ (List Cell)
-visitOf t rs nesting most left store k w = visited (byCells t most) t rs nesting k w (stateOf left store)
+visitOf t rs nesting cellsAllowed left store k w = visited (byCells t cellsAllowed) t rs nesting k w (stateOf left store)
 
 -- an outcome that is no stop stays at all allowances each at least as large, of any translation file
 module _ (t : List ℕ) (rs : List ℤ) where
-  pub visit-stays : (left nesting most left′ nesting′ most′ k w : ℕ) {store : List Cell} {ws : List ℕ} → Stands store w ws
-      → length store ≤ most → left ≤ left′ → nesting ≤ nesting′ → most ≤ most′
-      → stopped (visitOf t rs nesting most left store k w .ending) ≡ false
-      → endingOutcome t (visitOf t rs nesting′ most′ left′ store k w .ending) ≡ endingOutcome t (visitOf t rs nesting most left store k w .ending)
-  visit-stays left nesting most left′ nesting′ most′ k w {store} s fits a b c h =
-      let f = finds-all t rs most nesting .finds k w (stateOf left store) (record { stands = s; room = fits }) h .comes in
+  pub visit-stays : (left nesting cellsAllowed left′ nesting′ cellsAllowed′ k w : ℕ) {store : List Cell} {ws : List ℕ} → Stands store w ws
+      → length store ≤ cellsAllowed → left ≤ left′ → nesting ≤ nesting′ → cellsAllowed ≤ cellsAllowed′
+      → stopped (visitOf t rs nesting cellsAllowed left store k w .ending) ≡ false
+      → endingOutcome t (visitOf t rs nesting′ cellsAllowed′ left′ store k w .ending) ≡ endingOutcome t (visitOf t rs nesting cellsAllowed left store k w .ending)
+  visit-stays left nesting cellsAllowed left′ nesting′ cellsAllowed′ k w {store} s fits a b c h =
+      let f = finds-all t rs cellsAllowed nesting .finds k w (stateOf left store) (record { stands = s; room = fits }) h .comes in
       let p = f .arrives .went in
-      let g = follows t rs most′ nesting′ left′ k w (f .visits) s (record { depth = omega arith; steps = omega arith; cells = omega arith }) in
+      let g = follows t rs cellsAllowed′ nesting′ left′ k w (f .visits) s (record { depth = omega arith; steps = omega arith; cells = omega arith }) in
       same-shown t (g .shows) (f .arrives .shows)
 
-  pub rule-stays : (steps nesting most steps′ nesting′ most′ : ℕ) → steps ≤ steps′ → nesting ≤ nesting′ → most ≤ most′
-      → isStop (ruleOutcome t rs steps nesting most .outcome) ≡ false
-      → ruleOutcome t rs steps′ nesting′ most′ ≡ ruleOutcome t rs steps nesting most
+  pub rule-stays : (steps nesting cellsAllowed steps′ nesting′ cellsAllowed′ : ℕ) → steps ≤ steps′ → nesting ≤ nesting′ → cellsAllowed ≤ cellsAllowed′
+      → isStop (ruleOutcome t rs steps nesting cellsAllowed .outcome) ≡ false
+      → ruleOutcome t rs steps′ nesting′ cellsAllowed′ ≡ ruleOutcome t rs steps nesting cellsAllowed
   unfolding ruleOutcome ruleEnd evaluation
-  rule-stays steps nesting most steps′ nesting′ most′ a b c h =
-      visit-stays steps nesting most steps′ nesting′ most′ (bodyOf Translation t 0) 0 outermost (omega arith) a b c
-      (sym (stop-shown t (ruleEnd t rs steps nesting most .ending)) ∙ h)
+  rule-stays steps nesting cellsAllowed steps′ nesting′ cellsAllowed′ a b c h =
+      visit-stays steps nesting cellsAllowed steps′ nesting′ cellsAllowed′ (bodyOf Translation t 0) 0 outermost (omega arith) a b c
+      (sym (stop-shown t (ruleEnd t rs steps nesting cellsAllowed .ending)) ∙ h)
 
 -- a node's meaning with this outcome
 pub record MeansOutcome (b : List ℕ) (rs : List ℤ) (k : ℕ) (s : Setting) (a : Outcome) : Type 0 where
@@ -74,18 +73,18 @@ pub record MeansOutcome (b : List ℕ) (rs : List ℤ) (k : ℕ) (s : Setting) (
 pub record Reaches (t : List ℕ) (rs : List ℤ) (a : Outcome) : Type 0 where
   pub steps : ℕ
   pub nesting : ℕ
-  pub most : ℕ
-  pub gives : (steps′ nesting′ most′ : ℕ) → steps ≤ steps′ → nesting ≤ nesting′ → most ≤ most′
-      → ruleOutcome t rs steps′ nesting′ most′ ≡ a
+  pub cellsAllowed : ℕ
+  pub gives : (steps′ nesting′ cellsAllowed′ : ℕ) → steps ≤ steps′ → nesting ≤ nesting′ → cellsAllowed ≤ cellsAllowed′
+      → ruleOutcome t rs steps′ nesting′ cellsAllowed′ ≡ a
 
 module _ (b : List ℕ) (accepted : sheetVerdict b ≡ Accepted) (rs : List ℤ) where
   -- an outcome that is no stop is the sheet's own
-  pub visit-sound : (left nesting most k w : ℕ) {store : List Cell} {ws : List ℕ} {s : Setting} → Stands store w ws → length store ≤ most
+  pub visit-sound : (left nesting cellsAllowed k w : ℕ) {store : List Cell} {ws : List ℕ} {s : Setting} → Stands store w ws → length store ≤ cellsAllowed
       → At b rs k ws s
-      → stopped (visitOf (translation b) rs nesting most left store k w .ending) ≡ false
-      → MeansOutcome b rs k s (endingOutcome (translation b) (visitOf (translation b) rs nesting most left store k w .ending))
-  visit-sound left nesting most k w {store} s fits a h =
-      let f = finds-all (translation b) rs most nesting .finds k w (stateOf left store) (record { stands = s; room = fits }) h .comes in
+      → stopped (visitOf (translation b) rs nesting cellsAllowed left store k w .ending) ≡ false
+      → MeansOutcome b rs k s (endingOutcome (translation b) (visitOf (translation b) rs nesting cellsAllowed left store k w .ending))
+  visit-sound left nesting cellsAllowed k w {store} s fits a h =
+      let f = finds-all (translation b) rs cellsAllowed nesting .finds k w (stateOf left store) (record { stands = s; room = fits }) h .comes in
       let m = sound b accepted (f .visits) (becomes b accepted k (a .below)) refl a in
       record { end = m .end; means = m .means; agrees = sym (same-meant accepted (f .arrives .shows) (m .agrees)) }
 
@@ -94,26 +93,26 @@ module _ (b : List ℕ) (accepted : sheetVerdict b ≡ Accepted) (rs : List ℤ)
   start-read = body-read b accepted 0 (functions-least Sheet b (sheet-shape b accepted))
 
   -- the whole evaluation as a visit of the sheet's own body
-  rule-start : (steps nesting most : ℕ)
-      → ruleOutcome (translation b) rs steps nesting most ≡ endingOutcome (translation b) (visitOf (translation b) rs nesting most steps [] (bodyOf Sheet b 0) 0 .ending)
+  rule-start : (steps nesting cellsAllowed : ℕ)
+      → ruleOutcome (translation b) rs steps nesting cellsAllowed ≡ endingOutcome (translation b) (visitOf (translation b) rs nesting cellsAllowed steps [] (bodyOf Sheet b 0) 0 .ending)
   unfolding ruleOutcome ruleEnd evaluation
-  rule-start steps nesting most = rw start-read refl
+  rule-start steps nesting cellsAllowed = rw start-read refl
 
-  pub rule-sound : (steps nesting most : ℕ) → isStop (ruleOutcome (translation b) rs steps nesting most .outcome) ≡ false
-      → OwnAnswer b rs (ruleOutcome (translation b) rs steps nesting most)
-  rule-sound steps nesting most h =
-      let p = rule-start steps nesting most in
-      let r = visitOf (translation b) rs nesting most steps [] (bodyOf Sheet b 0) 0 in
+  pub rule-sound : (steps nesting cellsAllowed : ℕ) → isStop (ruleOutcome (translation b) rs steps nesting cellsAllowed .outcome) ≡ false
+      → OwnAnswer b rs (ruleOutcome (translation b) rs steps nesting cellsAllowed)
+  rule-sound steps nesting cellsAllowed h =
+      let p = rule-start steps nesting cellsAllowed in
+      let r = visitOf (translation b) rs nesting cellsAllowed steps [] (bodyOf Sheet b 0) 0 in
       let q = sym (stop-shown (translation b) (r .ending)) ∙ (rw p at h) in
-      let m = visit-sound steps nesting most (bodyOf Sheet b 0) 0 outermost (omega arith) (start-at b accepted) q in
+      let m = visit-sound steps nesting cellsAllowed (bodyOf Sheet b 0) 0 outermost (omega arith) (start-at b accepted) q in
       record { end = m .end; means = m .means; agrees = m .agrees ∙ sym p }
 
   -- the sheet's own outcome is reached, and had from there on
-  pub visit-complete : (left nesting most k w : ℕ) {store : List Cell} {ws : List ℕ} {d : End} (v : Visited b rs k ws d) → Stands store w ws
-      → Allowed (cellReads (translation b) most) most (v .trace) nesting (stateOf left store)
-      → endingOutcome (translation b) (visitOf (translation b) rs nesting most left store k w .ending) ≡ outcomeOf d
-  visit-complete left nesting most k w v s p =
-      same-meant accepted (follows (translation b) rs most nesting left k w (v .visits) s p .shows) (v .agrees)
+  pub visit-complete : (left nesting cellsAllowed k w : ℕ) {store : List Cell} {ws : List ℕ} {d : End} (v : Visited b rs k ws d) → Stands store w ws
+      → Allowed (cellReads (translation b) cellsAllowed) cellsAllowed (v .trace) nesting (stateOf left store)
+      → endingOutcome (translation b) (visitOf (translation b) rs nesting cellsAllowed left store k w .ending) ≡ outcomeOf d
+  visit-complete left nesting cellsAllowed k w v s p =
+      same-meant accepted (follows (translation b) rs cellsAllowed nesting left k w (v .visits) s p .shows) (v .agrees)
 
   pub rule-complete : {a : Outcome} → OwnAnswer b rs a → Reaches (translation b) rs a
   rule-complete o =
@@ -121,10 +120,10 @@ module _ (b : List ℕ) (accepted : sheetVerdict b ≡ Accepted) (rs : List ℤ)
       record {
         steps = stepsOf (v .trace);
         nesting = depthOf (v .trace);
-        most = cellsOf (v .trace);
-        gives = λ steps nesting most p q r.
-            rule-start steps nesting most
-            ∙ visit-complete steps nesting most (bodyOf Sheet b 0) 0 v outermost (record { depth = q; steps = p; cells = omega arith })
+        cellsAllowed = cellsOf (v .trace);
+        gives = λ steps nesting cellsAllowed p q r.
+            rule-start steps nesting cellsAllowed
+            ∙ visit-complete steps nesting cellsAllowed (bodyOf Sheet b 0) 0 v outermost (record { depth = q; steps = p; cells = omega arith })
             ∙ o .agrees;
       }
 
@@ -132,7 +131,7 @@ module _ (b : List ℕ) (accepted : sheetVerdict b ≡ Accepted) (rs : List ℤ)
   pub rule-gives-own : {a : Outcome} → RuleGives (translation b) rs a → isAnswer (a .outcome) ≡ true → OwnAnswer b rs a
   rule-gives-own g h =
       let e = g .gives in
-      rw e at (rule-sound (g .steps) (g .nesting) (g .most) (answer-no-stop _ (rw e h)))
+      rw e at (rule-sound (g .steps) (g .nesting) (g .cellsAllowed) (answer-no-stop _ (rw e h)))
 
   pub own-rule-gives : {a : Outcome} → OwnAnswer b rs a → RuleGives (translation b) rs a × (isAnswer (a .outcome) ≡ true)
   own-rule-gives o =
@@ -140,16 +139,8 @@ module _ (b : List ℕ) (accepted : sheetVerdict b ≡ Accepted) (rs : List ℤ)
         record {
           steps = r .steps;
           nesting = r .nesting;
-          most = r .most;
-          gives = r .gives (r .steps) (r .nesting) (r .most) (omega arith) (omega arith) (omega arith);
+          cellsAllowed = r .cellsAllowed;
+          gives = r .gives (r .steps) (r .nesting) (r .cellsAllowed) (omega arith) (omega arith) (omega arith);
         },
         own-answer o,
       )
-
-  -- the faults 18 and 19 never come out
-  pub rule-listed : (steps nesting most : ℕ)
-      → (ruleOutcome (translation b) rs steps nesting most .outcome ≡ noActual → ⊥)
-      × (ruleOutcome (translation b) rs steps nesting most .outcome ≡ noField → ⊥)
-  unfolding isStop within
-  rule-listed steps nesting most =
-      (λ e. own-listed (rule-sound steps nesting most (rw e refl)) .0 e, λ e. own-listed (rule-sound steps nesting most (rw e refl)) .1 e)

@@ -6,20 +6,20 @@ use native.Mathlib.Omega.{arith}
 use lib.ListN.{length, length-append}
 use Rattle.definitions.specs.Rule.{Ending, value, constructor, State}
 use Rattle.definitions.specs.Cells.{Cell}
-use Rattle.rule_laws.specs.Visits.{Trace, alone, after, afterBoth, afterCall}
+use Rattle.rule_laws.specs.Derivations.{Trace, alone, after, afterBoth, afterCall}
 use Rattle.rule_laws.specs.Reads.{stateOf, Reads, Shows, an-integer, a-constructor, an-end}
 use Rattle.agreement.specs.Contexts.{StandsWithin, Takes}
 use Rattle.agreement.proofs.Contexts.{kept-all, kept-then, kept-more, stands-kept, stands-one}
 
-module _ {most n left : ℕ} {m : List Cell} where
-  pub takes-alone : {w : ℕ} {ws : List ℕ} → StandsWithin most m w ws → Takes most (suc n) alone (stateOf (suc left) m) (stateOf left m)
+module _ {cellsAllowed n left : ℕ} {m : List Cell} where
+  pub takes-alone : {w : ℕ} {ws : List ℕ} → StandsWithin cellsAllowed m w ws → Takes cellsAllowed (suc n) alone (stateOf (suc left) m) (stateOf left m)
   takes-alone s = record { depth = omega arith; steps = omega arith; cells = omega arith; room = s .room; kept = kept-all m }
 
-  pub takes-after : {a : Trace} {q : State (List Cell)} → Takes most n a (stateOf left m) q → Takes most (suc n) (after a) (stateOf (suc left) m) q
+  pub takes-after : {a : Trace} {q : State (List Cell)} → Takes cellsAllowed n a (stateOf left m) q → Takes cellsAllowed (suc n) (after a) (stateOf (suc left) m) q
   takes-after f = record { depth = omega (arith, f .depth); steps = omega (arith, f .steps); cells = f .cells; room = f .room; kept = f .kept }
 
-  pub takes-both : {a d : Trace} {q p : State (List Cell)} → Takes most n a (stateOf left m) q → Takes most n d q p
-      → Takes most (suc n) (afterBoth a d) (stateOf (suc left) m) p
+  pub takes-both : {a d : Trace} {q p : State (List Cell)} → Takes cellsAllowed n a (stateOf left m) q → Takes cellsAllowed n d q p
+      → Takes cellsAllowed (suc n) (afterBoth a d) (stateOf (suc left) m) p
   takes-both f g =
       record {
         depth = omega (arith, f .depth, g .depth);
@@ -30,8 +30,8 @@ module _ {most n left : ℕ} {m : List Cell} where
       }
 
   -- a visit of a body under a new cell
-  pub takes-call : {a : Trace} {q : State (List Cell)} (c : Cell) → Takes most n a (stateOf left (m ++ (c ∷ []))) q
-      → Takes most (suc n) (afterCall a) (stateOf (suc left) m) q
+  pub takes-call : {a : Trace} {q : State (List Cell)} (c : Cell) → Takes cellsAllowed n a (stateOf left (m ++ (c ∷ []))) q
+      → Takes cellsAllowed (suc n) (afterCall a) (stateOf (suc left) m) q
   takes-call c f =
       record {
         depth = omega (arith, f .depth);
@@ -41,16 +41,16 @@ module _ {most n left : ℕ} {m : List Cell} where
         kept = kept-then (kept-more m (c ∷ [])) (f .kept);
       }
 
-module _ (t : List ℕ) (most : ℕ) where
+module _ (t : List ℕ) (cellsAllowed : ℕ) where
   abbrev pub cellReads : Reads t ℕ (List Cell)
   cellReads =
       record {
-        At = λ m k w ws. StandsWithin most m w ws;
+        At = λ m k w ws. StandsWithin cellsAllowed m w ws;
         at-mentioned = λ e g s. s;
-        Built = λ m k w ws. StandsWithin most m w ws;
+        Built = λ m k w ws. StandsWithin cellsAllowed m w ws;
         built-tuple = λ e s. s;
         built-field = λ i e s. s;
-        Went = λ n a x s q. Takes most n a s q;
+        Went = λ n a x s q. Takes cellsAllowed n a s q;
         at-went = λ g s. record { stands = stands-kept (g .kept) (s .stands); room = g .room };
         went-alone = λ s. takes-alone s;
         went-after = λ g. takes-after g;
@@ -62,8 +62,8 @@ module _ (t : List ℕ) (most : ℕ) where
       }
 
 -- an ending over cells is one over labels
-pub shows-one : {most : ℕ} {m : List Cell} {d : Ending ℕ} {e e′ : Ending (List ℕ)}
-    → Shows (λ k w ws. StandsWithin most m w ws) d e → Shows (λ k w ws. StandsWithin most m w ws) d e′ → e ≡ e′
+pub shows-one : {cellsAllowed : ℕ} {m : List Cell} {d : Ending ℕ} {e e′ : Ending (List ℕ)}
+    → Shows (λ k w ws. StandsWithin cellsAllowed m w ws) d e → Shows (λ k w ws. StandsWithin cellsAllowed m w ws) d e′ → e ≡ e′
 shows-one an-integer an-integer = refl
 shows-one (a-constructor {k} s) (a-constructor s′) = ap (λ (ws : List ℕ). value (constructor k ws)) (stands-one (s .stands) (s′ .stands))
 shows-one an-end an-end = refl

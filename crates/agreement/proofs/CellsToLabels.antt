@@ -17,7 +17,7 @@ use Rattle.definitions.specs.TranslationNodes.{formal, call, actual}
 use Rattle.definitions.specs.Rule.{Visit, reach, nodeDue, visited}
 use Rattle.definitions.specs.Cells.{Cell, cellOf, underTail, formalByCells, withCell, whereCell, callByCells, byCells}
 use Rattle.definitions.specs.declared.Layout.the-variants.{Translation}
-use Rattle.rule_laws.specs.Visits.{formal-actual, formal-beyond, formal-outside, call-body}
+use Rattle.rule_laws.specs.Derivations.{formal-actual, formal-beyond, formal-outside, call-body}
 use Rattle.rule_laws.specs.Reads.{stateOf, an-end}
 use Rattle.rule_laws.specs.Found.{stopped, Found, Finding, FindingHooks}
 use Rattle.rule_laws.proofs.Arrivals.{arrives-alone, arrives-after}
@@ -26,12 +26,12 @@ use Rattle.agreement.specs.Contexts.{Stands, outermost, within}
 use Rattle.agreement.proofs.Contexts.{stands-added}
 use Rattle.agreement.proofs.CellReads.{takes-call, cellReads}
 
-module _ (t : List ℕ) (rs : List ℤ) (most : ℕ) where
-  module _ (n : ℕ) {visit : Visit ℕ (List Cell)} (ih : Finding (cellReads t most) rs n visit) (k left : ℕ) (m : List Cell) (room : length m ≤ most) where
+module _ (t : List ℕ) (rs : List ℤ) (cellsAllowed : ℕ) where
+  module _ (n : ℕ) {visit : Visit ℕ (List Cell)} (ih : Finding (cellReads t cellsAllowed) rs n visit) (k left : ℕ) (m : List Cell) (room : length m ≤ cellsAllowed) where
     -- a formal under a label
     actual-found : (p l w : ℕ) {ws : List ℕ} (o : Option ℕ) → actual t p l ≡ o → Stands m w ws
         → stopped (nodeDue o noActual (stateOf left m) (λ j. visit j w (stateOf left m)) .ending) ≡ false
-        → Found (cellReads t most) rs (formal p) k (l ∷ ws) (suc n) (stateOf (suc left) m)
+        → Found (cellReads t cellsAllowed) rs (formal p) k (l ∷ ws) (suc n) (stateOf (suc left) m)
         (nodeDue o noActual (stateOf left m) (λ j. visit j w (stateOf left m)))
     unfolding nodeDue
     actual-found p l w none e s h = found _ rs (formal-beyond e) (arrives-alone _ k (record { stands = s; room = room }) an-end)
@@ -41,32 +41,32 @@ module _ (t : List ℕ) (rs : List ℤ) (most : ℕ) where
 
     formal-found : (p : ℕ) {w : ℕ} {ws : List ℕ} → Stands m w ws
         → stopped (underTail t visit p (cellOf m w) (stateOf left m) .ending) ≡ false
-        → Found (cellReads t most) rs (formal p) k ws (suc n) (stateOf (suc left) m) (underTail t visit p (cellOf m w) (stateOf left m))
+        → Found (cellReads t cellsAllowed) rs (formal p) k ws (suc n) (stateOf (suc left) m) (underTail t visit p (cellOf m w) (stateOf left m))
     unfolding underTail cellOf
     formal-found p outermost h = found _ rs formal-outside (arrives-alone _ k (record { stands = outermost; room = room }) an-end)
     formal-found p (within {l} {p = w} c s) h = rw c (actual-found p l w (actual t p l) refl s (rw c at h))
 
     -- a call, where there may be a cell left
-    call-found : (l f w : ℕ) {ws : List ℕ} (x : Bool) → ltb (length m) most ≡ x → Stands m w ws
+    call-found : (l f w : ℕ) {ws : List ℕ} (x : Bool) → ltb (length m) cellsAllowed ≡ x → Stands m w ws
         → stopped (whereCell x (stateOf left m) (λ s. visit (bodyOf Translation t f) (suc (length (s .store))) (withCell l w s)) .ending) ≡ false
-        → Found (cellReads t most) rs (call l f) k ws (suc n) (stateOf (suc left) m)
+        → Found (cellReads t cellsAllowed) rs (call l f) k ws (suc n) (stateOf (suc left) m)
         (whereCell x (stateOf left m) (λ s. visit (bodyOf Translation t f) (suc (length (s .store))) (withCell l w s)))
     unfolding whereCell withCell isStop Ranges.within reach
     call-found l f w false e s h = absurd (true≢false h)
     call-found l f w true e s h =
         let c : Cell = record { label = l; previous = w } in
-        let more : length (m ++ (c ∷ [])) ≤ most = omega (arith, length-append m (c ∷ []), ltb-true (length m) most e) in
+        let more : length (m ++ (c ∷ [])) ≤ cellsAllowed = omega (arith, length-append m (c ∷ []), ltb-true (length m) cellsAllowed e) in
         let g = ih .finds (bodyOf Translation t f) (suc (length m)) (stateOf left (m ++ (c ∷ []))) (record { stands = stands-added l s; room = more }) h .comes in
         found _ rs (call-body (g .visits)) (record { went = takes-call c (g .arrives .went); shows = g .arrives .shows })
 
-  hooks : FindingHooks (cellReads t most) rs (byCells t most)
+  hooks : FindingHooks (cellReads t cellsAllowed) rs (byCells t cellsAllowed)
   unfolding byCells formalByCells callByCells
   hooks =
       record {
         formal-found = λ n ih k p left w m e s h. formal-found n ih k left m (s .room) p (s .stands) h;
-        call-found = λ n ih k l f left w m e s h. call-found n ih k left m (s .room) l f w (ltb (length m) most) refl (s .stands) h;
+        call-found = λ n ih k l f left w m e s h. call-found n ih k left m (s .room) l f w (ltb (length m) cellsAllowed) refl (s .stands) h;
       }
 
   -- a visit of cells that is not stopped is one of labels
-  pub finds-all : (nesting : ℕ) → Finding (cellReads t most) rs nesting (visited (byCells t most) t rs nesting)
-  finds-all nesting = visits-found (cellReads t most) rs (byCells t most) hooks nesting
+  pub finds-all : (nesting : ℕ) → Finding (cellReads t cellsAllowed) rs nesting (visited (byCells t cellsAllowed) t rs nesting)
+  finds-all nesting = visits-found (cellReads t cellsAllowed) rs (byCells t cellsAllowed) hooks nesting

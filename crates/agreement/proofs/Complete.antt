@@ -23,32 +23,32 @@ use Rattle.accepted.specs.Child.{left, right, condition, ifNonzero, ifZero}
 use Rattle.accepted.proofs.Names.{parameter-below, call-below}
 use Rattle.readback.proofs.Nodes.{number-becomes, reading-becomes, parameter-becomes, pattern-becomes, operator-becomes, conditional-becomes, call-becomes, build-becomes}
 use Rattle.readback.proofs.Nodes.{case-becomes, body-read, tag-read}
-use Rattle.rule_laws.specs.Visits.{Trace, constructor-came, ended-before, number-came, ended-first, Visits}
+use Rattle.rule_laws.specs.Derivations.{Trace, constructor-came, ended-before, number-came, ended-first, Derivation}
 use Rattle.agreement.specs.Corresponds.{At, Agrees, integers, constructors, ends, Visited}
 use Rattle.agreement.proofs.Corresponds.{ArgumentAt, argument-at, FieldAt, child-at, body-at, scrutinee-at, clause-at, argument-of, field-at, scrutinee-same}
 use Rattle.agreement.proofs.Meant.{result-agrees}
 
 -- by the node of the translation
 visited-as : {b : List ℕ} {rs : List ℤ} {k : ℕ} {ws : List ℕ} {td : TranslationNode} {c : Trace} {e : Ending (List ℕ)} {d : End}
-    → translationNodeOf (translation b) k ≡ td → Visits (translation b) rs td k ws c e → Agrees b rs e d → Visited b rs k ws d
+    → translationNodeOf (translation b) k ≡ td → Derivation (translation b) rs td k ws c e → Agrees b rs e d → Visited b rs k ws d
 visited-as {c} {e} h v a = record { trace = c; ending = e; visits = rw h v; agrees = a }
 
 -- a visit that ends with a number, with a constructor, with a fault
 record NumberVisit (b : List ℕ) (rs : List ℤ) (k : ℕ) (ws : List ℕ) (z : ℤ) : Type 0 where
   trace : Trace
-  visits : Visits (translation b) rs (translationNodeOf (translation b) k) k ws trace (Rule.value (Rule.integer z))
+  visits : Derivation (translation b) rs (translationNodeOf (translation b) k) k ws trace (Rule.value (Rule.integer z))
 
 record ConstructorVisit (b : List ℕ) (rs : List ℤ) (k : ℕ) (ws : List ℕ) (c : ℕ) (ns : List ℕ) (s : Setting) : Type 0 where
   trace : Trace
   tuple : ℕ
   labels : List ℕ
-  visits : Visits (translation b) rs (translationNodeOf (translation b) k) k ws trace (Rule.value (constructor tuple labels))
+  visits : Derivation (translation b) rs (translationNodeOf (translation b) k) k ws trace (Rule.value (constructor tuple labels))
   at : At b rs tuple labels s
   is : sheetNodeOf b tuple ≡ build c ns
 
 record FaultVisit (b : List ℕ) (rs : List ℤ) (k : ℕ) (ws : List ℕ) (n : ℕ) : Type 0 where
   trace : Trace
-  visits : Visits (translation b) rs (translationNodeOf (translation b) k) k ws trace (ended n)
+  visits : Derivation (translation b) rs (translationNodeOf (translation b) k) k ws trace (ended n)
 
 -- a parameter, by its argument
 parameter-visited : {b : List ℕ} {rs : List ℤ} {k : ℕ} {ws : List ℕ} {f i : ℕ} {s : Setting} {c : Closure} {d : End} → ArgumentAt b rs f i ws s → argumentOf s i ≡ some c
@@ -59,27 +59,27 @@ parameter-visited {b} {rs} {c} (argument-at {n} {ws = vs} {u} g h a) e p on =
     let z : Path Closure (record { node = n; setting = u }) c = cc in
     let y : n ≡ c .node = ap (λ (x : Closure). x .node) z in
     let v = on vs (subst (λ (x : Closure). At b rs (x .node) vs (x .setting)) z a) in
-    visited-as p (Visits.formal-actual (rw y at g) (v .visits)) (v .agrees)
+    visited-as p (Derivation.formal-actual (rw y at g) (v .visits)) (v .agrees)
 
 module _ {b : List ℕ} {rs : List ℤ} {k : ℕ} {ws : List ℕ} where
   number-visit : {z : ℤ} → Visited b rs k ws (value (integer z)) → NumberVisit b rs k ws z
   number-visit v = from (v .visits) (v .agrees)
     where
-      from : {c : Trace} {e : Ending (List ℕ)} {z : ℤ} → Visits (translation b) rs (translationNodeOf (translation b) k) k ws c e
+      from : {c : Trace} {e : Ending (List ℕ)} {z : ℤ} → Derivation (translation b) rs (translationNodeOf (translation b) k) k ws c e
           → Agrees b rs e (value (integer z)) → NumberVisit b rs k ws z
       from {c} v integers = record { trace = c; visits = v }
 
   constructor-visit : {c : ℕ} {ns : List ℕ} {s : Setting} → Visited b rs k ws (value (built c ns s)) → ConstructorVisit b rs k ws c ns s
   constructor-visit v = from (v .visits) (v .agrees)
     where
-      from : {x : Trace} {e : Ending (List ℕ)} {c : ℕ} {ns : List ℕ} {s : Setting} → Visits (translation b) rs (translationNodeOf (translation b) k) k ws x e
+      from : {x : Trace} {e : Ending (List ℕ)} {c : ℕ} {ns : List ℕ} {s : Setting} → Derivation (translation b) rs (translationNodeOf (translation b) k) k ws x e
           → Agrees b rs e (value (built c ns s)) → ConstructorVisit b rs k ws c ns s
       from {x} v (constructors {k = m} {ws = vs} a h) = record { trace = x; tuple = m; labels = vs; visits = v; at = a; is = h }
 
   fault-visit : {n : ℕ} → Visited b rs k ws (fault n) → FaultVisit b rs k ws n
   fault-visit v = from (v .visits) (v .agrees)
     where
-      from : {c : Trace} {e : Ending (List ℕ)} {n : ℕ} → Visits (translation b) rs (translationNodeOf (translation b) k) k ws c e
+      from : {c : Trace} {e : Ending (List ℕ)} {n : ℕ} → Derivation (translation b) rs (translationNodeOf (translation b) k) k ws c e
           → Agrees b rs e (fault n) → FaultVisit b rs k ws n
       from {c} v ends = record { trace = c; visits = v }
 
@@ -94,7 +94,7 @@ module _ {b : List ℕ} {rs : List ℤ} {k : ℕ} {ws : List ℕ} where
       let z : Path Closure (record { node = x .node; setting = x .setting }) c = cc in
       let y : x .node ≡ c .node = ap (λ (x : Closure). x .node) z in
       let v = on (x .labels) (subst (λ (o : Closure). At b rs (o .node) (x .labels) (o .setting)) z (x .at)) in
-      visited-as p (Visits.select-field (rw q at (x .visits)) (rw y at (x .there)) (v .visits)) (v .agrees)
+      visited-as p (Derivation.select-field (rw q at (x .visits)) (rw y at (x .there)) (v .visits)) (v .agrees)
 
   -- an if, by the chosen node
   branch-visited : {n p q : ℕ} {z : ℤ} {d : End} (x : Bool) → isZero z ≡ x
@@ -103,23 +103,23 @@ module _ {b : List ℕ} {rs : List ℤ} {k : ℕ} {ws : List ℕ} where
       → Visited b rs (cond x q p) ws d
       → Visited b rs k ws d
   branch-visited x h p f g =
-      visited-as p (Visits.if-chosen {d = g .trace} {e = g .ending} (f .visits) (rw h (g .visits))) (g .agrees)
+      visited-as p (Derivation.if-chosen {d = g .trace} {e = g .ending} (f .visits) (rw h (g .visits))) (g .agrees)
 
   -- a call, by the function's body
   call-visited : {f j l : ℕ} {d : End} → bodyOf Translation (translation b) f ≡ j
       → translationNodeOf (translation b) k ≡ TranslationNode.call l f
       → Visited b rs j (l ∷ ws) d
       → Visited b rs k ws d
-  call-visited q p v = visited-as p (Visits.call-body {a = v .trace} {e = v .ending} (rw q (v .visits))) (v .agrees)
+  call-visited q p v = visited-as p (Derivation.call-body {a = v .trace} {e = v .ending} (rw q (v .visits))) (v .agrees)
 
 module _ (b : List ℕ) (accepted : sheetVerdict b ≡ Accepted) {rs : List ℤ} where
   -- by the rule with which the node means its end
   pub complete : {nd : SheetNode} {s : Setting} {d : End} {ws : List ℕ} → Means b rs nd s d → (k : ℕ) → sheetNodeOf b k ≡ nd
       → At b rs k ws s
       → Visited b rs k ws d
-  complete number-itself k h a = visited-as (number-becomes b accepted k (a .below) h) Visits.number-itself integers
-  complete reading-value k h a = visited-as (reading-becomes b accepted k (a .below) h) Visits.reading-value integers
-  complete build-itself k h a = visited-as (build-becomes b accepted k (a .below) h) Visits.tuple-itself (constructors a h)
+  complete number-itself k h a = visited-as (number-becomes b accepted k (a .below) h) Derivation.number-itself integers
+  complete reading-value k h a = visited-as (reading-becomes b accepted k (a .below) h) Derivation.reading-value integers
+  complete build-itself k h a = visited-as (build-becomes b accepted k (a .below) h) Derivation.tuple-itself (constructors a h)
   complete (parameter-argument {c} p m) k h a =
       parameter-visited (argument-of b accepted (a .corresponds) (parameter-below b accepted k (a .below) h)) p
       (parameter-becomes b accepted k (a .below) h)
@@ -134,17 +134,17 @@ module _ (b : List ℕ) (accepted : sheetVerdict b ≡ Accepted) {rs : List ℤ}
       let f = constructor-visit (complete m n refl (scrutinee-at b accepted a h)) in
       let g = complete m′ j refl (clause-at b accepted a h (f .visits) (f .at) (f .is) p) in
       let q = tag-read b accepted (f .tuple) (f .at .below) (f .is) in
-      visited-as (case-becomes b accepted k (a .below) h) (Visits.case-chosen (f .visits) (rw q p) (g .visits)) (g .agrees)
+      visited-as (case-becomes b accepted k (a .below) h) (Derivation.case-chosen (f .visits) (rw q p) (g .visits)) (g .agrees)
   complete (case-unmatched {n} m p) k h a =
       let f = constructor-visit (complete m n refl (scrutinee-at b accepted a h)) in
       let q = tag-read b accepted (f .tuple) (f .at .below) (f .is) in
-      visited-as (case-becomes b accepted k (a .below) h) (Visits.case-unmatched (f .visits) (rw q p)) ends
+      visited-as (case-becomes b accepted k (a .below) h) (Derivation.case-unmatched (f .visits) (rw q p)) ends
   complete (case-number {n} m) k h a =
       let f = number-visit (complete m n refl (scrutinee-at b accepted a h)) in
-      visited-as (case-becomes b accepted k (a .below) h) (Visits.case-fails (f .visits) number-came) ends
+      visited-as (case-becomes b accepted k (a .below) h) (Derivation.case-fails (f .visits) number-came) ends
   complete (case-fault {n} m) k h a =
       let f = fault-visit (complete m n refl (scrutinee-at b accepted a h)) in
-      visited-as (case-becomes b accepted k (a .below) h) (Visits.case-fails (f .visits) ended-first) ends
+      visited-as (case-becomes b accepted k (a .below) h) (Derivation.case-fails (f .visits) ended-first) ends
   complete (if-nonzero {n} {p} m q m′) k h a =
       branch-visited false q (conditional-becomes b accepted k (a .below) h)
       (number-visit (complete m n refl (child-at b accepted a h refl condition)))
@@ -155,25 +155,25 @@ module _ (b : List ℕ) (accepted : sheetVerdict b ≡ Accepted) {rs : List ℤ}
       (complete m′ j refl (child-at b accepted a h refl ifZero))
   complete (if-constructor {n} m) k h a =
       let f = constructor-visit (complete m n refl (child-at b accepted a h refl condition)) in
-      visited-as (conditional-becomes b accepted k (a .below) h) (Visits.if-fails (f .visits) constructor-came) ends
+      visited-as (conditional-becomes b accepted k (a .below) h) (Derivation.if-fails (f .visits) constructor-came) ends
   complete (if-fault {n} m) k h a =
       let f = fault-visit (complete m n refl (child-at b accepted a h refl condition)) in
-      visited-as (conditional-becomes b accepted k (a .below) h) (Visits.if-fails (f .visits) ended-before) ends
+      visited-as (conditional-becomes b accepted k (a .below) h) (Derivation.if-fails (f .visits) ended-before) ends
   complete (operator-numbers {o} {l} {r} {x} {y} m m′) k h a =
       let f = number-visit (complete m l refl (child-at b accepted a h refl left)) in
       let g = number-visit (complete m′ r refl (child-at b accepted a h refl right)) in
-      visited-as (operator-becomes b accepted k (a .below) h) (Visits.operator-numbers (f .visits) (g .visits)) (result-agrees (computed o x y))
+      visited-as (operator-becomes b accepted k (a .below) h) (Derivation.operator-numbers (f .visits) (g .visits)) (result-agrees (computed o x y))
   complete (left-constructor {l} m) k h a =
       let f = constructor-visit (complete m l refl (child-at b accepted a h refl left)) in
-      visited-as (operator-becomes b accepted k (a .below) h) (Visits.left-fails (f .visits) constructor-came) ends
+      visited-as (operator-becomes b accepted k (a .below) h) (Derivation.left-fails (f .visits) constructor-came) ends
   complete (left-fault {l} m) k h a =
       let f = fault-visit (complete m l refl (child-at b accepted a h refl left)) in
-      visited-as (operator-becomes b accepted k (a .below) h) (Visits.left-fails (f .visits) ended-before) ends
+      visited-as (operator-becomes b accepted k (a .below) h) (Derivation.left-fails (f .visits) ended-before) ends
   complete (right-constructor {l} {r} m m′) k h a =
       let f = number-visit (complete m l refl (child-at b accepted a h refl left)) in
       let g = constructor-visit (complete m′ r refl (child-at b accepted a h refl right)) in
-      visited-as (operator-becomes b accepted k (a .below) h) (Visits.right-fails (f .visits) (g .visits) constructor-came) ends
+      visited-as (operator-becomes b accepted k (a .below) h) (Derivation.right-fails (f .visits) (g .visits) constructor-came) ends
   complete (right-fault {l} {r} m m′) k h a =
       let f = number-visit (complete m l refl (child-at b accepted a h refl left)) in
       let g = fault-visit (complete m′ r refl (child-at b accepted a h refl right)) in
-      visited-as (operator-becomes b accepted k (a .below) h) (Visits.right-fails (f .visits) (g .visits) ended-before) ends
+      visited-as (operator-becomes b accepted k (a .below) h) (Derivation.right-fails (f .visits) (g .visits) ended-before) ends

@@ -7,20 +7,20 @@ use native.Mathlib.Omega.{arith}
 use lib.ListN.{length}
 use Rattle.definitions.specs.Cells.{Cell}
 use Rattle.accepted.proofs.Elements.{element-below, element-front, element-back}
-use Rattle.agreement.specs.Contexts.{Stands, outermost, within, Kept}
+use Rattle.agreement.specs.Contexts.{Stands, outermost, within, CellsAmong}
 
 -- cells stay where they are
-pub kept-all : (cs : List Cell) → Kept cs cs
+pub kept-all : (cs : List Cell) → CellsAmong cs cs
 kept-all cs = record { same = λ c l e. e }
 
-pub kept-then : {cs ds es : List Cell} → Kept cs ds → Kept ds es → Kept cs es
+pub kept-then : {cs ds es : List Cell} → CellsAmong cs ds → CellsAmong ds es → CellsAmong cs es
 kept-then p q = record { same = λ c l e. q .same c l (p .same c l e) }
 
-pub kept-more : (cs ds : List Cell) → Kept cs (cs ++ ds)
+pub kept-more : (cs ds : List Cell) → CellsAmong cs (cs ++ ds)
 kept-more cs ds = record { same = λ c l e. rw (element-front cs ds c (element-below cs c e)) e }
 
 -- and stand for what they stood for
-pub stands-kept : {cs ds : List Cell} {w : ℕ} {ws : List ℕ} → Kept cs ds → Stands cs w ws → Stands ds w ws
+pub stands-kept : {cs ds : List Cell} {w : ℕ} {ws : List ℕ} → CellsAmong cs ds → Stands cs w ws → Stands ds w ws
 stands-kept p outermost = outermost
 stands-kept p (within e s) = within (p .same _ _ e) (stands-kept p s)
 

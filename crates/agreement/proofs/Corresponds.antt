@@ -30,7 +30,7 @@ use Rattle.accepted.proofs.Clauses.{chosen-found}
 use Rattle.accepted.proofs.Places.{body-place, same-place, scrutinee-place, chosen-place}
 use Rattle.accepted.proofs.Patterns.{scrutinee-is, pattern-held}
 use Rattle.readback.proofs.Nodes.{actual-argument, tuple-fields-read}
-use Rattle.rule_laws.specs.Visits.{Trace, Visits}
+use Rattle.rule_laws.specs.Derivations.{Trace, Derivation}
 use Rattle.agreement.specs.Corresponds.{Corresponds, outset, called, held, At}
 
 -- the argument of a function's parameter i: the actual that the head label names, under the tail
@@ -55,7 +55,7 @@ pub record FieldAt (b : List ℕ) (rs : List ℤ) (f i : ℕ) (ws : List ℕ) (s
   pub trace : Trace
   pub tuple : ℕ
   pub labels : List ℕ
-  pub visits : Visits (translation b) rs (translationNodeOf (translation b) scrutinee) scrutinee ws trace (value (constructor tuple labels))
+  pub visits : Derivation (translation b) rs (translationNodeOf (translation b) scrutinee) scrutinee ws trace (value (constructor tuple labels))
   pub node : ℕ
   pub setting : Setting
   pub there : getElem? (tupleFields (translation b) tuple) i ≡ some node
@@ -105,7 +105,7 @@ module _ (b : List ℕ) (accepted : sheetVerdict b ≡ Accepted) {rs : List ℤ}
 
       -- to the clause of the constructor with which the scrutinee ends
       pub clause-at : {m j c : ℕ} {vs ns : List ℕ} {u : Setting} {d : Trace}
-          → Visits (translation b) rs (translationNodeOf (translation b) n) n ws d (value (constructor m vs))
+          → Derivation (translation b) rs (translationNodeOf (translation b) n) n ws d (value (constructor m vs))
           → At b rs m vs u
           → sheetNodeOf b m ≡ build c ns
           → chosen cs c ≡ some j

@@ -47,7 +47,7 @@ any-numbers : (b : List ℕ) (rs : List ℤ) → Closed b rs
 any-numbers b rs =
     record { Number = λ z. Unit {0}; literals = λ k e. tt; readings = λ i. tt; tags = λ k. tt; operators = λ o p q e. tt }
 
-module _ (b : List ℕ) (rs : List ℤ) (most : ℕ) (N : Closed b rs) where
+module _ (b : List ℕ) (rs : List ℤ) (cellsAllowed : ℕ) (N : Closed b rs) where
   -- these numbers come out, any constructors, and the ends that are known
   abbrev known : Keeps b rs ℕ (List Cell)
   known =
@@ -66,7 +66,7 @@ module _ (b : List ℕ) (rs : List ℤ) (most : ℕ) (N : Closed b rs) where
         number-reading = N .readings;
         number-tag = λ {m} {k} h. N .tags k;
         number-computed = N .operators;
-        Ends = Known;
+        MayEnd = Known;
         stop-ends = stop-known;
         fault-ends = fault-known;
       }
@@ -84,17 +84,17 @@ module _ (b : List ℕ) (rs : List ℤ) (most : ℕ) (N : Closed b rs) where
     cell-kept true f label w s =
         kept-onward known (le-refl (s .left)) tt (ih .keeps (bodyOf Translation b f) (suc (length (s .store))) (withCell label w s) tt)
 
-  hooks : KeepingHooks known (byCells b most)
+  hooks : KeepingHooks known (byCells b cellsAllowed)
   unfolding byCells formalByCells callByCells
   hooks =
       record {
-        formal-keeps = λ n ih k p w s e h. tail-kept (visited (byCells b most) b rs n) ih p (cellOf (s .store) w) s;
-        call-keeps = λ n ih k l f w s e h. cell-kept (visited (byCells b most) b rs n) ih (ltb (length (s .store)) most) f l w s;
+        formal-keeps = λ n ih k p w s e h. tail-kept (visited (byCells b cellsAllowed) b rs n) ih p (cellOf (s .store) w) s;
+        call-keeps = λ n ih k l f w s e h. cell-kept (visited (byCells b cellsAllowed) b rs n) ih (ltb (length (s .store)) cellsAllowed) f l w s;
       }
 
-  rule-proper : (steps nesting : ℕ) → Proper known (ruleEnd b rs steps nesting most .state .store) (ruleEnd b rs steps nesting most .ending)
+  rule-proper : (steps nesting : ℕ) → Proper known (ruleEnd b rs steps nesting cellsAllowed .state .store) (ruleEnd b rs steps nesting cellsAllowed .ending)
   unfolding ruleEnd evaluation
-  rule-proper steps nesting = visit-keeps known (byCells b most) hooks nesting .keeps (bodyOf Translation b 0) 0 _ tt .proper
+  rule-proper steps nesting = visit-keeps known (byCells b cellsAllowed) hooks nesting .keeps (bodyOf Translation b 0) 0 _ tt .proper
 
   outcome-known : {m : List Cell} {e : Ending ℕ} → Proper known m e → Known (endingOutcome b e .outcome)
   unfolding endingOutcome numberOutcome constructorOutcome endOutcome isAnswer
@@ -108,9 +108,9 @@ module _ (b : List ℕ) (rs : List ℤ) (most : ℕ) (N : Closed b rs) where
   value-among h (a-constructor {k} {c} t) = N .tags k
   value-among h (an-end n) = h
 
-  pub rule-value : (steps nesting : ℕ) → N .Number (pos 0) → N .Number (endingOutcome b (ruleEnd b rs steps nesting most .ending) .value)
+  pub rule-value : (steps nesting : ℕ) → N .Number (pos 0) → N .Number (endingOutcome b (ruleEnd b rs steps nesting cellsAllowed .ending) .value)
   rule-value steps nesting h = value-among h (rule-proper steps nesting)
 
-pub rule-known : (b : List ℕ) (rs : List ℤ) (most steps nesting : ℕ)
-    → (isAnswer (endingOutcome b (ruleEnd b rs steps nesting most .ending) .outcome) || isStop (endingOutcome b (ruleEnd b rs steps nesting most .ending) .outcome)) ≡ true
-rule-known b rs most steps nesting = outcome-known b rs most (any-numbers b rs) (rule-proper b rs most (any-numbers b rs) steps nesting)
+pub rule-known : (b : List ℕ) (rs : List ℤ) (cellsAllowed steps nesting : ℕ)
+    → (isAnswer (endingOutcome b (ruleEnd b rs steps nesting cellsAllowed .ending) .outcome) || isStop (endingOutcome b (ruleEnd b rs steps nesting cellsAllowed .ending) .outcome)) ≡ true
+rule-known b rs cellsAllowed steps nesting = outcome-known b rs cellsAllowed (any-numbers b rs) (rule-proper b rs cellsAllowed (any-numbers b rs) steps nesting)

@@ -18,7 +18,7 @@ use Rattle.definitions.specs.Rule.{Ending, value, ended, integer, constructor}
 use Rattle.agreement.specs.Meaning.{Setting, End, endOf, Means}
 use Rattle.agreement.specs.Meaning
 use Rattle.definitions.specs.declared.Layout.the-variants.{Sheet}
-use Rattle.rule_laws.specs.Visits.{Trace, NotNumber, constructor-came, ended-before, NotConstructor, number-came, ended-first, endingOf, Visits}
+use Rattle.rule_laws.specs.Derivations.{Trace, NotNumber, constructor-came, ended-before, NotConstructor, number-came, ended-first, endingOf, Derivation}
 use Rattle.agreement.specs.Corresponds.{At, Agrees, integers, constructors, ends, Meant}
 use Rattle.agreement.proofs.Unique.{visits-one}
 use Rattle.agreement.proofs.Corresponds.{ArgumentAt, argument-at, FieldAt}
@@ -116,12 +116,12 @@ module _ {b : List ℕ} {rs : List ℤ} where
 
     -- a pattern variable, by the field
     module _ {f i n : ℕ} {ws : List ℕ} (x : FieldAt b rs f i ws s) (same : x .scrutinee ≡ n) where
-      pub scrutinee-ends : {a : Trace} {e : Ending (List ℕ)} → Visits (translation b) rs (translationNodeOf (translation b) n) n ws a e
+      pub scrutinee-ends : {a : Trace} {e : Ending (List ℕ)} → Derivation (translation b) rs (translationNodeOf (translation b) n) n ws a e
           → e ≡ value (constructor (x .tuple) (x .labels))
       scrutinee-ends v = visits-one n v (rw same at (x .visits))
 
       pub pattern-meant : {m j : ℕ} {vs : List ℕ} {a : Trace} {e : Ending (List ℕ)}
-          → Visits (translation b) rs (translationNodeOf (translation b) n) n ws a (value (constructor m vs))
+          → Derivation (translation b) rs (translationNodeOf (translation b) n) n ws a (value (constructor m vs))
           → getElem? (tupleFields (translation b) m) i ≡ some j
           → ((u : Setting) → At b rs j vs u → Meant b rs (sheetNodeOf b j) u e)
           → Meant b rs (patternVariable i) s e
@@ -138,7 +138,7 @@ module _ {b : List ℕ} {rs : List ℤ} where
           }
 
       pub pattern-listed : {m : ℕ} {vs : List ℕ} {a : Trace}
-          → Visits (translation b) rs (translationNodeOf (translation b) n) n ws a (value (constructor m vs))
+          → Derivation (translation b) rs (translationNodeOf (translation b) n) n ws a (value (constructor m vs))
           → getElem? (tupleFields (translation b) m) i ≡ none → ⊥
       pattern-listed {m} v h =
           let p = scrutinee-ends v in

@@ -52,17 +52,17 @@ stop-shown t (value (constructor k w)) = refl
 stop-shown t (ended n) = refl
 
 -- an end that is a value, or one of the run faults that the meaning has
-data Own : End → Type 0 where
-  a-value : {v : Meaning.Value} → Own (Meaning.value v)
-  a-fault : {n : ℕ} → numberWanted ≤ n → n ≤ zeroDivisor → Own (Meaning.fault n)
+data OwnEnd : End → Type 0 where
+  a-value : {v : Meaning.Value} → OwnEnd (Meaning.value v)
+  a-fault : {n : ℕ} → numberWanted ≤ n → n ≤ zeroDivisor → OwnEnd (Meaning.fault n)
 
-own-result : {c : Computed} → Result c → Own (endOf c)
+own-result : {c : Computed} → Result c → OwnEnd (endOf c)
 unfolding endOf
 own-result a-number = a-value
 own-result no-divisor = a-fault {n = zeroDivisor} (omega arith) (omega arith)
 
 -- what a node means is such an end
-own-meant : {b : List ℕ} {rs : List ℤ} {nd : SheetNode} {s : Setting} {d : End} → Means b rs nd s d → Own d
+own-meant : {b : List ℕ} {rs : List ℤ} {nd : SheetNode} {s : Setting} {d : End} → Means b rs nd s d → OwnEnd d
 own-meant number-itself = a-value
 own-meant reading-value = a-value
 own-meant build-itself = a-value
@@ -84,7 +84,7 @@ own-meant (right-constructor m m′) = a-fault {n = numberWanted} (omega arith) 
 own-meant (right-fault m m′) = own-meant m′
 
 -- so a sheet's own answer is an answer, and never the fault 18 or 19
-answer-end : (d : End) → Own d → isAnswer (outcomeOf d .outcome) ≡ true
+answer-end : (d : End) → OwnEnd d → isAnswer (outcomeOf d .outcome) ≡ true
 unfolding outcomeOf numberOutcome constructorOutcome endOutcome isAnswer
 answer-end (Meaning.value (Meaning.integer z)) a-value = refl
 answer-end (Meaning.value (Meaning.built c ns s)) a-value = refl
@@ -93,7 +93,7 @@ answer-end (Meaning.fault n) (a-fault l g) = fault-answer n l (omega arith)
 pub own-answer : {b : List ℕ} {rs : List ℤ} {a : Outcome} → OwnAnswer b rs a → isAnswer (a .outcome) ≡ true
 own-answer o = rw (o .agrees) at (answer-end (o .end) (own-meant (o .means)))
 
-listed-end : (d : End) → Own d → (outcomeOf d .outcome ≡ noActual → ⊥) × (outcomeOf d .outcome ≡ noField → ⊥)
+listed-end : (d : End) → OwnEnd d → (outcomeOf d .outcome ≡ noActual → ⊥) × (outcomeOf d .outcome ≡ noField → ⊥)
 unfolding outcomeOf numberOutcome constructorOutcome endOutcome
 listed-end (Meaning.value (Meaning.integer z)) a-value = (λ e. omega (arith, e), λ e. omega (arith, e))
 listed-end (Meaning.value (Meaning.built c ns s)) a-value = (λ e. omega (arith, e), λ e. omega (arith, e))

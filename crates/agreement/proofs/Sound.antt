@@ -19,8 +19,8 @@ use Rattle.definitions.specs.declared.Verdict.the-variants.{Accepted}
 use Rattle.accepted.specs.Child.{left, right, condition}
 use Rattle.accepted.proofs.Names.{parameter-below, call-below}
 use Rattle.readback.proofs.Nodes.{body-read, tag-read}
-use Rattle.rule_laws.specs.Visits.{Trace, Visits, number-itself, reading-value, tuple-itself, formal-actual, formal-beyond, formal-outside, call-body, select-field, select-beyond}
-use Rattle.rule_laws.specs.Visits.{select-fails, case-chosen, case-unmatched, case-fails, if-chosen, if-fails, operator-numbers, left-fails, right-fails}
+use Rattle.rule_laws.specs.Derivations.{Trace, Derivation, number-itself, reading-value, tuple-itself, formal-actual, formal-beyond, formal-outside, call-body, select-field, select-beyond}
+use Rattle.rule_laws.specs.Derivations.{select-fails, case-chosen, case-unmatched, case-fails, if-chosen, if-fails, operator-numbers, left-fails, right-fails}
 use Rattle.agreement.specs.Corresponds.{At, integers, constructors, Meant}
 use Rattle.agreement.proofs.Corresponds.{child-at, branch-at, body-at, scrutinee-at, clause-at, argument-of, field-at, scrutinee-same}
 use Rattle.agreement.proofs.Becomes.{Becomes, becomes-number, becomes-reading, becomes-formal, becomes-select, becomes-operator, becomes-conditional, becomes-call}
@@ -31,7 +31,7 @@ use Rattle.agreement.proofs.Meant.{call-meant, parameter-meant, paramet
 module _ (b : List ℕ) (accepted : sheetVerdict b ≡ Accepted) {rs : List ℤ} where
   -- by the rule with which the visit ends
   pub sound : {k : ℕ} {nd : SheetNode} {td : TranslationNode} {ws : List ℕ} {c : Trace} {e : Ending (List ℕ)} {s : Setting}
-      → Visits (translation b) rs td k ws c e → Becomes b k nd td → sheetNodeOf b k ≡ nd → At b rs k ws s
+      → Derivation (translation b) rs td k ws c e → Becomes b k nd td → sheetNodeOf b k ≡ nd → At b rs k ws s
       → Meant b rs nd s e
   sound number-itself becomes-number h a = record { end = _; means = Means.number-itself; agrees = integers }
   sound reading-value becomes-reading h a = record { end = _; means = Means.reading-value; agrees = integers }

@@ -8,20 +8,20 @@ use lib.IntN.{ℤ}
 use lib.ListN.{length}
 use Rattle.definitions.specs.TranslationNodes.{translationNodeOf}
 use Rattle.definitions.specs.Rule.{Ending}
-use Rattle.rule_laws.specs.Visits.{Trace, depthOf, stepsOf, cellsOf, Visits}
+use Rattle.rule_laws.specs.Derivations.{Trace, depthOf, stepsOf, cellsOf, Derivation}
 use Rattle.agreement.proofs.Contexts.{standing}
 use Rattle.agreement.proofs.CellReads.{shows-one}
 use Rattle.agreement.proofs.LabelsToCells.{follows}
 
 -- two endings of one visit are equal
 pub visits-one : {t : List ℕ} {rs : List ℤ} (k : ℕ) {ws : List ℕ} {a d : Trace} {e e′ : Ending (List ℕ)}
-    → Visits t rs (translationNodeOf t k) k ws a e → Visits t rs (translationNodeOf t k) k ws d e′
+    → Derivation t rs (translationNodeOf t k) k ws a e → Derivation t rs (translationNodeOf t k) k ws d e′
     → e ≡ e′
 visits-one {t} {rs} k {ws} {a} {d} v u =
     let s = standing ws in
     let nesting = depthOf a + depthOf d in
     let left = stepsOf a + stepsOf d in
-    let most = length (s .store) + (cellsOf a + cellsOf d) in
+    let cellsAllowed = length (s .store) + (cellsOf a + cellsOf d) in
     shows-one
-    (follows t rs most nesting left k (s .cell) v (s .stands) (record { depth = omega arith; steps = omega arith; cells = omega arith }) .shows)
-    (follows t rs most nesting left k (s .cell) u (s .stands) (record { depth = omega arith; steps = omega arith; cells = omega arith }) .shows)
+    (follows t rs cellsAllowed nesting left k (s .cell) v (s .stands) (record { depth = omega arith; steps = omega arith; cells = omega arith }) .shows)
+    (follows t rs cellsAllowed nesting left k (s .cell) u (s .stands) (record { depth = omega arith; steps = omega arith; cells = omega arith }) .shows)

@@ -15,14 +15,14 @@ use Rattle.definitions.specs.declared.Verdict.the-variants.{Accepted, Refused}
 
 -- the outcome and value of the evaluation rule at a step, a nesting and a cell allowance, taken without ceilings
 unfoldable pub ruleOutcome : List ℕ → List ℤ → ℕ → ℕ → ℕ → Outcome
-ruleOutcome t rs steps nesting most = endingOutcome t (ruleEnd t rs steps nesting most .ending)
+ruleOutcome t rs steps nesting cellsAllowed = endingOutcome t (ruleEnd t rs steps nesting cellsAllowed .ending)
 
 -- the rule gives this outcome and value at some allowances
 pub record RuleGives (t : List ℕ) (rs : List ℤ) (a : Outcome) : Type 0 where
   pub steps : ℕ
   pub nesting : ℕ
-  pub most : ℕ
-  pub gives : ruleOutcome t rs steps nesting most ≡ a
+  pub cellsAllowed : ℕ
+  pub gives : ruleOutcome t rs steps nesting cellsAllowed ≡ a
 
 -- the outcome and value of a run's answer
 unfoldable pub answerOutcome : Answer → Outcome
@@ -30,21 +30,21 @@ answerOutcome a = record { outcome = a .outcome; value = a .value }
 
 -- the answer of a run of a sheet's translation, over lent cells that held these bytes before
 unfoldable pub sheetRun : List ℕ → List ℤ → ℕ → ℕ → ℕ → List ℕ → Answer
-sheetRun b rs steps nesting most before = runAnswer (translation b) rs steps nesting most (length before)
+sheetRun b rs steps nesting cellsAllowed before = runAnswer (translation b) rs steps nesting cellsAllowed (length before)
 
 -- a run that is refused or stopped
-pub data Unanswered (b : List ℕ) (rs : List ℤ) (steps nesting most : ℕ) (before : List ℕ) : Type 0 where
+pub data Unanswered (b : List ℕ) (rs : List ℤ) (steps nesting cellsAllowed : ℕ) (before : List ℕ) : Type 0 where
   is-refused : {n p : ℕ}
-      → runVerdict (translation b) rs nesting most (length before) ≡ Refused n p
-      → sheetRun b rs steps nesting most before ≡ refusal n p
-      → Unanswered b rs steps nesting most before
-  is-stopped : runVerdict (translation b) rs nesting most (length before) ≡ Accepted
-      → isStop (sheetRun b rs steps nesting most before .outcome) ≡ true
-      → Unanswered b rs steps nesting most before
+      → runVerdict (translation b) rs nesting cellsAllowed (length before) ≡ Refused n p
+      → sheetRun b rs steps nesting cellsAllowed before ≡ refusal n p
+      → Unanswered b rs steps nesting cellsAllowed before
+  is-stopped : runVerdict (translation b) rs nesting cellsAllowed (length before) ≡ Accepted
+      → isStop (sheetRun b rs steps nesting cellsAllowed before .outcome) ≡ true
+      → Unanswered b rs steps nesting cellsAllowed before
 
 -- how a run ends: refused or stopped, or with the sheet's own outcome and value
-pub data RunEnds (b : List ℕ) (rs : List ℤ) (steps nesting most : ℕ) (before : List ℕ) : Type 0 where
-  without-answer : Unanswered b rs steps nesting most before → RunEnds b rs steps nesting most before
-  with-own : runVerdict (translation b) rs nesting most (length before) ≡ Accepted
-      → OwnAnswer b rs (answerOutcome (sheetRun b rs steps nesting most before))
-      → RunEnds b rs steps nesting most before
+pub data RunEnds (b : List ℕ) (rs : List ℤ) (steps nesting cellsAllowed : ℕ) (before : List ℕ) : Type 0 where
+  without-answer : Unanswered b rs steps nesting cellsAllowed before → RunEnds b rs steps nesting cellsAllowed before
+  with-own : runVerdict (translation b) rs nesting cellsAllowed (length before) ≡ Accepted
+      → OwnAnswer b rs (answerOutcome (sheetRun b rs steps nesting cellsAllowed before))
+      → RunEnds b rs steps nesting cellsAllowed before

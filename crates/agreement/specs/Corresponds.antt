@@ -15,7 +15,7 @@ use Rattle.definitions.specs.Rule.{Ending, value, ended, integer, constructor}
 use Rattle.agreement.specs.Meaning.{Setting, empty, entered, holding, End, Means}
 use Rattle.agreement.specs.Meaning
 use Rattle.definitions.specs.declared.Layout.the-variants.{Sheet}
-use Rattle.rule_laws.specs.Visits.{Trace, Visits}
+use Rattle.rule_laws.specs.Derivations.{Trace, Derivation}
 
 -- in function f, in the clause of this constructor or in none, these labels and this setting
 pub data Corresponds (b : List ℕ) (rs : List ℤ) : ℕ → Option ℕ → List ℕ → Setting → Type 0 where
@@ -31,7 +31,7 @@ pub data Corresponds (b : List ℕ) (rs : List ℤ) : ℕ → Option ℕ → Lis
   -- a clause: the scrutinee, visited under these labels, ends with the constructor that the setting holds
   held : {f n m c : ℕ} {cs : List Clause} {a : Trace} {ws vs ns : List ℕ} {s u : Setting}
       → sheetNodeOf b (bodyOf Sheet b f) ≡ caseOf n cs
-      → Visits (translation b) rs (translationNodeOf (translation b) n) n ws a (value (constructor m vs))
+      → Derivation (translation b) rs (translationNodeOf (translation b) n) n ws a (value (constructor m vs))
       → m < nodes b
       → sheetNodeOf b m ≡ build c ns
       → Corresponds b rs (ownerOf Sheet b m) (clauseWithin b (nodes b) m) vs u
@@ -62,5 +62,5 @@ pub record Meant (b : List ℕ) (rs : List ℤ) (n : SheetNode) (s : Setting) (e
 pub record Visited (b : List ℕ) (rs : List ℤ) (k : ℕ) (ws : List ℕ) (d : End) : Type 0 where
   pub trace : Trace
   pub ending : Ending (List ℕ)
-  pub visits : Visits (translation b) rs (translationNodeOf (translation b) k) k ws trace ending
+  pub visits : Derivation (translation b) rs (translationNodeOf (translation b) k) k ws trace ending
   pub agrees : Agrees b rs ending d

@@ -4,11 +4,11 @@ ghost use Rattle.definitions.specs.Run.{allowancesFit};
 use definitions::sizes::CELL_BYTES;
 use definitions::sizes::MOST_CELLS;
 use definitions::sizes::MOST_NESTING;
-use file_records::records::wide32;
+use widths::wide32;
 
 // Whether the allowances are within their ceilings and the cells are lent: 4 bytes for each.
-pub fn allowed(nesting: u32, most: u32, lent: usize) -> bool
-    ensures { λ r. ⌜ r ≡ allowancesFit nesting most lent ⌝ }
+pub fn allowed(nesting: u32, cells_allowed: u32, lent: usize) -> bool
+    ensures { λ r. ⌜ r ≡ allowancesFit nesting «cells_allowed» lent ⌝ }
 {
     if nesting < 1 {
         return false;
@@ -16,8 +16,8 @@ pub fn allowed(nesting: u32, most: u32, lent: usize) -> bool
     if MOST_NESTING < nesting {
         return false;
     }
-    if MOST_CELLS < most {
+    if MOST_CELLS < cells_allowed {
         return false;
     }
-    CELL_BYTES * wide32(most) <= lent
+    CELL_BYTES * wide32(cells_allowed) <= lent
 }

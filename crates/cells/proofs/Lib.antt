@@ -1,4 +1,2 @@
-pub mod Writing
 pub mod Places
 pub mod Walks
-pub mod Records

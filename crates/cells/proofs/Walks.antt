@@ -16,7 +16,7 @@ use Rattle.definitions.specs.Listing.{Listing, labels, refused, labelAt, previo
 use Rattle.cells.specs.declared.listing.Listed.{Listed}
 use Rattle.cells.specs.declared.listing.Listed.the-variants.{Count, Refused}
 use Rattle.cells.specs.Listings.{counted, written, listedOver, Listable, Lists}
-use Rattle.cells.proofs.Writing.{over-front}
+use Rattle.laws.proofs.Stores.{over-front}
 
 or-false : (t u : Bool) → (t || u) ≡ false → (t ≡ false) × (u ≡ false)
 or-false false u e = (refl, e)
@@ -104,7 +104,7 @@ pub record CountedSo (b : List ℕ) (c made at n : ℕ) : Type 0 where
 pub count-none : (b : List ℕ) (c : ℕ) → CountedSo b c (length b / cellSize) c 0
 count-none b c = record { rest = more-none (counted (labelsWithin b c c)); bound = omega arith; cells = refl }
 
-module _ (b : List ℕ) (c made at n : ℕ) (w : CountedSo b c made at n) where
+module _ {b : List ℕ} {c made at n : ℕ} (w : CountedSo b c made at n) where
   damage-counted : (at ≡ 0 → ⊥) → damaged b at ≡ true → Refused outOfRange at ≡ counted (labelsWithin b c c)
   unfolding more counted
   damage-counted h e = sym (w .rest ∙ ap (λ (l : Listing). more n (counted l)) (walk-damaged b at h e))
@@ -112,11 +112,11 @@ module _ (b : List ℕ) (c made at n : ℕ) (w : CountedSo b c made at n) where
   pub counted-beyond : (at ≡ 0 → ⊥) → made < at → Refused outOfRange at ≡ counted (labelsWithin b c c)
   counted-beyond h k = let f = w .cells in damage-counted h (beyond b at (omega arith))
 
-  pub counted-back : (p q : ℕ) → (at ≡ 0 → ⊥) → p ≡ previousAt b at → q ≡ p → at ≤ q → Refused outOfRange at ≡ counted (labelsWithin b c c)
-  counted-back p q h e g k = damage-counted h (not-before b at q (g ∙ e) k)
+  pub counted-back : {p q : ℕ} → (at ≡ 0 → ⊥) → p ≡ previousAt b at → q ≡ p → at ≤ q → Refused outOfRange at ≡ counted (labelsWithin b c c)
+  counted-back {q} h e g k = damage-counted h (not-before b at q (g ∙ e) k)
 
-  pub count-more : (p q : ℕ) → (at ≡ 0 → ⊥) → at ≤ made → p ≡ previousAt b at → q ≡ p → q < at → CountedSo b c made q (n + 1)
-  count-more p q h i e g k =
+  pub count-more : {p q : ℕ} → (at ≡ 0 → ⊥) → at ≤ made → p ≡ previousAt b at → q ≡ p → q < at → CountedSo b c made q (n + 1)
+  count-more {q} h i e g k =
       let f = w .cells in
       let z : q ≡ previousAt b at = g ∙ e in
       let u = w .bound in
@@ -158,11 +158,11 @@ pub record WrittenSo (b : List ℕ) (c count : ℕ) (before out : List ℕ) (at 
   pub below : i ≤ count
   pub size : length out ≡ length before
 
-pub write-none : (b : List ℕ) (c count room : ℕ) (out : List ℕ) → Listable b c count room → WrittenSo b c count out out c 0
-write-none b c count room out h =
+pub write-none : {b : List ℕ} {c count room : ℕ} {out : List ℕ} → Listable b c count room → WrittenSo b c count out out c 0
+write-none {count} h =
     let e : count ≡ count - 0 = omega arith in record { rest = refl; left = h .labelled ∙ ap Count e; below = omega arith; size = refl }
 
-module _ (b : List ℕ) (c count : ℕ) (before out : List ℕ) (at i : ℕ) (w : WrittenSo b c count before out at i) where
+module _ {b : List ℕ} {c count : ℕ} {before out : List ℕ} {at i : ℕ} (w : WrittenSo b c count before out at i) where
   not-first : i < count → at ≡ 0 → ⊥
   unfolding counted
   not-first h e =
@@ -177,9 +177,9 @@ module _ (b : List ℕ) (c count : ℕ) (before out : List ℕ) (at i : ℕ) (w 
       let f : Refused outOfRange at ≡ Count (count - i) = ap counted (sym (walk-damaged b at (not-first h) e)) ∙ w .left in
       absurd (let z : _≡_ {A = ℕ} 0 1 = cc in omega arith)
 
-  pub write-more : (m : List ℕ) (l p q : ℕ) → i < count → l ≡ labelAt b at → p ≡ previousAt b at → q ≡ p → m ≡ sets out (2 * i) (wordBytes l)
+  pub write-more : {m : List ℕ} {l p q : ℕ} → i < count → l ≡ labelAt b at → p ≡ previousAt b at → q ≡ p → m ≡ sets out (2 * i) (wordBytes l)
       → WrittenSo b c count before m q (i + 1)
-  write-more m l p q h e f g u =
+  write-more {m} {l} {q} h e f g u =
       let z : q ≡ previousAt b at = g ∙ f in
       let s = walk-more b at (not-first h) (not-damaged (damaged b at) h refl) in
       let rest = labelsWithin b (previousAt b at) (previousAt b at) in
@@ -211,9 +211,9 @@ unfolding counted fitting
 refused-by (labels ls) r n p room e f = absurd (let z : _≡_ {A = ℕ} 0 1 = cc in omega arith)
 refused-by (refused m q) r n p room e f = (e, cc)
 
-pub walk-refused : (b : List ℕ) (c : ℕ) (out : List ℕ) (r : Listed) (n p : ℕ) → r ≡ counted (labelsWithin b c c) → r ≡ Refused n p → Lists b c out out r
+pub walk-refused : {b : List ℕ} {c : ℕ} {out : List ℕ} {r : Listed} {n p : ℕ} → r ≡ counted (labelsWithin b c c) → r ≡ Refused n p → Lists b c out out r
 unfolding listing listedOver
-walk-refused b c out r n p e f =
+walk-refused {b} {c} {out} {r} {n} {p} e f =
     let w = refused-by (labelsWithin b c c) r n p (length out) e f in
     record { answer = w .0; bytes = sym (ap (listedOver out) (w .1)) }
 
@@ -225,10 +225,10 @@ short-by (labels ls) r n room e f h =
     rw (lt-leb (2 * length ls) room k) refl
 short-by (refused m q) r n room e f h = absurd (let z : _≡_ {A = ℕ} 0 1 = cc in omega arith)
 
-pub output-short : (b : List ℕ) (c : ℕ) (out : List ℕ) (r : Listed) (n : ℕ) → r ≡ counted (labelsWithin b c c) → r ≡ Count n → length out / 2 < n
+pub output-short : {b : List ℕ} {c : ℕ} {out : List ℕ} {r : Listed} {n : ℕ} → r ≡ counted (labelsWithin b c c) → r ≡ Count n → length out / 2 < n
     → Lists b c out out (Refused shortOutput 0)
 unfolding listing listedOver counted
-output-short b c out r n e f h =
+output-short {b} {c} {out} {r} {n} e f h =
     let w = short-by (labelsWithin b c c) r n (length out) e f h in
     record { answer = ap counted (sym w); bytes = ap (listedOver out) (sym w) }
 
@@ -241,12 +241,12 @@ fits-by (labels ls) r n before after e f h g =
     rw (le-leb (2 * length ls) (length before) k) (ap Count (sym z), g ∙ over-front (bytesOf ls) before (2 * length ls) (bytes-length ls) k)
 fits-by (refused m q) r n before after e f h g = absurd (let z : _≡_ {A = ℕ} 0 1 = cc in omega arith)
 
-pub listed-whole : (b : List ℕ) (c : ℕ) (before after : List ℕ) (r : Listed) (n : ℕ) → r ≡ counted (labelsWithin b c c) → r ≡ Count n
+pub listed-whole : {b : List ℕ} {c : ℕ} {before after : List ℕ} {r : Listed} {n : ℕ} → r ≡ counted (labelsWithin b c c) → r ≡ Count n
     → n ≤ length before / 2 → after ≡ written (labelsWithin b c c) 0 before → Lists b c before after (Count n)
 unfolding listing
-listed-whole b c before after r n e f h g =
+listed-whole {b} {c} {before} {after} {r} {n} e f h g =
     let w = fits-by (labelsWithin b c c) r n before after e f h g in
     record { answer = w .0; bytes = w .1 }
 
-pub listable : (b : List ℕ) (c room : ℕ) (r : Listed) (n : ℕ) → r ≡ counted (labelsWithin b c c) → r ≡ Count n → n ≤ room / 2 → Listable b c n room
-listable b c room r n e f h = record { labelled = sym e ∙ f; fits = omega arith }
+pub listable : {b : List ℕ} {c room : ℕ} {r : Listed} {n : ℕ} → r ≡ counted (labelsWithin b c c) → r ≡ Count n → n ≤ room / 2 → Listable b c n room
+listable e f h = record { labelled = sym e ∙ f; fits = omega arith }

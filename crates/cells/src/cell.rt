@@ -1,13 +1,15 @@
 // Cells of 4 bytes: label, number of the previous cell. Cells count from 1.
 ghost use mathlib.Core.Path.{_≡_};
-ghost use Prim.Native.Nat.{_+_, _-_, _*_, _/_, _%_};
+ghost use Prim.Native.Nat.{_+_, _-_, _*_, _/_, _%_, _<_};
+ghost use lib.ListN.{length};
+ghost use lib.Seq.{sets};
+ghost use Rattle.definitions.specs.Bytes.{wordBytes};
 ghost use Rattle.definitions.specs.Listing.{labelAt, previousAt};
 ghost use Rattle.cells.specs.Added.{cellAdded};
-use crate::bytes::set_word;
 use definitions::sizes::CELL_BYTES;
 use file_fields::bytes::field_of;
 use file_fields::bytes::word;
-use file_records::records::wide;
+use widths::wide;
 
 // The place of cell `c` among the cells, counted from 0; 0 for the empty context.
 fn index(c: usize) -> usize
@@ -64,6 +66,15 @@ pub fn cell_at(cells: &[u8], c: u16) -> u32
         }
     }
     pair_of(label_at(cells, wide(c)), previous_at(cells, wide(c)))
+}
+
+// Writes a field of two bytes at a place inside.
+fn set_word(b: &mut [u8], at: usize, n: u16)
+    requires { ⌜ at + 1 < length (now b) ⌝ }
+    ensures { λ _. ⌜ now (b .exit) ≡ sets (now (b .entry)) at (wordBytes n) ⌝ }
+{
+    b[at] = (n % 256) as u8;
+    b[at + 1] = (n / 256) as u8;
 }
 
 // Adds a cell after those made, where it fits.

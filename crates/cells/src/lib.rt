@@ -1,6 +1,3 @@
-// Cells of contexts in lent bytes, the listing of a context, and the answer record (document 01, "Run" and "Context
-// listing").
-pub mod answer;
-mod bytes;
+// Contexts as cells in lent bytes, and the listing of a context (document 01, "Run" and "Context listing").
 pub mod cell;
 pub mod listing;

@@ -4,12 +4,12 @@ ghost use Prim.Native.Nat.{_*_};
 ghost use lib.ListN.{length};
 ghost use Rattle.definitions.specs.Listing.{labelsWithin};
 ghost use Rattle.cells.specs.Listings.{counted, written, Listable, Lists};
-use crate::bytes::put_word;
 use crate::cell::label_at;
 use crate::cell::previous_at;
 use definitions::numbers;
 use definitions::sizes::CELL_BYTES;
-use file_records::records::wide;
+use file_fields::writing::put_word;
+use widths::wide;
 
 // What a listing answers: how many labels it has, or the refusal's number and place.
 pub enum Listed {

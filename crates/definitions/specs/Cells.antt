@@ -42,17 +42,17 @@ whereCell false s go = reach (ended noCell) s
 whereCell true s go = go s
 
 unfoldable pub callByCells : List ℕ → ℕ → Visit ℕ (List Cell) → ℕ → ℕ → ℕ → State (List Cell) → Reached ℕ (List Cell)
-callByCells b most visit label f w s =
-    whereCell (ltb (length (s .store)) most) s
+callByCells b cellsAllowed visit label f w s =
+    whereCell (ltb (length (s .store)) cellsAllowed) s
     (λ t. visit (bodyOf Translation b f) (suc (length (t .store))) (withCell label w t))
 
 unfoldable pub byCells : List ℕ → ℕ → Contexts ℕ (List Cell)
-byCells b most = record { atFormal = formalByCells b; atCall = callByCells b most }
+byCells b cellsAllowed = record { atFormal = formalByCells b; atCall = callByCells b cellsAllowed }
 
 -- "It starts at function 0's body under the empty context": the rule, with its three allowances
 unfoldable pub evaluation : List ℕ → List ℤ → ℕ → ℕ → ℕ → Reached ℕ (List Cell)
-evaluation b rs steps nesting most =
-    visited (byCells b most) b rs nesting (bodyOf Translation b 0) 0 (record { left = steps; store = [] })
+evaluation b rs steps nesting cellsAllowed =
+    visited (byCells b cellsAllowed) b rs nesting (bodyOf Translation b 0) 0 (record { left = steps; store = [] })
 
 -- the bytes of cells
 unfoldable pub cellWords : List Cell → List ℕ

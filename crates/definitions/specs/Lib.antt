@@ -12,6 +12,7 @@ pub mod Layouts
 pub mod Shape
 pub mod References
 pub mod Checks
+pub mod OperatorCodes
 pub mod Operators
 pub mod NodeFields
 pub mod SheetNodes

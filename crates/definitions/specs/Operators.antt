@@ -7,6 +7,7 @@ use lib.Dec.{eqb}
 use mir.Syntax.{Width, w32}
 use mir.Val.{bits, toZ}
 use Rattle.definitions.specs.Numbers.{zeroDivisor}
+use Rattle.definitions.specs.OperatorCodes
 
 -- what an operator gives: a number, or a run fault
 pub data Computed : Type 0 where
@@ -36,11 +37,12 @@ truth t = pos (cond t 1 0)
 unfoldable pub quotient : Width → ℤ → ℤ → Computed
 quotient w x y = cond (isZero y) (faults zeroDivisor) (gives (reduced w (quotZ x y)))
 
--- the codes: 0 add, 1 subtract, 2 multiply, 3 divide, 4 less, 5 equal
+-- the operator of a code; no accepted file has a code above the greatest, which gives 0
 unfoldable pub computed : ℕ → ℤ → ℤ → Computed
 computed code x y =
-    cond (eqb code 0) (gives (reduced w32 (x +ℤ y)))
-    (cond (eqb code 1) (gives (reduced w32 (x -ℤ y)))
-    (cond (eqb code 2) (gives (reduced w32 (x *ℤ y)))
-    (cond (eqb code 3) (quotient w32 x y)
-    (cond (eqb code 4) (gives (truth (ltZ x y))) (gives (truth (equal x y)))))))
+    cond (eqb code OperatorCodes.add) (gives (reduced w32 (x +ℤ y)))
+    (cond (eqb code OperatorCodes.subtract) (gives (reduced w32 (x -ℤ y)))
+    (cond (eqb code OperatorCodes.multiply) (gives (reduced w32 (x *ℤ y)))
+    (cond (eqb code OperatorCodes.divide) (quotient w32 x y)
+    (cond (eqb code OperatorCodes.less) (gives (truth (ltZ x y)))
+    (cond (eqb code OperatorCodes.equal) (gives (truth (equal x y))) (gives (pos 0)))))))

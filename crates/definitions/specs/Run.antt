@@ -45,8 +45,8 @@ endingContext (value (constructor k w)) = w
 endingContext (ended n) = 0
 
 -- the answer that an end of the rule is, at a step allowance
-unfoldable pub answerOf : List ℕ → ℕ → Reached ℕ (List Cell) → Answer
-answerOf b steps r =
+unfoldable pub reachedAnswer : List ℕ → ℕ → Reached ℕ (List Cell) → Answer
+reachedAnswer b steps r =
     record {
       outcome = endingOutcome b (r .ending) .outcome;
       value = endingOutcome b (r .ending) .value;
@@ -66,7 +66,7 @@ unfoldable pub ruleEnd : List ℕ → List ℤ → ℕ → ℕ → ℕ → Reach
 ruleEnd b rs steps nesting cells = evaluation b rs steps nesting cells
 
 unfoldable pub ruleAnswer : List ℕ → List ℤ → ℕ → ℕ → ℕ → Answer
-ruleAnswer b rs steps nesting cells = answerOf b steps (ruleEnd b rs steps nesting cells)
+ruleAnswer b rs steps nesting cells = reachedAnswer b steps (ruleEnd b rs steps nesting cells)
 
 unfoldable pub ruleCells : List ℕ → List ℤ → ℕ → ℕ → ℕ → List ℕ → List ℕ
 ruleCells b rs steps nesting cells before = cellsOver before (ruleEnd b rs steps nesting cells .state .store)

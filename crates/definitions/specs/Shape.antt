@@ -10,6 +10,7 @@ use Rattle.definitions.specs.Records.{startOf, recordAt, kindOf, field}
 use Rattle.definitions.specs.Kinds.{rowOf, allows}
 use Rattle.definitions.specs.SheetKinds
 use Rattle.definitions.specs.TranslationKinds
+use Rattle.definitions.specs.OperatorCodes
 use Rattle.definitions.specs.Ranges.{within}
 use Rattle.definitions.specs.Sizes.{sheetBytes, translationBytes, mostReadings, mostConstructors, mostFunctions, mostNodes, mostFormals, mostFields}
 use Rattle.definitions.specs.Numbers.{truncated, oversize, badRecord, badCount}
@@ -52,7 +53,8 @@ counts y b r rec =
 -- "operator code above 5"
 unfoldable pub operatorCode : List ℕ → Bool
 operatorCode rec =
-    cond (eqb (kindOf rec) SheetKinds.operator || eqb (kindOf rec) TranslationKinds.operator) (within 0 5 (field rec 0)) true
+    cond (eqb (kindOf rec) SheetKinds.operator || eqb (kindOf rec) TranslationKinds.operator)
+    (within OperatorCodes.add OperatorCodes.greatest (field rec 0)) true
 
 -- record r, whose first byte is at a place
 unfoldable pub shapeAt : Layout → List ℕ → ℕ → ℕ → Verdict

@@ -1,6 +1,9 @@
-// What the definitions in specs/ and the code share: types, numbers and sizes. The definitions are in specs/.
+// What the definitions in specs/ and the code share: types, numbers, kinds, operator codes and sizes. The definitions are in specs/.
 pub mod numbers;
+pub mod operator_codes;
+pub mod sheet_kinds;
 pub mod sizes;
+pub mod translation_kinds;
 
 // Which of the two files of document 01: a sheet or a translation.
 pub enum Layout {

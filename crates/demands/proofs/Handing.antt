@@ -8,7 +8,8 @@ use lib.IntN.{ℤ}
 use lib.ListN.{length, take, drop}
 use lib.Seq.{take-append-seam}
 use lib.Dec.{leb}
-use Rattle.definitions.specs.Numbers.{shortOutput, badAllowance, isAnswer}
+use Rattle.definitions.specs.Numbers.{shortOutput, badAllowance, noActual, noField, isFault, isAnswer}
+use Rattle.definitions.specs.Ranges.{within}
 use Rattle.definitions.specs.Verdicts.{_andThen_, require}
 use Rattle.definitions.specs.Layouts.{readings}
 use Rattle.definitions.specs.Checks.{sheetVerdict}
@@ -25,9 +26,10 @@ use Rattle.translator.specs.Promise.{translationRefusal, outputOf, Translates}
 use Rattle.translator.specs.declared.Translated.{Translated}
 use Rattle.translator.specs.declared.Translated.the-variants.{Length, Refused}
 use Rattle.run.specs.Promise.{Runs}
-use Rattle.cells.specs.declared.answer.Answer.{Answer}
-use Rattle.cells.specs.Answers.{answerOf}
+use Rattle.answer.specs.declared.Answer.{Answer}
+use Rattle.answer.specs.Answers.{answerOf}
 use Rattle.agreement.specs.Answers.{answerOutcome}
+use Rattle.agreement.proofs.Outcomes.{own-listed}
 use Rattle.agreement.proofs.Runs.{run-verdict}
 use Rattle.demands.specs.Demands.{Handed, StoppedOrRefused}
 use Rattle.demands.proofs.Refusals.{running-numbered}
@@ -46,7 +48,7 @@ written-handed sheet out n out′ e m w =
     record { accepted = both-accepted _ _ e .0; is = rw (m, s) (take-append-seam (translation sheet) (drop (length (translation sheet)) out)) }
 
 handed-by : (sheet out : List ℕ) (n : ℕ) (out′ : List ℕ) (v : Verdict) → translationRefusal sheet (length out) ≡ v → Translates sheet out (Length n) out′ → Handed sheet n out′
-unfolding Translator.answerOf
+unfolding Translator.translatedOf
 handed-by sheet out n out′ (verdicts.Refused m p) e t = absurd (refused-length {n = m} {p = p} (sym (t .answer ∙ rw e refl)))
 handed-by sheet out n out′ Accepted e t =
     let s : _≡_ {A = Translated} (Length n) (Length (length (translation sheet))) = t .answer ∙ rw e refl in
@@ -56,8 +58,8 @@ pub handed : (sheet out : List ℕ) (n : ℕ) (out′ : List ℕ) → Translates
 handed sheet out n out′ t = handed-by sheet out n out′ (translationRefusal sheet (length out)) refl t
 
 -- of an accepted sheet only 8 withholds the translation
-withheld : (t : Bool) (n p m : ℕ) → Translator.answerOf (require t shortOutput 0) m ≡ Refused n p → n ≡ shortOutput
-unfolding Translator.answerOf require
+withheld : (t : Bool) (n p m : ℕ) → Translator.translatedOf (require t shortOutput 0) m ≡ Refused n p → n ≡ shortOutput
+unfolding Translator.translatedOf require
 withheld true n p m e = absurd (refused-length (sym e))
 withheld false n p m e = cc
 
@@ -67,23 +69,27 @@ only-short sheet out n p out′ t a =
     withheld (leb (length (translation sheet)) (length out)) n p (length (translation sheet)) (sym (t .answer ∙ rw a refl))
 
 module _ (sheet out : List ℕ) (n : ℕ) (out′ : List ℕ) (translated : Translates sheet out (Length n) out′) (rs : List ℤ)
-    (steps nesting most : ℕ) (before : List ℕ) (r : Answer) (after : List ℕ) (run : Runs (take n out′) rs steps nesting most before r after) where
+    (steps nesting cellsAllowed : ℕ) (before : List ℕ) (r : Answer) (after : List ℕ) (run : Runs (take n out′) rs steps nesting cellsAllowed before r after) where
   h : Handed sheet n out′
   h = handed sheet out n out′ translated
 
-  runs : Runs (translation sheet) rs steps nesting most before r after
+  runs : Runs (translation sheet) rs steps nesting cellsAllowed before r after
   runs = rw (h .is) at run
 
   pub handed-own : isAnswer (answerOf r .outcome) ≡ true → OwnAnswer sheet rs (answerOutcome (answerOf r))
   unfolding runAnswer
   handed-own i =
       rw (runs .answer)
-      (after-own sheet (h .accepted) rs steps nesting most _ (running-numbered (translation sheet) rs nesting most (length before)) (rw (runs .answer) at i))
+      (after-own sheet (h .accepted) rs steps nesting cellsAllowed _ (running-numbered (translation sheet) rs nesting cellsAllowed (length before)) (rw (runs .answer) at i))
+
+  pub handed-listed : (answerOf r .outcome ≡ noActual → ⊥) × (answerOf r .outcome ≡ noField → ⊥)
+  unfolding isAnswer isFault within answerOutcome
+  handed-listed = (λ e. own-listed (handed-own (rw e refl)) .0 e, λ e. own-listed (handed-own (rw e refl)) .1 e)
 
   pub handed-none : ((a : Outcome) → ¬ OwnAnswer sheet rs a) → StoppedOrRefused (answerOf r) (after ≡ before)
-  handed-none none = unanswered (answerOf r) (after ≡ before) (λ i. none _ (handed-own i)) (running-met (take n out′) rs steps nesting most before r after run)
+  handed-none none = unanswered (answerOf r) (after ≡ before) (λ i. none _ (handed-own i)) (running-met (take n out′) rs steps nesting cellsAllowed before r after run)
 
   pub handed-answer : length rs ≡ readings sheet
-      → answerOf r ≡ answerAfter (require (allowancesFit nesting most (length before)) badAllowance 0) (ruleAnswer (take n out′) rs steps nesting most)
+      → answerOf r ≡ answerAfter (require (allowancesFit nesting cellsAllowed (length before)) badAllowance 0) (ruleAnswer (take n out′) rs steps nesting cellsAllowed)
   unfolding runAnswer
-  handed-answer asked = runs .answer ∙ rw (run-verdict sheet (h .accepted) rs asked nesting most (length before), h .is) refl
+  handed-answer asked = runs .answer ∙ rw (run-verdict sheet (h .accepted) rs asked nesting cellsAllowed (length before), h .is) refl

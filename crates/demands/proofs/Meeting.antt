@@ -15,8 +15,8 @@ use Rattle.translator.specs.Promise as Translator
 use Rattle.translator.specs.Promise.{translationRefusal, outputOf, Translates}
 use Rattle.translator.specs.declared.Translated.{Translated}
 use Rattle.run.specs.Promise.{Runs}
-use Rattle.cells.specs.declared.answer.Answer.{Answer}
-use Rattle.cells.specs.Answers.{answerOf}
+use Rattle.answer.specs.declared.Answer.{Answer}
+use Rattle.answer.specs.Answers.{answerOf}
 use Rattle.definitions.specs.Numbers.{isAnswer, isStop}
 use Rattle.join.specs.Promise.{joinAnswer, joinOutput, joinCells, Joins}
 use Rattle.demands.specs.Demands as Demands
@@ -26,7 +26,7 @@ use Rattle.agreement.proofs.KnownEnds.{rule-known}
 
 translating-by : (sheet out : List ℕ) (r : Translated) (out′ : List ℕ) (v : Verdict) → NumberedIn v → translationRefusal sheet (length out) ≡ v
     → Translates sheet out r out′ → TranslatingMet sheet out r out′
-unfolding Translator.answerOf outputOf
+unfolding Translator.translatedOf outputOf
 translating-by sheet out r out′ Accepted k e t = Demands.TranslatingMet.translates (t .answer ∙ rw e refl)
 translating-by sheet out r out′ (verdicts.Refused n p) k e t = Demands.TranslatingMet.refuses n p (t .answer ∙ rw e refl) k (t .output ∙ rw e refl)
 
@@ -40,35 +40,35 @@ rule-met a untouched true y e f h = Demands.Met.answers e
 rule-met a untouched false true e f h = Demands.Met.stops f
 rule-met a untouched false false e f h = absurd (true≢false (sym h))
 
-after-met : (b : List ℕ) (rs : List ℤ) (steps nesting most : ℕ) (untouched : Type 0) (v : Verdict) → NumberedIn v → ((n p : ℕ) → v ≡ verdicts.Refused n p → untouched)
-    → Met (answerAfter v (ruleAnswer b rs steps nesting most)) untouched
-unfolding answerAfter ruleAnswer Run.answerOf
-after-met b rs steps nesting most untouched Accepted k u = rule-met _ untouched _ _ refl refl (rule-known b rs most steps nesting)
-after-met b rs steps nesting most untouched (verdicts.Refused n p) k u = Demands.Met.refuses n p refl k (u n p refl)
+after-met : (b : List ℕ) (rs : List ℤ) (steps nesting cellsAllowed : ℕ) (untouched : Type 0) (v : Verdict) → NumberedIn v → ((n p : ℕ) → v ≡ verdicts.Refused n p → untouched)
+    → Met (answerAfter v (ruleAnswer b rs steps nesting cellsAllowed)) untouched
+unfolding answerAfter ruleAnswer Run.reachedAnswer
+after-met b rs steps nesting cellsAllowed untouched Accepted k u = rule-met _ untouched _ _ refl refl (rule-known b rs cellsAllowed steps nesting)
+after-met b rs steps nesting cellsAllowed untouched (verdicts.Refused n p) k u = Demands.Met.refuses n p refl k (u n p refl)
 
-pub run-met : (b : List ℕ) (rs : List ℤ) (steps nesting most : ℕ) (before : List ℕ)
-    → Met (runAnswer b rs steps nesting most (length before)) (runCells b rs steps nesting most before ≡ before)
+pub run-met : (b : List ℕ) (rs : List ℤ) (steps nesting cellsAllowed : ℕ) (before : List ℕ)
+    → Met (runAnswer b rs steps nesting cellsAllowed (length before)) (runCells b rs steps nesting cellsAllowed before ≡ before)
 unfolding runAnswer runCells bytesAfter
-run-met b rs steps nesting most before = after-met b rs steps nesting most _ _ (running-numbered b rs nesting most (length before)) (λ n p e. rw e refl)
+run-met b rs steps nesting cellsAllowed before = after-met b rs steps nesting cellsAllowed _ _ (running-numbered b rs nesting cellsAllowed (length before)) (λ n p e. rw e refl)
 
-pub join-met : (sheet out : List ℕ) (rs : List ℤ) (steps nesting most : ℕ) (before : List ℕ)
-    → Met (joinAnswer sheet (length out) rs steps nesting most (length before))
-    ((joinOutput sheet out rs nesting most (length before) ≡ out) × (joinCells sheet (length out) rs steps nesting most before ≡ before))
+pub join-met : (sheet out : List ℕ) (rs : List ℤ) (steps nesting cellsAllowed : ℕ) (before : List ℕ)
+    → Met (joinAnswer sheet (length out) rs steps nesting cellsAllowed (length before))
+    ((joinOutput sheet out rs nesting cellsAllowed (length before) ≡ out) × (joinCells sheet (length out) rs steps nesting cellsAllowed before ≡ before))
 unfolding joinAnswer joinOutput joinCells bytesAfter outputOf
-join-met sheet out rs steps nesting most before =
-    after-met (translation sheet) rs steps nesting most _ _ (joining-numbered sheet (length out) rs nesting most (length before)) (λ n p e. (rw e refl, rw e refl))
+join-met sheet out rs steps nesting cellsAllowed before =
+    after-met (translation sheet) rs steps nesting cellsAllowed _ _ (joining-numbered sheet (length out) rs nesting cellsAllowed (length before)) (λ n p e. (rw e refl, rw e refl))
 
-pub running-met : (b : List ℕ) (rs : List ℤ) (steps nesting most : ℕ) (before : List ℕ) (r : Answer) (after : List ℕ)
-    → Runs b rs steps nesting most before r after → Met (answerOf r) (after ≡ before)
-running-met b rs steps nesting most before r after t = rw (t .answer, t .cells) (run-met b rs steps nesting most before)
+pub running-met : (b : List ℕ) (rs : List ℤ) (steps nesting cellsAllowed : ℕ) (before : List ℕ) (r : Answer) (after : List ℕ)
+    → Runs b rs steps nesting cellsAllowed before r after → Met (answerOf r) (after ≡ before)
+running-met b rs steps nesting cellsAllowed before r after t = rw (t .answer, t .cells) (run-met b rs steps nesting cellsAllowed before)
 
-pub joining-met : (sheet out : List ℕ) (rs : List ℤ) (steps nesting most : ℕ) (before : List ℕ) (r : Answer) (out′ after : List ℕ)
-    → Joins sheet out rs steps nesting most before r out′ after → Met (answerOf r) ((out′ ≡ out) × (after ≡ before))
-joining-met sheet out rs steps nesting most before r out′ after t =
-    rw (t .answer, t .output, t .cells) (join-met sheet out rs steps nesting most before)
+pub joining-met : (sheet out : List ℕ) (rs : List ℤ) (steps nesting cellsAllowed : ℕ) (before : List ℕ) (r : Answer) (out′ after : List ℕ)
+    → Joins sheet out rs steps nesting cellsAllowed before r out′ after → Met (answerOf r) ((out′ ≡ out) × (after ≡ before))
+joining-met sheet out rs steps nesting cellsAllowed before r out′ after t =
+    rw (t .answer, t .output, t .cells) (join-met sheet out rs steps nesting cellsAllowed before)
 
-pub run-exact : (b : List ℕ) (rs : List ℤ) (steps nesting most : ℕ) (before : List ℕ) (r : Answer) (after : List ℕ)
-    → Runs b rs steps nesting most before r after → runVerdict b rs nesting most (length before) ≡ Accepted
-    → RunExact b rs steps nesting most before (answerOf r) after
+pub run-exact : (b : List ℕ) (rs : List ℤ) (steps nesting cellsAllowed : ℕ) (before : List ℕ) (r : Answer) (after : List ℕ)
+    → Runs b rs steps nesting cellsAllowed before r after → runVerdict b rs nesting cellsAllowed (length before) ≡ Accepted
+    → RunExact b rs steps nesting cellsAllowed before (answerOf r) after
 unfolding runAnswer runCells answerAfter bytesAfter
-run-exact b rs steps nesting most before r after t v = record { answer = t .answer ∙ rw v refl; cells = t .cells ∙ rw v refl }
+run-exact b rs steps nesting cellsAllowed before r after t v = record { answer = t .answer ∙ rw v refl; cells = t .cells ∙ rw v refl }

@@ -8,7 +8,7 @@ use lib.IntN.{ℤ}
 use Rattle.definitions.specs.Numbers.{isAnswer}
 use Rattle.definitions.specs.Checks.{sheetVerdict}
 use Rattle.definitions.specs.Translate.{translation}
-use Rattle.definitions.specs.Run.{Answer, answerOf, refusal, answerAfter, ruleAnswer}
+use Rattle.definitions.specs.Run.{Answer, reachedAnswer, refusal, answerAfter, ruleAnswer}
 use Rattle.definitions.specs.declared.Verdict.{Verdict}
 use Rattle.definitions.specs.declared.Verdict.the-variants.{Accepted, Refused}
 use Rattle.laws.proofs.Classes.{refusal-no-answer}
@@ -20,13 +20,13 @@ use Rattle.demands.specs.Demands.{Met, StoppedOrRefused}
 use Rattle.demands.proofs.Refusals.{NumberedIn}
 
 -- an answer that comes after a verdict: the rule's, unless the verdict refuses
-pub after-own : (sheet : List ℕ) → sheetVerdict sheet ≡ Accepted → (rs : List ℤ) (steps nesting most : ℕ) (v : Verdict) → NumberedIn v
-    → isAnswer (answerAfter v (ruleAnswer (translation sheet) rs steps nesting most) .outcome) ≡ true
-    → OwnAnswer sheet rs (answerOutcome (answerAfter v (ruleAnswer (translation sheet) rs steps nesting most)))
-unfolding answerAfter ruleAnswer answerOf ruleOutcome answerOutcome refusal
-after-own sheet accepted rs steps nesting most Accepted k h =
-    rule-gives-own sheet accepted rs (record { steps = steps; nesting = nesting; most = most; gives = refl }) h
-after-own sheet accepted rs steps nesting most (Refused n p) k h = absurd (true≢false (sym h ∙ refusal-no-answer n k))
+pub after-own : (sheet : List ℕ) → sheetVerdict sheet ≡ Accepted → (rs : List ℤ) (steps nesting cellsAllowed : ℕ) (v : Verdict) → NumberedIn v
+    → isAnswer (answerAfter v (ruleAnswer (translation sheet) rs steps nesting cellsAllowed) .outcome) ≡ true
+    → OwnAnswer sheet rs (answerOutcome (answerAfter v (ruleAnswer (translation sheet) rs steps nesting cellsAllowed)))
+unfolding answerAfter ruleAnswer reachedAnswer ruleOutcome answerOutcome refusal
+after-own sheet accepted rs steps nesting cellsAllowed Accepted k h =
+    rule-gives-own sheet accepted rs (record { steps = steps; nesting = nesting; cellsAllowed = cellsAllowed; gives = refl }) h
+after-own sheet accepted rs steps nesting cellsAllowed (Refused n p) k h = absurd (true≢false (sym h ∙ refusal-no-answer n k))
 
 -- what is met without an answer
 pub unanswered : (a : Answer) (untouched : Type 0) → (isAnswer (a .outcome) ≡ true → ⊥) → Met a untouched → StoppedOrRefused a untouched

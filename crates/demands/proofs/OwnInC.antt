@@ -34,49 +34,49 @@ unfolding translation
 translation-bytes sheet = bytes-below (translationWords sheet)
 
 -- demand 3 of a record
-pub record Faithful (sheet : List ℕ) (rs : List ℤ) (room′ : List ℕ) (untouched : Type 0) : Type 0 where
+pub record FaithfulInC (sheet : List ℕ) (rs : List ℤ) (room′ : List ℕ) (untouched : Type 0) : Type 0 where
   pub own : SignedReadings rs → isAnswer (recorded room′ .outcome) ≡ true → OwnAnswer sheet rs (recorded room′)
   pub none : ((a : Outcome) → ¬ OwnAnswer sheet rs a) → StoppedOrRefusedInC room′ untouched
 
 -- the record of an answer that comes after a verdict
-module _ (sheet : List ℕ) (accepted : sheetVerdict sheet ≡ Accepted) (rs : List ℤ) (steps nesting most : ℕ) (v : Verdict) (numbered : NumberedIn v) (untouched : Type 0)
-    (met : Met (answerAfter v (ruleAnswer (translation sheet) rs steps nesting most)) untouched)
-    (room′ rest : List ℕ) (written : room′ ≡ answerBytes (answerAfter v (ruleAnswer (translation sheet) rs steps nesting most)) ++ rest) where
+module _ (sheet : List ℕ) (accepted : sheetVerdict sheet ≡ Accepted) (rs : List ℤ) (steps nesting cellsAllowed : ℕ) (v : Verdict) (numbered : NumberedIn v) (untouched : Type 0)
+    (met : Met (answerAfter v (ruleAnswer (translation sheet) rs steps nesting cellsAllowed)) untouched)
+    (room′ rest : List ℕ) (written : room′ ≡ answerBytes (answerAfter v (ruleAnswer (translation sheet) rs steps nesting cellsAllowed)) ++ rest) where
   own-recorded : SignedReadings rs → isAnswer (recorded room′ .outcome) ≡ true → OwnAnswer sheet rs (recorded room′)
   own-recorded signed i =
       let h = rw (outcome-is _ untouched met room′ rest written) at i in
-      let f = after-fits (translation sheet) rs (translation-bytes sheet) signed steps nesting most v numbered h in
-      rw (answer-is _ untouched met room′ rest written f) (after-own sheet accepted rs steps nesting most v numbered h)
+      let f = after-fits (translation sheet) rs (translation-bytes sheet) signed steps nesting cellsAllowed v numbered h in
+      rw (answer-is _ untouched met room′ rest written f) (after-own sheet accepted rs steps nesting cellsAllowed v numbered h)
 
   none-recorded : ((a : Outcome) → ¬ OwnAnswer sheet rs a) → StoppedOrRefusedInC room′ untouched
   none-recorded none =
       recorded-unanswered _ untouched met room′ rest written
-      (unanswered _ untouched (λ h. none _ (after-own sheet accepted rs steps nesting most v numbered h)) met)
+      (unanswered _ untouched (λ h. none _ (after-own sheet accepted rs steps nesting cellsAllowed v numbered h)) met)
 
-  faithful-recorded : Faithful sheet rs room′ untouched
+  faithful-recorded : FaithfulInC sheet rs room′ untouched
   faithful-recorded = record { own = own-recorded; none = none-recorded }
 
 -- a run of the bytes that were handed over
 pub run-faithful-in-C : (sheet out : List ℕ) (r : ℕ) (out′ : List ℕ) → TranslatesC sheet out r out′ → codeNumber r ≡ 0
-    → (rs : List ℤ) (steps nesting most : ℕ) (before room : List ℕ) (c : ℕ) (after room′ : List ℕ)
-    → RunsC (take (codeValue r) out′) rs steps nesting most before room c after room′ → c ≡ 0
-    → Faithful sheet rs room′ (after ≡ before)
+    → (rs : List ℤ) (steps nesting cellsAllowed : ℕ) (before room : List ℕ) (c : ℕ) (after room′ : List ℕ)
+    → RunsC (take (codeValue r) out′) rs steps nesting cellsAllowed before room c after room′ → c ≡ 0
+    → FaithfulInC sheet rs room′ (after ≡ before)
 unfolding runAnswer
-run-faithful-in-C sheet out r out′ translated not-refused rs steps nesting most before room c after room′ run recording =
+run-faithful-in-C sheet out r out′ translated not-refused rs steps nesting cellsAllowed before room c after room′ run recording =
     let handed = handed-in-C sheet out r out′ translated not-refused in
-    let runs : RunsC (translation sheet) rs steps nesting most before room c after room′ = rw (handed .is) at run in
+    let runs : RunsC (translation sheet) rs steps nesting cellsAllowed before room c after room′ = rw (handed .is) at run in
     let roomy = fits room c (runs .answer) recording in
-    faithful-recorded sheet (handed .accepted) rs steps nesting most _ (running-numbered (translation sheet) rs nesting most (length before)) (after ≡ before)
-    (run-met-where-fits (translation sheet) rs steps nesting most before room c after room′ runs roomy)
+    faithful-recorded sheet (handed .accepted) rs steps nesting cellsAllowed _ (running-numbered (translation sheet) rs nesting cellsAllowed (length before)) (after ≡ before)
+    (run-met-where-fits (translation sheet) rs steps nesting cellsAllowed before room c after room′ runs roomy)
     room′ (drop answerSize room) (runs .written ∙ record-where-fits room roomy _)
 
 -- the joined call
-pub join-faithful-in-C : (sheet out : List ℕ) (rs : List ℤ) (steps nesting most : ℕ) (before room : List ℕ) (c : ℕ) (out′ after room′ : List ℕ)
-    → JoinsC sheet out rs steps nesting most before room c out′ after room′ → sheetVerdict sheet ≡ Accepted → c ≡ 0
-    → Faithful sheet rs room′ ((out′ ≡ out) × (after ≡ before))
+pub join-faithful-in-C : (sheet out : List ℕ) (rs : List ℤ) (steps nesting cellsAllowed : ℕ) (before room : List ℕ) (c : ℕ) (out′ after room′ : List ℕ)
+    → JoinsC sheet out rs steps nesting cellsAllowed before room c out′ after room′ → sheetVerdict sheet ≡ Accepted → c ≡ 0
+    → FaithfulInC sheet rs room′ ((out′ ≡ out) × (after ≡ before))
 unfolding joinAnswer
-join-faithful-in-C sheet out rs steps nesting most before room c out′ after room′ joins accepted recording =
+join-faithful-in-C sheet out rs steps nesting cellsAllowed before room c out′ after room′ joins accepted recording =
     let roomy = fits room c (joins .answer) recording in
-    faithful-recorded sheet accepted rs steps nesting most _ (joining-numbered sheet (length out) rs nesting most (length before)) ((out′ ≡ out) × (after ≡ before))
-    (join-met-where-fits sheet out rs steps nesting most before room c out′ after room′ joins roomy)
+    faithful-recorded sheet accepted rs steps nesting cellsAllowed _ (joining-numbered sheet (length out) rs nesting cellsAllowed (length before)) ((out′ ≡ out) × (after ≡ before))
+    (join-met-where-fits sheet out rs steps nesting cellsAllowed before room c out′ after room′ joins roomy)
     room′ (drop answerSize room) (joins .written ∙ record-where-fits room roomy _)

@@ -70,13 +70,13 @@ pub translating-numbered : (b : List ℕ) (room : ℕ) → NumberedIn (translati
 unfolding translationRefusal isRefusal within
 translating-numbered b room = either _ _ (sheet-numbered b) (required _ shortOutput 0 refl)
 
-pub running-numbered : (b : List ℕ) (rs : List ℤ) (nesting most lent : ℕ) → NumberedIn (runVerdict b rs nesting most lent)
+pub running-numbered : (b : List ℕ) (rs : List ℤ) (nesting cellsAllowed lent : ℕ) → NumberedIn (runVerdict b rs nesting cellsAllowed lent)
 unfolding runVerdict isRefusal within
-running-numbered b rs nesting most lent =
+running-numbered b rs nesting cellsAllowed lent =
     either _ _ (either _ _ (translation-numbered b) (required _ badReadings 0 refl)) (required _ badAllowance 0 refl)
 
-pub joining-numbered : (b : List ℕ) (room : ℕ) (rs : List ℤ) (nesting most lent : ℕ) → NumberedIn (joinVerdict b room rs nesting most lent)
+pub joining-numbered : (b : List ℕ) (room : ℕ) (rs : List ℤ) (nesting cellsAllowed lent : ℕ) → NumberedIn (joinVerdict b room rs nesting cellsAllowed lent)
 unfolding joinVerdict isRefusal within
-joining-numbered b room rs nesting most lent =
+joining-numbered b room rs nesting cellsAllowed lent =
     either _ _ (either _ _ (either _ _ (sheet-numbered b) (required _ shortOutput 0 refl)) (required _ badReadings 0 refl))
     (required _ badAllowance 0 refl)

@@ -95,22 +95,22 @@ module _ (room : List ℕ) (c : ℕ) (room′ : List ℕ) (a : Answer) (untouche
   call-met : (leb answerSize (length room) ≡ true → Met a untouched) → (leb answerSize (length room) ≡ false → untouched) → MetInC c room room′ untouched
   call-met met u = met-by (leb answerSize (length room)) refl met u
 
-module _ (b : List ℕ) (rs : List ℤ) (steps nesting most : ℕ) (before room : List ℕ) (c : ℕ) (after room′ : List ℕ)
-    (t : RunsC b rs steps nesting most before room c after room′) where
-  pub run-met-where-fits : leb answerSize (length room) ≡ true → Met (runAnswer b rs steps nesting most (length before)) (after ≡ before)
-  run-met-where-fits e = rw (t .cells, where-fits room e (runCells b rs steps nesting most before) before) (run-met b rs steps nesting most before)
+module _ (b : List ℕ) (rs : List ℤ) (steps nesting cellsAllowed : ℕ) (before room : List ℕ) (c : ℕ) (after room′ : List ℕ)
+    (t : RunsC b rs steps nesting cellsAllowed before room c after room′) where
+  pub run-met-where-fits : leb answerSize (length room) ≡ true → Met (runAnswer b rs steps nesting cellsAllowed (length before)) (after ≡ before)
+  run-met-where-fits e = rw (t .cells, where-fits room e (runCells b rs steps nesting cellsAllowed before) before) (run-met b rs steps nesting cellsAllowed before)
 
   pub running-met-in-C : MetInC c room room′ (after ≡ before)
   running-met-in-C = call-met room c room′ _ (after ≡ before) (t .answer) (t .written) run-met-where-fits (λ e. t .cells ∙ where-short room e _ before)
 
-module _ (sheet out : List ℕ) (rs : List ℤ) (steps nesting most : ℕ) (before room : List ℕ) (c : ℕ) (out′ after room′ : List ℕ)
-    (t : JoinsC sheet out rs steps nesting most before room c out′ after room′) where
+module _ (sheet out : List ℕ) (rs : List ℤ) (steps nesting cellsAllowed : ℕ) (before room : List ℕ) (c : ℕ) (out′ after room′ : List ℕ)
+    (t : JoinsC sheet out rs steps nesting cellsAllowed before room c out′ after room′) where
   pub join-met-where-fits : leb answerSize (length room) ≡ true
-      → Met (joinAnswer sheet (length out) rs steps nesting most (length before)) ((out′ ≡ out) × (after ≡ before))
+      → Met (joinAnswer sheet (length out) rs steps nesting cellsAllowed (length before)) ((out′ ≡ out) × (after ≡ before))
   join-met-where-fits e =
-      let o = where-fits room e (joinOutput sheet out rs nesting most (length before)) out in
-      let s = where-fits room e (joinCells sheet (length out) rs steps nesting most before) before in
-      rw (t .output, t .cells, o, s) (join-met sheet out rs steps nesting most before)
+      let o = where-fits room e (joinOutput sheet out rs nesting cellsAllowed (length before)) out in
+      let s = where-fits room e (joinCells sheet (length out) rs steps nesting cellsAllowed before) before in
+      rw (t .output, t .cells, o, s) (join-met sheet out rs steps nesting cellsAllowed before)
 
   pub joining-met-in-C : MetInC c room room′ ((out′ ≡ out) × (after ≡ before))
   joining-met-in-C =

@@ -10,13 +10,14 @@ use lib.Signed.{ltZ}
 use lib.Dec.{eqb}
 use mir.Syntax.{w32}
 use mir.Val.{SFits}
+use Rattle.definitions.specs.OperatorCodes
 use Rattle.definitions.specs.Bytes.{word32, signed}
 use Rattle.definitions.specs.Records.{recordOf, startOf}
 use Rattle.definitions.specs.Layouts.{nodeRecord, firstNode}
 use Rattle.definitions.specs.Operators.{Computed, gives, faults, residue, reduced, isZero, equal, truth, quotient, computed}
 use Rattle.definitions.specs.TranslationNodes.{TranslationNode, number, reading, formal, select, operator, conditional, call, tuple, caseOf, translationNode, translationNodeOf, tagOf}
 use Rattle.definitions.specs.Numbers.{isAnswer}
-use Rattle.definitions.specs.Run.{answerOf, refusal, answerAfter, ruleAnswer}
+use Rattle.definitions.specs.Run.{reachedAnswer, refusal, answerAfter, ruleAnswer}
 use Rattle.definitions.specs.declared.Verdict.{Verdict}
 use Rattle.definitions.specs.declared.Verdict.the-variants.{Accepted, Refused}
 use Rattle.laws.proofs.Classes.{refusal-no-answer}
@@ -62,33 +63,34 @@ literal-fits rec =
     })
 
 -- operators
-data Fitting : Computed → Type 0 where
-  a-number : {z : ℤ} → SFits w32 z → Fitting (gives z)
-  a-fault : {n : ℕ} → Fitting (faults n)
+data ComputedFits : Computed → Type 0 where
+  a-number : {z : ℤ} → SFits w32 z → ComputedFits (gives z)
+  a-fault : {n : ℕ} → ComputedFits (faults n)
 
-either : (t : Bool) {c d : Computed} → Fitting c → Fitting d → Fitting (cond t c d)
+either : (t : Bool) {c d : Computed} → ComputedFits c → ComputedFits d → ComputedFits (cond t c d)
 either true h g = h
 either false h g = g
 
-reduced-fits : (z : ℤ) → Fitting (gives (reduced w32 z))
+reduced-fits : (z : ℤ) → ComputedFits (gives (reduced w32 z))
 unfolding reduced
 reduced-fits z = a-number (read-held w32 (residue w32 z))
 
-truth-fits : (t : Bool) → Fitting (gives (truth t))
+truth-fits : (t : Bool) → ComputedFits (gives (truth t))
 unfolding truth
 truth-fits true = a-number (word-fits 1 (omega arith))
 truth-fits false = a-number zero-fits
 
-computed-fits : (o : ℕ) (x y : ℤ) → Fitting (computed o x y)
+computed-fits : (o : ℕ) (x y : ℤ) → ComputedFits (computed o x y)
 unfolding computed quotient
 computed-fits o x y =
-    either (eqb o 0) (reduced-fits _)
-    (either (eqb o 1) (reduced-fits _)
-    (either (eqb o 2) (reduced-fits _)
-    (either (eqb o 3) (either (isZero y) a-fault (reduced-fits _))
-    (either (eqb o 4) (truth-fits (ltZ x y)) (truth-fits (equal x y))))))
+    either (eqb o OperatorCodes.add) (reduced-fits _)
+    (either (eqb o OperatorCodes.subtract) (reduced-fits _)
+    (either (eqb o OperatorCodes.multiply) (reduced-fits _)
+    (either (eqb o OperatorCodes.divide) (either (isZero y) a-fault (reduced-fits _))
+    (either (eqb o OperatorCodes.less) (truth-fits (ltZ x y))
+    (either (eqb o OperatorCodes.equal) (truth-fits (equal x y)) (a-number zero-fits))))))
 
-given-fits : {c : Computed} {z : ℤ} → Fitting c → c ≡ gives z → SFits w32 z
+given-fits : {c : Computed} {z : ℤ} → ComputedFits c → c ≡ gives z → SFits w32 z
 given-fits {c} {z} (a-number {z = x} h) e = let s : x ≡ z = cc e in rw s at h
 given-fits a-fault e = absurd (let z : _≡_ {A = ℕ} 0 1 = cc in omega arith)
 
@@ -112,8 +114,8 @@ module _ (b : List ℕ) (rs : List ℤ) (bytes : Bytes b) (readings : SignedRead
       }
 
   -- of an answer that comes after a verdict
-  pub after-fits : (steps nesting most : ℕ) (v : Verdict) → NumberedIn v → isAnswer (answerAfter v (ruleAnswer b rs steps nesting most) .outcome) ≡ true
-      → SFits w32 (answerAfter v (ruleAnswer b rs steps nesting most) .value)
-  unfolding answerAfter ruleAnswer answerOf refusal
-  after-fits steps nesting most Accepted k h = rule-value b rs most fitting steps nesting zero-fits
-  after-fits steps nesting most (Refused n p) k h = absurd (true≢false (sym h ∙ refusal-no-answer n k))
+  pub after-fits : (steps nesting cellsAllowed : ℕ) (v : Verdict) → NumberedIn v → isAnswer (answerAfter v (ruleAnswer b rs steps nesting cellsAllowed) .outcome) ≡ true
+      → SFits w32 (answerAfter v (ruleAnswer b rs steps nesting cellsAllowed) .value)
+  unfolding answerAfter ruleAnswer reachedAnswer refusal
+  after-fits steps nesting cellsAllowed Accepted k h = rule-value b rs cellsAllowed fitting steps nesting zero-fits
+  after-fits steps nesting cellsAllowed (Refused n p) k h = absurd (true≢false (sym h ∙ refusal-no-answer n k))

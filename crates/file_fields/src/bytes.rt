@@ -2,7 +2,7 @@
 ghost use mathlib.Core.Path.{_≡_};
 ghost use Prim.Native.Nat.{_+_, _*_, _<_};
 ghost use lib.ListN.{getD, length};
-ghost use Rattle.definitions.specs.Bytes.{word, word32, signed};
+ghost use Rattle.definitions.specs.Bytes.{word, word32};
 
 // The byte at a place.
 fn byte(b: &[u8], at: usize) -> u16
@@ -53,16 +53,4 @@ pub fn word32(b: &[u8], at: usize) -> u32
         }
     }
     low
-}
-
-// The signed 32-bit field at a place.
-pub fn signed(b: &[u8], at: usize) -> i32
-    ensures { λ r. ⌜ r ≡ signed (now (b .entry)) at ⌝ }
-{
-    let n = word32(b, at);
-    if n < 0x8000_0000 {
-        n as i32
-    } else {
-        (n as i64 - 0x1_0000_0000) as i32
-    }
 }

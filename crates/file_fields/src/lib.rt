@@ -1,2 +1,3 @@
-// The file_fields crate: fields of a file's bytes, little-endian (document 01, "Files"). Every read is total.
+// Fields of a file's bytes, little-endian (document 01, "Files"). Every read and every write is total.
 pub mod bytes;
+pub mod writing;

@@ -3,13 +3,13 @@ ghost use mathlib.Core.Path.{_≡_};
 ghost use Prim.Native.Nat.{_≤_};
 ghost use Rattle.definitions.specs.Layouts.{readings, items, functions, nodes, firstItem, firstFunction, firstNode, due, headKind, sectionKind, nodeKind, isDue, countField};
 ghost use Rattle.definitions.specs.Shape.{fileLimit, itemLimit};
-use crate::sheet_kinds;
-use crate::translation_kinds;
 use definitions::Layout;
+use definitions::sheet_kinds;
 use definitions::sizes::MOST_CONSTRUCTORS;
 use definitions::sizes::MOST_FORMALS;
 use definitions::sizes::SHEET_BYTES;
 use definitions::sizes::TRANSLATION_BYTES;
+use definitions::translation_kinds;
 use file_fields::bytes::word;
 
 // The head's counts.

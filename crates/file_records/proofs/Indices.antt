@@ -30,9 +30,9 @@ pub record-past : (b starts rec : List ℕ) (r : ℕ) → mostRecords ≤ r → 
 record-past b starts rec r h e = e ∙ ap (recordAt b) (start-past starts r h)
 
 -- a field of the record that an index shows a number of records after a first one
-pub shown-field : (b starts : List ℕ) (first g i x : ℕ) (rec : List ℕ) → g ≡ first → rec ≡ recordAt b (startIn starts (g + i)) → x ≡ field rec 0
+pub shown-field : (b starts : List ℕ) {first g : ℕ} (i : ℕ) {x : ℕ} {rec : List ℕ} → g ≡ first → rec ≡ recordAt b (startIn starts (g + i)) → x ≡ field rec 0
     → x ≡ field (recordAt b (startIn starts (first + i))) 0
-shown-field b starts first g i x rec e f h = h ∙ rw (f, e) refl
+shown-field b starts i e f h = h ∙ rw (f, e) refl
 
 -- the record at an entry's place is the record of that number
 pub same-record : (b starts : List ℕ) (n r : ℕ) → Indexed b starts n → r < n → recordAt b (startIn starts r) ≡ recordOf b r
@@ -48,8 +48,8 @@ pub indexed-field : (b starts : List ℕ) (n r j x : ℕ) (rec : List ℕ) → I
 indexed-field b starts n r j x rec i h e f = f ∙ rw (indexed-record b starts n r rec i h e) refl
 
 -- an index of as many records, said in other words
-pub as-many : (b starts : List ℕ) (n m : ℕ) → Indexed b starts n → n ≡ m → Indexed b starts m
-as-many b starts n m i e = rw e at i
+pub as-many : {b starts : List ℕ} {n m : ℕ} → Indexed b starts n → n ≡ m → Indexed b starts m
+as-many i e = rw e at i
 
 -- an index of fewer records
 pub fewer : (b starts : List ℕ) (n m : ℕ) → m ≤ n → Indexed b starts n → Indexed b starts m
@@ -59,10 +59,11 @@ fewer b starts n m h i = record { entry = λ r k. i .entry r (omega arith); room
 pub opened-record : (y : Layout) (b starts : List ℕ) (r : ℕ) (rec : List ℕ) → Opened y b starts → r < due b → rec ≡ recordAt b (startIn starts r) → rec ≡ recordOf b r
 opened-record y b starts r rec o h e = indexed-record b starts (due b) r rec (o .index) h e
 
-pub opened-translation-kind : (b starts : List ℕ) (r : ℕ) (rec : List ℕ) → Opened Translation b starts → r < due b → rec ≡ recordAt b (startIn starts r) → TranslationKinds.head ≤ kindOf rec
-opened-translation-kind b starts r rec o h e =
+pub opened-translation-kind : {b starts : List ℕ} {r : ℕ} {rec : List ℕ} → Opened Translation b starts → r < due b
+    → rec ≡ recordAt b (startIn starts r) → TranslationKinds.head ≤ kindOf rec
+opened-translation-kind {b} {starts} {r} {rec} o h e =
     rw (opened-record Translation b starts r rec o h e)
     (translation-kind b r (kindOf (recordOf b r)) (kind-due Translation b (o .accepted) r h))
 
-pub numbered-sheet-kind : (b starts : List ℕ) (r : ℕ) (rec : List ℕ) → Opened Sheet b starts → r < due b → rec ≡ recordOf b r → kindOf rec ≤ SheetKinds.caseOf
-numbered-sheet-kind b starts r rec o h e = rw e (sheet-kind b r (kindOf (recordOf b r)) (kind-due Sheet b (o .accepted) r h))
+pub numbered-sheet-kind : {b starts : List ℕ} {r : ℕ} {rec : List ℕ} → Opened Sheet b starts → r < due b → rec ≡ recordOf b r → kindOf rec ≤ SheetKinds.caseOf
+numbered-sheet-kind {b} {r} o h e = rw e (sheet-kind b r (kindOf (recordOf b r)) (kind-due Sheet b (o .accepted) r h))

@@ -7,6 +7,7 @@ use definitions::sizes::MOST_RECORDS;
 use definitions::sizes::Starts;
 use file_fields::bytes::word;
 use file_fields::bytes::word_inside;
+use widths::wide;
 
 // Whether a whole record stands at a place.
 fn is_whole(b: &[u8], at: usize) -> bool
@@ -34,7 +35,7 @@ fn next(b: &[u8], at: usize) -> usize
 }
 
 // Where record `r` starts, by walking.
-pub fn start(b: &[u8], r: usize) -> usize
+fn start(b: &[u8], r: usize) -> usize
     ensures { λ at. ⌜ at ≡ startOf (now (b .entry)) r ⌝ }
 {
     let mut at: usize = 0;
@@ -64,27 +65,6 @@ pub fn record(b: &[u8], r: usize) -> &[u8]
     ensures { λ p. ⌜ now p ≡ recordOf (now (b .entry)) r ⌝ }
 {
     record_at(b, start(b, r))
-}
-
-// A number of 16 bits as a number of the machine's width.
-pub fn wide(x: u16) -> usize
-    ensures { λ r. ⌜ (r ≡ x) × (r ≤ 65535) ⌝ }
-{
-    x as usize
-}
-
-// A number of 32 bits as a number of the machine's width.
-pub fn wide32(x: u32) -> usize
-    ensures { λ r. ⌜ (r ≡ x) × (r ≤ 4294967295) ⌝ }
-{
-    x as usize
-}
-
-// A byte as a number of the machine's width.
-pub fn wide8(x: u8) -> usize
-    ensures { λ r. ⌜ (r ≡ x) × (r ≤ 255) ⌝ }
-{
-    x as usize
 }
 
 // Where record `r` starts by an index; 0 past the index.

@@ -34,10 +34,10 @@ unfolding wordBytes
 word-unwritten file at w h = none-written file at (wordBytes w) (omega arith)
 
 -- where the records start
-pub skip-moves : (file : List ℕ) (at x y : ℕ) → at < wordPlaces → x ≡ getD file at 0 → y ≡ getD file (at + 1) 0
+pub skip-moves : (file : List ℕ) {at x y : ℕ} → at < wordPlaces → x ≡ getD file at 0 → y ≡ getD file (at + 1) 0
     → at + (x + 256 * y) ≡ skipped file at
 unfolding skipped wordAt
-skip-moves file at x y h p q = rw (lt-ltb at wordPlaces h, p, q) refl
+skip-moves file {at} h p q = rw (lt-ltb at wordPlaces h, p, q) refl
 
 pub skip-stays : (file : List ℕ) (at : ℕ) → wordPlaces ≤ at → wordPlaces ≡ skipped file at
 unfolding skipped
@@ -51,6 +51,6 @@ pub start-more : (file : List ℕ) (at i next : ℕ) → at ≡ startOf file i �
 unfolding startOf
 start-more file at i next e s = rw (add-one, ← e) s
 
-pub word-changed : (entry exit : List ℕ) (r j at w next : ℕ) → at ≡ startOf entry r
+pub word-changed : {entry exit : List ℕ} (r j : ℕ) {at : ℕ} (w : ℕ) {next : ℕ} → at ≡ startOf entry r
     → Written entry (at + 2 * j) (wordBytes w) exit next → exit ≡ written entry (startOf entry r + 2 * j) (wordBytes w)
-word-changed entry exit r j at w next e p = rw e at (p .content)
+word-changed r j {at} w e p = rw e at (p .content)

@@ -4,6 +4,7 @@ ghost use mathlib.Core.Path.{_≡_};
 ghost use Prim.Native.Nat.{_+_, _*_, _<_};
 ghost use Rattle.file_writer.specs.Writing.{walkEnd, wordBytes, written, Written, skipped, startOf};
 use definitions::sizes::TRANSLATION_BYTES;
+use widths::wide8;
 
 // How many bytes the space has: one more than document 01 allows the larger of its two files.
 pub const SPACE_BYTES: usize = TRANSLATION_BYTES + 1;
@@ -27,19 +28,12 @@ pub fn put(file: &mut Space, at: usize, word: u16) -> usize
     }
 }
 
-// A byte as a number.
-fn wide(byte: u8) -> usize
-    ensures { λ r. ⌜ (r ≡ byte) × (r < 256) ⌝ }
-{
-    byte as usize
-}
-
 // The place after the record at a place, by its length.
 fn skip(file: &Space, at: usize) -> usize
     ensures { λ r. ⌜ (r ≡ skipped (now (file .entry)) at) × (r < walkEnd) ⌝ }
 {
     if at < WORD_PLACES {
-        at + (wide(file[at]) + 256 * wide(file[at + 1]))
+        at + (wide8(file[at]) + 256 * wide8(file[at + 1]))
     } else {
         WORD_PLACES
     }

@@ -43,18 +43,18 @@ clause-none rec k (suc j) h = absurd (omega arith)
 pub record ClauseLeft (rec : List ℕ) (k j : ℕ) : Type 0 where
   pub same : clauseOf rec (clauses rec) k ≡ clauseOf rec j k
 
-pub clause-left-all : (rec : List ℕ) (k j : ℕ) → j ≡ clauses rec → ClauseLeft rec k j
-clause-left-all rec k j e = record { same = rw e refl }
+pub clause-left-all : {rec : List ℕ} {k j : ℕ} → j ≡ clauses rec → ClauseLeft rec k j
+clause-left-all e = record { same = rw e refl }
 
-pub clause-left-fewer : (rec : List ℕ) (k j x : ℕ) → ClauseLeft rec k j → 0 < j → x ≡ child rec j → (x ≡ k → ⊥) → ClauseLeft rec k (j - 1)
-clause-left-fewer rec k j x w h e f = record { same = w .same ∙ clause-before rec k j x h e f }
+pub clause-left-fewer : {rec : List ℕ} {k j x : ℕ} → ClauseLeft rec k j → 0 < j → x ≡ child rec j → (x ≡ k → ⊥) → ClauseLeft rec k (j - 1)
+clause-left-fewer {rec} {k} {j} {x} w h e f = record { same = w .same ∙ clause-before rec k j x h e f }
 
-pub clause-found : (rec : List ℕ) (k j x y : ℕ) → ClauseLeft rec k j → 0 < j → x ≡ child rec j → x ≡ k → y ≡ clauseConstructor rec (j - 1)
+pub clause-found : {rec : List ℕ} {k j x y : ℕ} → ClauseLeft rec k j → 0 < j → x ≡ child rec j → x ≡ k → y ≡ clauseConstructor rec (j - 1)
     → 1 + y ≡ entryOf (clauseOf rec (clauses rec) k)
-clause-found rec k j x y w h e f g = clause-here rec k j x y h e f g ∙ ap entryOf (sym (w .same))
+clause-found {rec} {k} {j} {x} {y} w h e f g = clause-here rec k j x y h e f g ∙ ap entryOf (sym (w .same))
 
-pub clause-not-found : (rec : List ℕ) (k j : ℕ) → ClauseLeft rec k j → j ≤ 0 → 0 ≡ entryOf (clauseOf rec (clauses rec) k)
-clause-not-found rec k j w h = clause-none rec k j h ∙ ap entryOf (sym (w .same))
+pub clause-not-found : {rec : List ℕ} {k j : ℕ} → ClauseLeft rec k j → j ≤ 0 → 0 ≡ entryOf (clauseOf rec (clauses rec) k)
+clause-not-found {rec} {k} {j} w h = clause-none rec k j h ∙ ap entryOf (sym (w .same))
 
 module _ (b : List ℕ) (accepted : firstOf (nodes b) (tree b) ≡ Accepted) where
   right : (k : ℕ) → k < nodes b → treeRight b k ≡ true

@@ -1,4 +1,3 @@
-pub mod Walking
 pub mod RunTables
 pub mod Readings
 pub mod SheetTables

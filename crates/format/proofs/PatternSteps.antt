@@ -30,11 +30,11 @@ use Rattle.file_records.proofs.Indices.{opened-record}
 use Rattle.format.proofs.ClauseTable.{parent-above, entry-of-body, entry-of-clause, entry-of-parent, within-below}
 
 -- the parent of a node that is no body
-module _ (b starts ends owners parents : List ℕ) (k : ℕ) (w : NodeAt b starts ends owners k) (q : ParentsOf b parents) (a : TreesAccepted b) where
-  pub body-entry : (t : Bool) → t ≡ isBody b k → t ≡ true → 0 ≡ entryOf (clauseWithin b (nodes b) k)
-  body-entry t e f = entry-of-body b (a .trees) k t (w .below) e f
+module _ {b starts ends owners parents : List ℕ} {k : ℕ} (w : NodeAt b starts ends owners k) (q : ParentsOf b parents) (a : TreesAccepted b) where
+  pub body-entry : {t : Bool} → t ≡ isBody b k → t ≡ true → 0 ≡ entryOf (clauseWithin b (nodes b) k)
+  body-entry {t} e f = entry-of-body b (a .trees) k t (w .below) e f
 
-  module _ (t : Bool) (et : t ≡ isBody b k) (ht : t ≡ false) (p : ℕ) (ep : p ≡ getD parents k 0) where
+  module _ {t : Bool} (et : t ≡ isBody b k) (ht : t ≡ false) {p : ℕ} (ep : p ≡ getD parents k 0) where
     parent-is : p ≡ parentOf b k
     parent-is = ep ∙ q .entry k (w .below)
 
@@ -47,29 +47,29 @@ module _ (b starts ends owners parents : List ℕ) (k : ℕ) (w : NodeAt b start
     pub parent-in-table : p < mostNodes
     parent-in-table = omega (arith, parent-node, nodes-limit Sheet b (w .file .accepted))
 
-    module _ (f : ℕ) (ef : f ≡ firstNode b) (rec : List ℕ) (er : rec ≡ recordAt b (startIn starts (f + p))) (i : ℕ) (ei : i ≡ kindOf rec) where
+    module _ {f : ℕ} (ef : f ≡ firstNode b) {rec : List ℕ} (er : rec ≡ recordAt b (startIn starts (f + p))) {i : ℕ} (ei : i ≡ kindOf rec) where
       parent-record : rec ≡ nodeRecord b p
       parent-record = opened-record Sheet b starts (f + p) rec (w .file) (omega (arith, ef, parent-node)) er ∙ rw ef refl
 
-      pub clause-entry : (x : ℕ) → i ≡ SheetKinds.caseOf → x ≡ entryOf (clauseOf rec (clauses rec) k) → x ≡ entryOf (clauseWithin b (nodes b) k)
-      clause-entry x e g = entry-of-clause b (a .trees) k (w .below) t et ht p parent-is rec parent-record i ei x e g
+      pub clause-entry : {x : ℕ} → i ≡ SheetKinds.caseOf → x ≡ entryOf (clauseOf rec (clauses rec) k) → x ≡ entryOf (clauseWithin b (nodes b) k)
+      clause-entry {x} e g = entry-of-clause b (a .trees) k (w .below) t et ht p parent-is rec parent-record i ei x e g
 
-      pub parent-entry : (held : List ℕ) → ClausesFrom b held (k + 1) → (i ≡ SheetKinds.caseOf → ⊥) → getD held p 0 ≡ entryOf (clauseWithin b (nodes b) k)
-      parent-entry held c e =
+      pub parent-entry : {held : List ℕ} → ClausesFrom b held (k + 1) → (i ≡ SheetKinds.caseOf → ⊥) → getD held p 0 ≡ entryOf (clauseWithin b (nodes b) k)
+      parent-entry {held} c e =
           entry-of-parent b (a .trees) k (w .below) t et ht p parent-is rec parent-record i ei (getD held p 0) e
           (c .entry p (omega (arith, parent-larger)) parent-node)
 
 -- the table while it is filled
-pub record Filling (b starts ends owners parents held : List ℕ) (k : ℕ) : Type 0 where
+pub record FillingClauses (b starts ends owners parents held : List ℕ) (k : ℕ) : Type 0 where
   pub ruled : Ruled b starts ends owners parents
   pub size : length held ≡ mostNodes
   pub reached : k ≤ nodes b
   pub room : k ≤ mostNodes
   pub right : ClausesFrom b held k
 
-pub filling-begins : (b starts ends owners parents held : List ℕ) (k : ℕ) → Ruled b starts ends owners parents → length held ≡ mostNodes → k ≡ nodes b
-    → Filling b starts ends owners parents held k
-filling-begins b starts ends owners parents held k u s e =
+pub filling-begins : {b starts ends owners parents held : List ℕ} {k : ℕ} → Ruled b starts ends owners parents → length held ≡ mostNodes → k ≡ nodes b
+    → FillingClauses b starts ends owners parents held k
+filling-begins {b} u s e =
     record {
       ruled = u;
       size = s;
@@ -78,19 +78,20 @@ filling-begins b starts ends owners parents held k u s e =
       right = record { entry = λ j h l. absurd (omega (arith, e, h, l)) };
     }
 
-module _ (b starts ends owners parents held : List ℕ) (k : ℕ) (w : Filling b starts ends owners parents held k) (h : 0 < k) where
+module _ {b starts ends owners parents held : List ℕ} {k : ℕ} (w : FillingClauses b starts ends owners parents held k) (h : 0 < k) where
   pub filling-node : NodeAt b starts ends owners (k - 1)
   filling-node = record { file = w .ruled .file; runs = w .ruled .runs; owned = w .ruled .owned; below = omega (arith, w .reached, h) }
 
   pub filling-from : ClausesFrom b held (k - 1 + 1)
   filling-from = record { entry = λ j i l. w .right .entry j (omega (arith, i, h)) l }
 
-  entry-after : (x j : ℕ) → x ≡ entryOf (clauseWithin b (nodes b) (k - 1)) → k - 1 ≤ j → j < nodes b → Dec (j ≡ k - 1) → getD (set held (k - 1) x) j 0 ≡ entryOf (clauseWithin b (nodes b) j)
+  entry-after : (x j : ℕ) → x ≡ entryOf (clauseWithin b (nodes b) (k - 1)) → k - 1 ≤ j → j < nodes b → Dec (j ≡ k - 1)
+      → getD (set held (k - 1) x) j 0 ≡ entryOf (clauseWithin b (nodes b) j)
   entry-after x j e i l (yes q) = rw q (getD-set-same held (k - 1) x 0 (omega (arith, w .size, w .room, h)) ∙ e)
   entry-after x j e i l (no q) = getD-set-other held (k - 1) j x 0 q ∙ w .right .entry j (omega (arith, i, q, h)) l
 
-  pub filling-goes-on : (x : ℕ) → x ≡ entryOf (clauseWithin b (nodes b) (k - 1)) → Filling b starts ends owners parents (set held (k - 1) x) (k - 1)
-  filling-goes-on x e =
+  pub filling-goes-on : {x : ℕ} → x ≡ entryOf (clauseWithin b (nodes b) (k - 1)) → FillingClauses b starts ends owners parents (set held (k - 1) x) (k - 1)
+  filling-goes-on {x} e =
       record {
         ruled = w .ruled;
         size = length-set held (k - 1) x ∙ w .size;
@@ -99,8 +100,8 @@ module _ (b starts ends owners parents held : List ℕ) (k : ℕ) (w : Filling b
         right = record { entry = λ j i l. entry-after x j e i l (ℕ-discrete j (k - 1)) };
       }
 
-pub filling-done : (b starts ends owners parents held : List ℕ) (k : ℕ) → Filling b starts ends owners parents held k → k ≤ 0 → ClausesOf b held
-filling-done b starts ends owners parents held k w h = record { entry = λ j l. w .right .entry j (omega arith) l }
+pub filling-done : {b starts ends owners parents held : List ℕ} {k : ℕ} → FillingClauses b starts ends owners parents held k → k ≤ 0 → ClausesOf b held
+filling-done w h = record { entry = λ j l. w .right .entry j (omega arith) l }
 
 -- an entry is 0 where there is no clause, and one more than the constructor where there is one
 entry-none : (o : Option ℕ) (h : ℕ) → h ≡ entryOf o → h < 1 → o ≡ none
@@ -114,7 +115,7 @@ entry-some none h e l = absurd (omega (arith, e, l))
 entry-some (some c) h e l = rw (e, add-sub-cancel-left) refl
 
 -- the rule of node k
-module _ (b starts held : List ℕ) (k : ℕ) (o : Opened Sheet b starts) (w : ClausesOf b held) (a : TreesAccepted b) (hk : k < nodes b) where
+module _ {b starts held : List ℕ} {k : ℕ} (o : Opened Sheet b starts) (w : ClausesOf b held) (a : TreesAccepted b) (hk : k < nodes b) where
   pub entry-in-table : k < mostNodes
   entry-in-table = omega (arith, hk, nodes-limit Sheet b (o .accepted))
 
@@ -125,7 +126,7 @@ module _ (b starts held : List ℕ) (k : ℕ) (o : Opened Sheet b starts) (w : C
     pub constructor-there : 1 ≤ h → h - 1 < items b
     constructor-there l = within-below b (a .trees) (a .names) (nodes b) k (h - 1) hk (entry-some (clauseWithin b (nodes b) k) h entry-is l)
 
-  module _ (f : ℕ) (ef : f ≡ firstNode b) (rec : List ℕ) (er : rec ≡ recordAt b (startIn starts (f + k))) (i : ℕ) (ei : i ≡ kindOf rec) where
+  module _ {f : ℕ} (ef : f ≡ firstNode b) {rec : List ℕ} (er : rec ≡ recordAt b (startIn starts (f + k))) {i : ℕ} (ei : i ≡ kindOf rec) where
     own-record : rec ≡ nodeRecord b k
     own-record = opened-record Sheet b starts (f + k) rec o (omega (arith, ef, hk)) er ∙ rw ef refl
 
@@ -133,14 +134,14 @@ module _ (b starts held : List ℕ) (k : ℕ) (o : Opened Sheet b starts) (w : C
     unfolding patternRight
     pattern-other e = rw (← own-record, ← ei, ne-eqb i SheetKinds.patternVariable e) refl
 
-    module _ (e : i ≡ SheetKinds.patternVariable) (h : ℕ) (eh : h ≡ getD held k 0) where
+    module _ (e : i ≡ SheetKinds.patternVariable) {h : ℕ} (eh : h ≡ getD held k 0) where
       pub pattern-outside : h < 1 → false ≡ patternRight b k
       unfolding patternRight belowArity
       pattern-outside l = rw (← own-record, ← ei, e, entry-none (clauseWithin b (nodes b) k) h (entry-is h eh) l) refl
 
-      pub pattern-held : (x n : ℕ) → 1 ≤ h → x ≡ field rec 0 → n ≡ arity b (h - 1) → ltb x n ≡ patternRight b k
+      pub pattern-held : {x n : ℕ} → 1 ≤ h → x ≡ field rec 0 → n ≡ arity b (h - 1) → ltb x n ≡ patternRight b k
       unfolding patternRight belowArity
-      pattern-held x n l q r =
+      pattern-held l q r =
           rw (← own-record, ← ei, e, entry-some (clauseWithin b (nodes b) k) h (entry-is h eh) l, ← q, r) refl
 
 -- the verdict on node k

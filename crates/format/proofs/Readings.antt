@@ -16,38 +16,39 @@ use Rattle.laws.proofs.Verdicts.{then-accepted, then-refused}
 use Rattle.accepted.proofs.Head.{nodes-limit}
 use Rattle.format.specs.Seen.{timesIn, Seen, TimesOf, ParentsOf, TreesAccepted}
 use Rattle.file_records.specs.Index.{Opened}
-use Rattle.format.specs.Readers.{Walked, RunEnds, Owners, ReadTranslation, ReadSheet}
+use Rattle.file_shape.specs.Walks.{Walked}
+use Rattle.format.specs.Readers.{RunEndTable, Owners, ReadTranslation, ReadSheet}
 
 -- nothing is both accepted and refused
 pub not-both : {P : Type 0} (v : Verdict) (n p : ℕ) → v ≡ Refused n p → v ≡ Accepted → P
 not-both v n p e f = absurd (let z : _≡_ {A = ℕ} 0 1 = cc in omega arith)
 
 -- an accepted walk opens the file
-pub opened : (y : Layout) (b starts : List ℕ) (v : Verdict) → Walked y b v starts → v ≡ Accepted → Opened y b starts
-opened y b starts v w e = record { accepted = sym (w .verdict) ∙ e; index = w .index e }
+pub opened : {y : Layout} {b starts : List ℕ} {v : Verdict} → Walked y b v starts → v ≡ Accepted → Opened y b starts
+opened w e = record { accepted = sym (w .verdict) ∙ e; index = w .index e }
 
-pub translation-refused : (b starts ends : List ℕ) (v : Verdict) (n p : ℕ) → Walked Translation b v starts → v ≡ Refused n p → ReadTranslation b v starts ends
+pub translation-refused : {b starts ends : List ℕ} {v : Verdict} {n p : ℕ} → Walked Translation b v starts → v ≡ Refused n p → ReadTranslation b v starts ends
 unfolding translationVerdict
-translation-refused b starts ends v n p w e =
+translation-refused {v} {n} {p} w e =
     record {
       verdict = e ∙ sym (then-refused _ _ n p (sym (w .verdict) ∙ e));
       index = not-both v n p e;
       runs = not-both v n p e;
     }
 
-pub translation-read : (b starts ends : List ℕ) (v : Verdict) → Opened Translation b starts → RunEnds Translation b ends → v ≡ firstOf (due b) (references b)
+pub translation-read : {b starts ends : List ℕ} {v : Verdict} → Opened Translation b starts → RunEndTable Translation b ends → v ≡ firstOf (due b) (references b)
     → ReadTranslation b v starts ends
 unfolding translationVerdict
-translation-read b starts ends v o r e =
+translation-read o r e =
     record {
       verdict = e ∙ sym (then-accepted _ _ (o .accepted));
       index = λ f. o .index;
       runs = λ f. r;
     }
 
-pub sheet-refused : (b starts ends owners : List ℕ) (v : Verdict) (n p : ℕ) → Walked Sheet b v starts → v ≡ Refused n p → ReadSheet b v starts ends owners
+pub sheet-refused : {b starts ends owners : List ℕ} {v : Verdict} {n p : ℕ} → Walked Sheet b v starts → v ≡ Refused n p → ReadSheet b v starts ends owners
 unfolding sheetVerdict
-sheet-refused b starts ends owners v n p w e =
+sheet-refused {v} {n} {p} w e =
     record {
       verdict = e ∙ sym (then-refused _ _ n p (then-refused _ _ n p (then-refused _ _ n p (sym (w .verdict) ∙ e))));
       index = not-both v n p e;
@@ -55,36 +56,36 @@ sheet-refused b starts ends owners v n p w e =
       owned = not-both v n p e;
     }
 
-pub sheet-read : (b starts ends owners : List ℕ) (v : Verdict) → Opened Sheet b starts → RunEnds Sheet b ends → Owners b owners → v ≡ sheetVerdict b → ReadSheet b v starts ends owners
-sheet-read b starts ends owners v o r w e = record { verdict = e; index = λ f. o .index; runs = λ f. r; owned = λ f. w }
+pub sheet-read : {b starts ends owners : List ℕ} {v : Verdict} → Opened Sheet b starts → RunEndTable Sheet b ends → Owners b owners → v ≡ sheetVerdict b → ReadSheet b v starts ends owners
+sheet-read o r w e = record { verdict = e; index = λ f. o .index; runs = λ f. r; owned = λ f. w }
 
 -- the checks of a sheet whose shape is accepted
-module _ (b starts : List ℕ) (o : Opened Sheet b starts) (v : Verdict) (ev : v ≡ firstOf (due b) (λ r. references b r andThen arguments b r)) where
-  pub names-refused : (n p : ℕ) → v ≡ Refused n p → v ≡ sheetVerdict b
+module _ {b starts : List ℕ} (o : Opened Sheet b starts) {v : Verdict} (ev : v ≡ firstOf (due b) (λ r. references b r andThen arguments b r)) where
+  pub names-refused : {n p : ℕ} → v ≡ Refused n p → v ≡ sheetVerdict b
   unfolding sheetVerdict
-  names-refused n p e =
+  names-refused {n} {p} e =
       e ∙ sym (then-refused _ _ n p (then-refused _ _ n p (then-accepted _ _ (o .accepted) ∙ sym ev ∙ e)))
 
-  module _ (hv : v ≡ Accepted) (u : Verdict) (eu : u ≡ firstOf (nodes b) (tree b)) where
+  module _ (hv : v ≡ Accepted) {u : Verdict} (eu : u ≡ firstOf (nodes b) (tree b)) where
     names-passed : (fileShape Sheet b andThen firstOf (due b) (λ r. references b r andThen arguments b r)) ≡ Accepted
     names-passed = then-accepted _ _ (o .accepted) ∙ sym ev ∙ hv
 
-    pub trees-refused : (n p : ℕ) → u ≡ Refused n p → u ≡ sheetVerdict b
+    pub trees-refused : {n p : ℕ} → u ≡ Refused n p → u ≡ sheetVerdict b
     unfolding sheetVerdict
-    trees-refused n p e = e ∙ sym (then-refused _ _ n p (then-accepted _ _ names-passed ∙ sym eu ∙ e))
+    trees-refused {n} {p} e = e ∙ sym (then-refused _ _ n p (then-accepted _ _ names-passed ∙ sym eu ∙ e))
 
     pub trees-accepted : u ≡ Accepted → TreesAccepted b
     trees-accepted e = record { names = sym ev ∙ hv; trees = sym eu ∙ e }
 
-    pub patterns-last : (x : Verdict) → u ≡ Accepted → x ≡ firstOf (nodes b) (pattern b) → x ≡ sheetVerdict b
+    pub patterns-last : {x : Verdict} → u ≡ Accepted → x ≡ firstOf (nodes b) (pattern b) → x ≡ sheetVerdict b
     unfolding sheetVerdict
-    patterns-last x e f = f ∙ sym (then-accepted _ _ (then-accepted _ _ names-passed ∙ sym eu ∙ e))
+    patterns-last e f = f ∙ sym (then-accepted _ _ (then-accepted _ _ names-passed ∙ sym eu ∙ e))
 
 -- the tables of children, for the nodes of the sheet
-pub times-seen : (b starts times parents : List ℕ) → Opened Sheet b starts → Seen b (nodes b) times parents → TimesOf b times
+pub times-seen : {b starts times parents : List ℕ} → Opened Sheet b starts → Seen b (nodes b) times parents → TimesOf b times
 unfolding timesChild timesIn
-times-seen b starts times parents o w = record { entry = λ k h. w .counted k (omega (arith, h, nodes-limit Sheet b (o .accepted))) }
+times-seen {b} o w = record { entry = λ k h. w .counted k (omega (arith, h, nodes-limit Sheet b (o .accepted))) }
 
-pub parents-seen : (b starts times parents : List ℕ) → Opened Sheet b starts → Seen b (nodes b) times parents → ParentsOf b parents
+pub parents-seen : {b starts times parents : List ℕ} → Opened Sheet b starts → Seen b (nodes b) times parents → ParentsOf b parents
 unfolding parentOf timesIn
-parents-seen b starts times parents o w = record { entry = λ k h. w .last k (omega (arith, h, nodes-limit Sheet b (o .accepted))) }
+parents-seen {b} o w = record { entry = λ k h. w .last k (omega (arith, h, nodes-limit Sheet b (o .accepted))) }

@@ -26,7 +26,7 @@ use Rattle.accepted.proofs.Sections.{node-counts-sum}
 use Rattle.accepted.proofs.Sums.{sum-rises}
 use Rattle.accepted.proofs.Owners.{start-below-end, last-end, owner-unique}
 use Rattle.file_records.specs.Index.{Indexed, Opened}
-use Rattle.format.specs.Readers.{RunEnds, Owners, ownerAfter}
+use Rattle.format.specs.Readers.{RunEndTable, Owners, ownerAfter}
 use Rattle.file_records.proofs.Indices.{fewer}
 
 -- one entry more of a table whose first n entries are right
@@ -38,7 +38,7 @@ entry-more P table n x h f p i k =
     (rw (getD-set-same table n x 0 h) p) i (omega (arith, k))
 
 -- the ends of the first f runs are in the table; the functions' records are the `count` from `first` on
-pub record Ending (b starts : List ℕ) (first count j : ℕ) (ends : List ℕ) (total f : ℕ) : Type 0 where
+pub record FillingEnds (b starts : List ℕ) (first count j : ℕ) (ends : List ℕ) (total f : ℕ) : Type 0 where
   pub reached : f ≤ count
   pub few : count ≤ mostFunctions
   pub small : sumOf count (λ g. field (recordOf b (first + g)) j) ≤ mostNodes
@@ -52,9 +52,9 @@ functions-due : (y : Layout) (b : List ℕ) → firstFunction y b + functions b 
 functions-due Sheet b = omega arith
 functions-due Translation b = omega arith
 
-pub ending-begins : (y : Layout) (b starts ends : List ℕ) (first count j : ℕ) → Opened y b starts → first ≡ firstFunction y b → count ≡ functions b
-    → j ≡ countField y → length ends ≡ mostFunctions → Ending b starts first count j ends 0 0
-ending-begins y b starts ends first count j o e f g s =
+pub ending-begins : {y : Layout} {b starts ends : List ℕ} {first count j : ℕ} → Opened y b starts → first ≡ firstFunction y b → count ≡ functions b
+    → j ≡ countField y → length ends ≡ mostFunctions → FillingEnds b starts first count j ends 0 0
+ending-begins {y} {b} {starts} {first} {j} o e f g s =
     record {
       reached = omega arith;
       few = rw f (functions-limit y b (o .accepted));
@@ -66,16 +66,13 @@ ending-begins y b starts ends first count j o e f g s =
       entry = λ i h. absurd (not-suc-le-zero h);
     }
 
-module _ (b starts : List ℕ) (first count j : ℕ) (ends : List ℕ) (total f : ℕ) (w : Ending b starts first count j ends total f) where
-  next-total : (x : ℕ) → f < count → x ≡ field (recordOf b (first + f)) j → total + x ≤ mostNodes
-  next-total x h e =
+module _ {b starts : List ℕ} {first count j : ℕ} {ends : List ℕ} {total f : ℕ} (w : FillingEnds b starts first count j ends total f) where
+  pub next-fits : (x : ℕ) → f < count → x ≡ field (recordOf b (first + f)) j → total + x ≤ mostNodes
+  next-fits x h e =
       let t = total-more b first j f total x (w .summed) e in
       omega (arith, t .is, sum-rises (f + 1) count (λ g. field (recordOf b (first + g)) j) (omega (arith, h)), w .small)
 
-  pub next-fits : (x : ℕ) → f < count → x ≡ field (recordOf b (first + f)) j → total + x ≤ mostNodes
-  next-fits = next-total
-
-  pub ending-goes-on : (x : ℕ) → f < count → x ≡ field (recordOf b (first + f)) j → Ending b starts first count j (set ends f (total + x)) (total + x) (f + 1)
+  pub ending-goes-on : (x : ℕ) → f < count → x ≡ field (recordOf b (first + f)) j → FillingEnds b starts first count j (set ends f (total + x)) (total + x) (f + 1)
   ending-goes-on x h e =
       let t = total-more b first j f total x (w .summed) e in
       record {
@@ -85,19 +82,19 @@ module _ (b starts : List ℕ) (first count j : ℕ) (ends : List ℕ) (total f 
         index = w .index;
         size = length-set ends f (total + x) ∙ w .size;
         summed = t;
-        total-small = next-total x h e;
+        total-small = next-fits x h e;
         entry = entry-more (λ i v. Totalled b first j (suc i) v) ends f (total + x) (omega (arith, w .size, w .few, h)) (w .entry) (rw add-one at t);
       }
 
-  pub ending-done : (y : Layout) → first ≡ firstFunction y b → count ≡ functions b → j ≡ countField y → count ≤ f → RunEnds y b ends
+  pub ending-done : {y : Layout} → first ≡ firstFunction y b → count ≡ functions b → j ≡ countField y → count ≤ f → RunEndTable y b ends
   unfolding runEnd
-  ending-done y e g h k =
+  ending-done {y} e g h k =
       record { entry = λ i q. total-counts y b first j (suc i) (suc i) (getD ends i 0) (w .entry i (omega (arith, g, q, k))) e h refl }
 
 -- the owners of the first k nodes are in the table; node k is owned by function f or the next one
 pub record Owning (b ends : List ℕ) (count : ℕ) (owners : List ℕ) (f k : ℕ) : Type 0 where
   pub accepted : fileShape Sheet b ≡ Accepted
-  pub runs : RunEnds Sheet b ends
+  pub runs : RunEndTable Sheet b ends
   pub counted : count ≡ nodes b
   pub room : count ≤ mostNodes
   pub reached : k ≤ count
@@ -108,10 +105,10 @@ pub record Owning (b ends : List ℕ) (count : ℕ) (owners : List ℕ) (f k : �
   pub soon : k ≤ runEnd Sheet b f
   pub entry : (i : ℕ) → i < k → getD owners i 0 ≡ ownerOf Sheet b i
 
-pub owning-begins : (b ends owners : List ℕ) (count : ℕ) → fileShape Sheet b ≡ Accepted → RunEnds Sheet b ends → count ≡ nodes b → length owners ≡ mostNodes
+pub owning-begins : {b ends owners : List ℕ} {count : ℕ} → fileShape Sheet b ≡ Accepted → RunEndTable Sheet b ends → count ≡ nodes b → length owners ≡ mostNodes
     → Owning b ends count owners 0 0
 unfolding sumOf
-owning-begins b ends owners count a r e s =
+owning-begins {b} a r e s =
     record {
       accepted = a;
       runs = r;
@@ -136,7 +133,7 @@ end-sum : (b : List ℕ) (f : ℕ) → runEnd Sheet b f ≡ sumOf (f + 1) (nodeC
 unfolding runEnd
 end-sum b f = rw add-one refl
 
-module _ (b ends : List ℕ) (count : ℕ) (owners : List ℕ) (f k : ℕ) (w : Owning b ends count owners f k) where
+module _ {b ends : List ℕ} {count : ℕ} {owners : List ℕ} {f k : ℕ} (w : Owning b ends count owners f k) where
   not-last : k < count → runEnd Sheet b f ≤ k → Dec (suc f ≡ functions b) → f + 1 < functions b
   not-last h r (yes e) = absurd (omega (arith, last-end Sheet b (w .accepted) f e, w .counted, h, r))
   not-last h r (no n) = omega (arith, w .few, n)
@@ -188,6 +185,6 @@ pub owner-next : (ends : List ℕ) (f k x : ℕ) → x ≡ getD ends f 0 → x �
 unfolding ownerAfter
 owner-next ends f k x e h = rw (← e, le-leb x k h) refl
 
-pub owner-same : (ends : List ℕ) (f k x : ℕ) → x ≡ getD ends f 0 → k < x → f ≡ ownerAfter ends f k
+pub owner-same : (ends : List ℕ) {f k x : ℕ} → x ≡ getD ends f 0 → k < x → f ≡ ownerAfter ends f k
 unfolding ownerAfter
-owner-same ends f k x e h = rw (← e, lt-leb x k h) refl
+owner-same ends {k} {x} e h = rw (← e, lt-leb x k h) refl

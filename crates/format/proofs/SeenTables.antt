@@ -17,7 +17,7 @@ use Rattle.definitions.specs.References.{children, child}
 use Rattle.laws.proofs.Lists.{count-more, count-none, sum-more, sum-none, last-more, last-none}
 use Rattle.file_records.specs.Index.{Opened, startIn}
 use Rattle.file_records.proofs.Indices.{opened-record}
-use Rattle.format.specs.Seen.{timesIn, once, Sized, NotedOne, Noted, Seen}
+use Rattle.format.specs.Seen.{timesIn, once, ChildTables, NotedOne, Noted, Seen}
 
 pub once-first : (n : ℕ) → n < 1 → 1 ≡ once n
 unfolding once
@@ -35,14 +35,14 @@ pub once-counts : (n : ℕ) → once n ≡ min 2 (n + 1)
 once-counts n = once-is n (ltb n 1) refl
 
 -- one node is noted, where there is an entry for it and where there is none
-pub noted-inside : (c p : ℕ) (times parents t s : List ℕ) → c < mostNodes → t ≡ set times c (once (getD times c 0)) → s ≡ set parents c p → NotedOne c p times parents t s
-noted-inside c p times parents t s h e f = record { counted = rw (lt-ltb c mostNodes h) e; last = rw (lt-ltb c mostNodes h) f }
+pub noted-inside : {c p : ℕ} {times parents t s : List ℕ} → c < mostNodes → t ≡ set times c (once (getD times c 0)) → s ≡ set parents c p → NotedOne c p times parents t s
+noted-inside {c} h e f = record { counted = rw (lt-ltb c mostNodes h) e; last = rw (lt-ltb c mostNodes h) f }
 
-pub noted-outside : (c p : ℕ) (times parents : List ℕ) → mostNodes ≤ c → NotedOne c p times parents times parents
-noted-outside c p times parents h = record { counted = rw (le-ltb c mostNodes h) refl; last = rw (le-ltb c mostNodes h) refl }
+pub noted-outside : {c p : ℕ} {times parents : List ℕ} → mostNodes ≤ c → NotedOne c p times parents times parents
+noted-outside {c} h = record { counted = rw (le-ltb c mostNodes h) refl; last = rw (le-ltb c mostNodes h) refl }
 
 -- an entry after one node is noted
-module _ (c p : ℕ) (times parents t s : List ℕ) (w : Sized times parents) (o : NotedOne c p times parents t s) (k : ℕ) (h : k < mostNodes) where
+module _ (c p : ℕ) (times parents t s : List ℕ) (w : ChildTables times parents) (o : NotedOne c p times parents t s) (k : ℕ) (h : k < mostNodes) where
   noted-here : c ≡ k → (getD t k 0 ≡ min 2 (getD times k 0 + 1)) × (getD s k 0 ≡ p)
   noted-here e =
       let i : ltb c mostNodes ≡ true = lt-ltb c mostNodes (omega (arith, e, h)) in
@@ -66,11 +66,11 @@ length-kept : (c v : ℕ) (x : List ℕ) (u : Bool) → length (cond u (set x c 
 length-kept c v x true = length-set x c v
 length-kept c v x false = refl
 
-one-small : (c p : ℕ) (times parents t s : List ℕ) (w : Sized times parents) (o : NotedOne c p times parents t s) (k : ℕ) (h : k < mostNodes) → Dec (c ≡ k) → getD t k 0 ≤ 2
+one-small : (c p : ℕ) (times parents t s : List ℕ) (w : ChildTables times parents) (o : NotedOne c p times parents t s) (k : ℕ) (h : k < mostNodes) → Dec (c ≡ k) → getD t k 0 ≤ 2
 one-small c p times parents t s w o k h (yes e) = omega (arith, noted-here c p times parents t s w o k h e .0)
 one-small c p times parents t s w o k h (no e) = omega (arith, noted-elsewhere c p times parents t s w o k h e .0, w .small k h)
 
-pub one-sized : (c p : ℕ) (times parents t s : List ℕ) → Sized times parents → NotedOne c p times parents t s → Sized t s
+pub one-sized : (c p : ℕ) (times parents t s : List ℕ) → ChildTables times parents → NotedOne c p times parents t s → ChildTables t s
 one-sized c p times parents t s w o =
     record {
       timesLength = rw (o .counted, length-kept c (once (getD times c 0)) times (ltb c mostNodes)) (w .timesLength);
@@ -79,9 +79,9 @@ one-sized c p times parents t s w o =
     }
 
 -- no node is noted yet
-pub noted-none : (rec : List ℕ) (p : ℕ) (times parents : List ℕ) → Sized times parents → Noted rec p 0 times parents times parents
+pub noted-none : {rec : List ℕ} {p : ℕ} {times parents : List ℕ} → ChildTables times parents → Noted rec p 0 times parents times parents
 unfolding timesIn
-noted-none rec p times parents w =
+noted-none {rec} w =
     record {
       counted = λ k h. rw (count-none (λ j. eqb (child rec j) k)) (omega (arith, w .small k h));
       last = λ k h. rw (count-none (λ j. eqb (child rec j) k)) refl;
@@ -97,7 +97,7 @@ times-elsewhere : (rec : List ℕ) (j k : ℕ) → (child rec j ≡ k → ⊥) �
 unfolding timesIn
 times-elsewhere rec j k e = rw (count-more j (λ i. eqb (child rec i) k), ne-eqb (child rec j) k e) refl
 
-module _ (rec : List ℕ) (p j : ℕ) (times parents t s : List ℕ) (w : Noted rec p j times parents t s) (c : ℕ) (t′ s′ : List ℕ) (e : c ≡ child rec j)
+module _ {rec : List ℕ} {p j : ℕ} {times parents t s : List ℕ} (w : Noted rec p j times parents t s) {c : ℕ} {t′ s′ : List ℕ} (e : c ≡ child rec j)
     (o : NotedOne c p t s t′ s′) where
   counted-more : (k : ℕ) → k < mostNodes → Dec (c ≡ k) → getD t′ k 0 ≡ min 2 (getD times k 0 + timesIn rec (j + 1) k)
   counted-more k h (yes q) =
@@ -123,13 +123,13 @@ module _ (rec : List ℕ) (p j : ℕ) (times parents t s : List ℕ) (w : Noted 
         sized = one-sized c p t s t′ s′ (w .sized) o;
       }
 
-pub noted-all : (rec : List ℕ) (p j n m : ℕ) (times parents t s : List ℕ) → n ≡ m → j ≤ n → n ≤ j → Noted rec p j times parents t s → Noted rec p m times parents t s
-noted-all rec p j n m times parents t s e h k w = let q : j ≡ m = omega (arith, e, h, k) in rw q at w
+pub noted-all : {rec : List ℕ} {p j n m : ℕ} {times parents t s : List ℕ} → n ≡ m → j ≤ n → n ≤ j → Noted rec p j times parents t s → Noted rec p m times parents t s
+noted-all {j} {m} e h k w = let q : j ≡ m = omega (arith, e, h, k) in rw q at w
 
 -- no node's children are noted yet
-pub seen-none : (b times parents : List ℕ) → length times ≡ mostNodes → length parents ≡ mostNodes → ((k : ℕ) → k < mostNodes → getD times k 0 ≡ 0)
+pub seen-none : {b times parents : List ℕ} → length times ≡ mostNodes → length parents ≡ mostNodes → ((k : ℕ) → k < mostNodes → getD times k 0 ≡ 0)
     → ((k : ℕ) → k < mostNodes → getD parents k 0 ≡ 0) → Seen b 0 times parents
-seen-none b times parents e f g h =
+seen-none {b} e f g h =
     record {
       counted = λ k i. rw (sum-none (λ q. timesIn (nodeRecord b q) (children (nodeRecord b q)) k)) (g k i);
       last = λ k i. h k i ∙ sym (last-none (λ q. not (eqb (timesIn (nodeRecord b q) (children (nodeRecord b q)) k) 0)));
@@ -168,9 +168,9 @@ pub record Seeing (b starts : List ℕ) (first count : ℕ) (times parents : Lis
   pub reached : p ≤ count
   pub seen : Seen b p times parents
 
-pub seeing-goes-on : (b starts : List ℕ) (first count : ℕ) (times parents : List ℕ) (p q : ℕ) (rec t s : List ℕ) → Seeing b starts first count times parents p → p < count
+pub seeing-goes-on : {b starts : List ℕ} {first count : ℕ} {times parents : List ℕ} {p q : ℕ} {rec t s : List ℕ} → Seeing b starts first count times parents p → p < count
     → q ≡ p → rec ≡ recordAt b (startIn starts (first + q)) → Noted rec p (children rec) times parents t s → Seeing b starts first count t s (p + 1)
-seeing-goes-on b starts first count times parents p q rec t s w h e f o =
+seeing-goes-on {b} {starts} {first} {times} {parents} {p} {q} {rec} {t} {s} w h e f o =
     record {
       file = w .file;
       start = w .start;
@@ -183,5 +183,5 @@ seeing-goes-on b starts first count times parents p q rec t s w h e f o =
           (opened-record Sheet b starts (first + q) rec (w .file) (omega (arith, w .start, w .counts, h, e)) f ∙ rw (w .start, e) refl) o;
     }
 
-pub seeing-done : (b starts : List ℕ) (first count : ℕ) (times parents : List ℕ) (p : ℕ) → Seeing b starts first count times parents p → count ≤ p → Seen b (nodes b) times parents
-seeing-done b starts first count times parents p w h = let e : p ≡ nodes b = omega (arith, w .counts, w .reached, h) in rw e at (w .seen)
+pub seeing-done : {b starts : List ℕ} {first count : ℕ} {times parents : List ℕ} {p : ℕ} → Seeing b starts first count times parents p → count ≤ p → Seen b (nodes b) times parents
+seeing-done {b} {p} w h = let e : p ≡ nodes b = omega (arith, w .counts, w .reached, h) in rw e at (w .seen)

@@ -22,19 +22,19 @@ opened-parameters b starts f x o h e =
     indexed-field b starts (due b) (firstFunction Sheet b + f) 0 x (recordAt b (startIn starts (firstFunction Sheet b + f))) (o .index)
     (omega (arith, h)) refl e
 
-pub opened-arity : (b starts : List ℕ) (c x : ℕ) → Opened Sheet b starts → c < items b
+pub opened-arity : {b starts : List ℕ} {c x : ℕ} → Opened Sheet b starts → c < items b
     → x ≡ field (recordAt b (startIn starts (firstItem Sheet b + c))) 0 → x ≡ arity b c
-opened-arity b starts c x o h e =
+opened-arity {b} {starts} {c} {x} o h e =
     indexed-field b starts (due b) (firstItem Sheet b + c) 0 x (recordAt b (startIn starts (firstItem Sheet b + c))) (o .index)
     (omega (arith, h)) refl e
 
 -- the owner of the node of record r
-module _ (b starts owners : List ℕ) (r : ℕ) (w : NamesAt b starts owners r) where
+module _ {b starts owners : List ℕ} {r : ℕ} (w : NamesAt b starts owners r) where
   pub node-below : r - firstNode b < nodes b
   node-below = omega (arith, w .below, nodes-least Sheet b (w .file .accepted))
 
-  pub node-narrow : (f : ℕ) → f ≡ firstNode b → r - f < mostNodes
-  node-narrow f e = omega (arith, e, node-below, nodes-limit Sheet b (w .file .accepted))
+  pub node-narrow : {f : ℕ} → f ≡ firstNode b → r - f < mostNodes
+  node-narrow e = omega (arith, e, node-below, nodes-limit Sheet b (w .file .accepted))
 
   owner-is : (k x : ℕ) → k ≡ r - firstNode b → x ≡ getD owners k 0 → x ≡ ownerOf Sheet b (r - firstNode b)
   owner-is k x e f = f ∙ rw e (w .owned .entry (r - firstNode b) node-below)
@@ -42,6 +42,6 @@ module _ (b starts owners : List ℕ) (r : ℕ) (w : NamesAt b starts owners r) 
   owner-few : (k x : ℕ) → k ≡ r - firstNode b → x ≡ getD owners k 0 → x < functions b
   owner-few k x e f = rw (owner-is k x e f) (owner-below Sheet b (w .file .accepted) (r - firstNode b) node-below)
 
-  pub owner-parameters : (k x : ℕ) → k ≡ r - firstNode b → x ≡ getD owners k 0 → (y : ℕ) → y ≡ field (recordAt b (startIn starts (firstFunction Sheet b + x))) 0
+  pub owner-parameters : (k : ℕ) {x : ℕ} → k ≡ r - firstNode b → x ≡ getD owners k 0 → {y : ℕ} → y ≡ field (recordAt b (startIn starts (firstFunction Sheet b + x))) 0
       → y ≡ parameters b (ownerOf Sheet b (r - firstNode b))
-  owner-parameters k x e f y g = opened-parameters b starts x y (w .file) (owner-few k x e f) g ∙ ap (parameters b) (owner-is k x e f)
+  owner-parameters k {x} e f {y} g = opened-parameters b starts x y (w .file) (owner-few k x e f) g ∙ ap (parameters b) (owner-is k x e f)

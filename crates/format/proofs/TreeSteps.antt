@@ -1,6 +1,6 @@
 -- Laws of the child, case and clause order rules over an opened sheet's tables.
 use mathlib.Core.Path.{_≡_, refl, sym, _∙_}
-use Prim.Native.Nat.{ℕ, suc, _+_, _-_, _≤_, _<_}
+use Prim.Native.Nat.{ℕ, suc, _+_, _≤_, _<_}
 use mathlib.Core.List.{List}
 use mathlib.Core.Bool.{Bool, true, false, cond, not}
 use native.Mathlib.Omega.{arith}
@@ -15,22 +15,21 @@ use Rattle.definitions.specs.Records.{recordAt, kindOf}
 use Rattle.definitions.specs.Lists.{allOf}
 use Rattle.definitions.specs.Verdicts.{firstOf}
 use Rattle.definitions.specs.Layouts.{functions, nodes, firstNode, nodeRecord, bodyOf, ownerOf}
-use Rattle.definitions.specs.References.{children, child, clauses, clauseConstructor}
+use Rattle.definitions.specs.References.{children, child, clauseConstructor}
 use Rattle.definitions.specs.Checks.{timesChild, isBody, childrenRight, clausesRise, treeRight, tree}
 use Rattle.definitions.specs.declared.Layout.the-variants.{Sheet}
 use Rattle.definitions.specs.declared.Verdict.{Verdict}
 use Rattle.definitions.specs.declared.Verdict.the-variants.{Accepted, Refused}
 use Rattle.accepted.proofs.Head.{nodes-limit, functions-limit}
 use Rattle.accepted.proofs.Owners.{owner-below, body-before-end}
-use Rattle.laws.proofs.Tests.{Each, each-all, each-fails}
 use Rattle.laws.proofs.Verdicts.{require-true, require-false, Passed, passed-more, passed-refused, passed-all}
 use Rattle.file_records.specs.Index.{Opened, startIn}
-use Rattle.format.specs.Readers.{RunEnds, Owners, NodeAt, childRight}
+use Rattle.format.specs.Readers.{RunEndTable, Owners, NodeAt, childRight}
 use Rattle.format.specs.Seen.{TimesOf}
 use Rattle.file_records.proofs.Indices.{opened-record}
 
 -- node k and its owner are in the tables
-module _ (b starts ends owners : List ℕ) (k : ℕ) (w : NodeAt b starts ends owners k) where
+module _ {b starts ends owners : List ℕ} {k : ℕ} (w : NodeAt b starts ends owners k) where
   pub node-in-table : k < mostNodes
   node-in-table = omega (arith, w .below, nodes-limit Sheet b (w .file .accepted))
 
@@ -40,26 +39,26 @@ module _ (b starts ends owners : List ℕ) (k : ℕ) (w : NodeAt b starts ends o
   owner-few : (x : ℕ) → x ≡ getD owners k 0 → x < functions b
   owner-few x e = rw (owner-read x e) (owner-below Sheet b (w .file .accepted) k (w .below))
 
-  pub owner-in-table : (x : ℕ) → x ≡ getD owners k 0 → x < mostFunctions
-  owner-in-table x e = omega (arith, owner-few x e, functions-limit Sheet b (w .file .accepted))
+  pub owner-in-table : {x : ℕ} → x ≡ getD owners k 0 → x < mostFunctions
+  owner-in-table {x} e = omega (arith, owner-few x e, functions-limit Sheet b (w .file .accepted))
 
-  pub body-test : (x e : ℕ) → x ≡ getD owners k 0 → e ≡ getD ends x 0 → eqb (k + 1) e ≡ isBody b k
+  pub body-test : {x e : ℕ} → x ≡ getD owners k 0 → e ≡ getD ends x 0 → eqb (k + 1) e ≡ isBody b k
   unfolding isBody
-  body-test x e f g =
+  body-test {x} {e} f g =
       let h : e ≡ suc (bodyOf Sheet b x) = g ∙ w .runs .entry x (owner-few x f) ∙ sym (body-before-end Sheet b (w .file .accepted) x (owner-few x f)) in
       rw (h, add-one, eqb·suc-suc, ← owner-read x f) refl
 
   -- the record of node k
-  pub node-record : (f : ℕ) (rec : List ℕ) → f ≡ firstNode b → rec ≡ recordAt b (startIn starts (f + k)) → rec ≡ nodeRecord b k
-  node-record f rec e g =
+  pub node-record : {f : ℕ} {rec : List ℕ} → f ≡ firstNode b → rec ≡ recordAt b (startIn starts (f + k)) → rec ≡ nodeRecord b k
+  node-record {f} {rec} e g =
       opened-record Sheet b starts (f + k) rec (w .file) (omega (arith, e, w .below)) g ∙ rw e refl
 
 -- the test of a child
-module _ (b rec : List ℕ) (k j c : ℕ) (e : c ≡ child rec j) where
+module _ (b rec : List ℕ) {k : ℕ} (j : ℕ) {c : ℕ} (e : c ≡ child rec j) where
   pub child-not-smaller : k ≤ c → childRight b rec k j ≡ false
   child-not-smaller h = rw (← e, le-ltb c k h) refl
 
-  module _ (owners : List ℕ) (w : Owners b owners) (hk : k < nodes b) (h : c < k) where
+  module _ {owners : List ℕ} (w : Owners b owners) (hk : k < nodes b) (h : c < k) where
     pub child-elsewhere : (getD owners c 0 ≡ getD owners k 0 → ⊥) → childRight b rec k j ≡ false
     child-elsewhere f =
         rw (← e, lt-ltb c k h, ne-eqb (ownerOf Sheet b c) (ownerOf Sheet b k) (λ q. f (w .entry c (omega arith) ∙ q ∙ sym (w .entry k hk)))) refl
@@ -77,39 +76,31 @@ pub clauses-rise-here : (rec : List ℕ) (j x y : ℕ) → x ≡ clauseConstruct
     → ltb (clauseConstructor rec j) (clauseConstructor rec (suc j)) ≡ true
 clauses-rise-here rec j x y e f h = rw (← f, ← (rw add-one at e)) (lt-ltb y x h)
 
-pub rise-fails : (rec : List ℕ) (j n : ℕ) → n ≡ clauses rec → j + 1 < n → ltb (clauseConstructor rec j) (clauseConstructor rec (suc j)) ≡ false → false ≡ clausesRise rec
-unfolding clausesRise
-rise-fails rec j n e h f = each-fails j (n - 1) (clauses rec - 1) _ (rw e refl) (omega arith) f
-
-pub rise-all : (rec : List ℕ) (j n : ℕ) → n ≡ clauses rec → j ≤ n - 1 → n ≤ j + 1 → Each j (λ i. ltb (clauseConstructor rec i) (clauseConstructor rec (suc i))) → true ≡ clausesRise rec
-unfolding clausesRise
-rise-all rec j n e h k w = each-all j (n - 1) (clauses rec - 1) _ (rw e refl) h (omega arith) w
-
 -- the rules of node k, by what the tests answered
-module _ (b rec : List ℕ) (k : ℕ) (er : rec ≡ nodeRecord b k) (t : Bool)
+module _ (b : List ℕ) {rec : List ℕ} (k : ℕ) (er : rec ≡ nodeRecord b k) {t : Bool}
     (et : t ≡ allOf (children rec) (λ j. childRight b rec k j)) where
   pub tree-child-wrong : t ≡ false → false ≡ treeRight b k
   unfolding treeRight childrenRight
   tree-child-wrong e = rw (← er, ← et, e) refl
 
-  module _ (ht : t ≡ true) (u : Bool) (eu : u ≡ isBody b k) where
-    pub tree-case-body : (i : ℕ) (v : Bool) → u ≡ true → i ≡ kindOf rec → i ≡ SheetKinds.caseOf → v ≡ clausesRise rec → v ≡ treeRight b k
+  module _ (ht : t ≡ true) {u : Bool} (eu : u ≡ isBody b k) where
+    pub tree-case-body : {i : ℕ} {v : Bool} → u ≡ true → i ≡ kindOf rec → i ≡ SheetKinds.caseOf → v ≡ clausesRise rec → v ≡ treeRight b k
     unfolding treeRight childrenRight
-    tree-case-body i v e f g h = rw (← er, ← et, ht, ← eu, e, ← f, g) h
+    tree-case-body e f g h = rw (← er, ← et, ht, ← eu, e, ← f, g) h
 
-    pub tree-body : (i : ℕ) → u ≡ true → i ≡ kindOf rec → (i ≡ SheetKinds.caseOf → ⊥) → true ≡ treeRight b k
+    pub tree-body : {i : ℕ} → u ≡ true → i ≡ kindOf rec → (i ≡ SheetKinds.caseOf → ⊥) → true ≡ treeRight b k
     unfolding treeRight childrenRight
-    tree-body i e f g = rw (← er, ← et, ht, ← eu, e, ← f, ne-eqb i SheetKinds.caseOf g) refl
+    tree-body {i} e f g = rw (← er, ← et, ht, ← eu, e, ← f, ne-eqb i SheetKinds.caseOf g) refl
 
-    module _ (times : List ℕ) (w : TimesOf b times) (hk : k < nodes b) (x : ℕ) (ex : x ≡ getD times k 0) where
+    module _ {times : List ℕ} (w : TimesOf b times) (hk : k < nodes b) {x : ℕ} (ex : x ≡ getD times k 0) where
       pub tree-times-wrong : u ≡ false → (x ≡ 1 → ⊥) → false ≡ treeRight b k
       unfolding treeRight childrenRight
       tree-times-wrong e f =
           rw (← er, ← et, ht, ← eu, e, ne-eqb (timesChild b k) 1 (λ q. f (omega (arith, ex, w .entry k hk, q)))) refl
 
-      pub tree-inner : (i : ℕ) → u ≡ false → x ≡ 1 → i ≡ kindOf rec → not (eqb i SheetKinds.caseOf) ≡ treeRight b k
+      pub tree-inner : {i : ℕ} → u ≡ false → x ≡ 1 → i ≡ kindOf rec → not (eqb i SheetKinds.caseOf) ≡ treeRight b k
       unfolding treeRight childrenRight
-      tree-inner i e f g =
+      tree-inner {i} e f g =
           rw (← er, ← et, ht, ← eu, e, eq-eqb (timesChild b k) 1 (omega (arith, ex, w .entry k hk, f)), ← g) (case-not (eqb i SheetKinds.caseOf))
         where
           case-not : (v : Bool) → not v ≡ cond v false true
@@ -128,7 +119,7 @@ tree-accepted b k t g h = sym (require-true (treeRight b k) badTree (firstNode b
 -- the rules of the nodes passed are accepted
 pub record Ruling (b starts ends owners : List ℕ) (first count k : ℕ) (rule : ℕ → Verdict) : Type 0 where
   pub file : Opened Sheet b starts
-  pub runs : RunEnds Sheet b ends
+  pub runs : RunEndTable Sheet b ends
   pub owned : Owners b owners
   pub start : first ≡ firstNode b
   pub low : first ≤ 131071
@@ -137,12 +128,12 @@ pub record Ruling (b starts ends owners : List ℕ) (first count k : ℕ) (rule 
   pub reached : k ≤ count
   pub passed : Passed k rule
 
-module _ (b starts ends owners : List ℕ) (first count k : ℕ) (rule : ℕ → Verdict) (w : Ruling b starts ends owners first count k rule) where
+module _ {b starts ends owners : List ℕ} {first count k : ℕ} {rule : ℕ → Verdict} (w : Ruling b starts ends owners first count k rule) where
   pub ruling-node : k < count → NodeAt b starts ends owners k
   ruling-node h = record { file = w .file; runs = w .runs; owned = w .owned; below = omega (arith, w .counts, h) }
 
-  pub ruling-more : (v : Verdict) → k < count → v ≡ rule k → v ≡ Accepted → Ruling b starts ends owners first count (k + 1) rule
-  ruling-more v h e f =
+  pub ruling-more : {v : Verdict} → k < count → v ≡ rule k → v ≡ Accepted → Ruling b starts ends owners first count (k + 1) rule
+  ruling-more {v} h e f =
       record {
         file = w .file;
         runs = w .runs;
@@ -155,8 +146,8 @@ module _ (b starts ends owners : List ℕ) (first count k : ℕ) (rule : ℕ →
         passed = passed-more k rule v (w .passed) e f;
       }
 
-  pub ruling-refused : (n p : ℕ) → k < count → Refused n p ≡ rule k → Refused n p ≡ firstOf (nodes b) rule
-  ruling-refused n p h e = passed-refused k count (nodes b) rule (Refused n p) n p (w .counts) h (w .passed) e refl
+  pub ruling-refused : {n p : ℕ} → k < count → Refused n p ≡ rule k → Refused n p ≡ firstOf (nodes b) rule
+  ruling-refused {n} {p} h e = passed-refused k count (nodes b) rule (Refused n p) n p (w .counts) h (w .passed) e refl
 
   pub ruling-done : count ≤ k → Accepted ≡ firstOf (nodes b) rule
   ruling-done h = passed-all k count (nodes b) rule (w .counts) (w .reached) h (w .passed)

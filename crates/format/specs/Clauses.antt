@@ -9,7 +9,7 @@ use Rattle.definitions.specs.Layouts.{nodes}
 use Rattle.definitions.specs.Checks.{clauseWithin}
 use Rattle.definitions.specs.declared.Layout.the-variants.{Sheet}
 use Rattle.file_records.specs.Index.{Opened}
-use Rattle.format.specs.Readers.{RunEnds, Owners}
+use Rattle.format.specs.Readers.{RunEndTable, Owners}
 use Rattle.format.specs.Seen.{ParentsOf, TreesAccepted}
 
 -- the entry of a constructor, or of none
@@ -27,7 +27,7 @@ pub record ClausesFrom (b held : List ℕ) (k : ℕ) : Type 0 where
 -- an opened sheet whose trees are accepted, with the tables of runs, owners and parents
 pub record Ruled (b starts ends owners parents : List ℕ) : Type 0 where
   pub file : Opened Sheet b starts
-  pub runs : RunEnds Sheet b ends
+  pub runs : RunEndTable Sheet b ends
   pub owned : Owners b owners
   pub parentsRight : ParentsOf b parents
   pub checks : TreesAccepted b

@@ -1,36 +1,22 @@
 -- What the readers give: the verdict, and of an accepted file its index and the tables of its runs and owners.
 use mathlib.Core.Path.{_≡_}
-use Prim.Native.Nat.{ℕ, _+_, _≤_, _<_}
+use Prim.Native.Nat.{ℕ, _+_, _<_}
 use mathlib.Core.List.{List}
 use lib.ListN.{length, getD}
 use lib.Dec.{leb, ltb, eqb}
 use mathlib.Core.Bool.{Bool, cond, _&&_}
 use Rattle.definitions.specs.Sizes.{mostRecords, mostFunctions, mostNodes}
-use Rattle.definitions.specs.Layouts.{functions, nodes, firstNode, due, runEnd, ownerOf}
+use Rattle.definitions.specs.Layouts.{functions, nodes, due, runEnd, ownerOf}
 use Rattle.definitions.specs.References.{child}
-use Rattle.definitions.specs.Shape.{fileShape}
 use Rattle.definitions.specs.Checks.{sheetVerdict, translationVerdict}
 use Rattle.definitions.specs.declared.Layout.{Layout}
 use Rattle.definitions.specs.declared.Layout.the-variants.{Sheet, Translation}
 use Rattle.definitions.specs.declared.Verdict.{Verdict}
 use Rattle.definitions.specs.declared.Verdict.the-variants.{Accepted}
-use Rattle.file_layout.specs.Rows.{RowsOf}
 use Rattle.file_records.specs.Index.{Indexed, Opened}
 
--- what a walk over a file's records gives: the verdict on its shape, and where it is accepted the index of its records
-pub record Walked (y : Layout) (b : List ℕ) (v : Verdict) (starts : List ℕ) : Type 0 where
-  pub verdict : v ≡ fileShape y b
-  pub index : v ≡ Accepted → Indexed b starts (due b)
-
--- record r of a walk, which starts at a place inside the file: the rows of the kinds, and the index up to this record
-pub record WalkAt (rows b starts : List ℕ) (first r at : ℕ) : Type 0 where
-  pub kinds : RowsOf rows
-  pub index : Indexed b starts (r + 1)
-  pub nodesFrom : first ≡ firstNode b
-  pub inside : at ≤ length b
-
 -- the table of the ends of runs: entry f is the first node after the run of function f
-pub record RunEnds (y : Layout) (b ends : List ℕ) : Type 0 where
+pub record RunEndTable (y : Layout) (b ends : List ℕ) : Type 0 where
   pub entry : (f : ℕ) → f < functions b → getD ends f 0 ≡ runEnd y b f
 
 -- the owner of node k from that of the node before it, by a table of ends
@@ -58,13 +44,13 @@ childRight b rec k j = ltb (child rec j) k && eqb (ownerOf Sheet b (child rec j)
 pub record ReadTranslation (b : List ℕ) (v : Verdict) (starts ends : List ℕ) : Type 0 where
   pub verdict : v ≡ translationVerdict b
   pub index : v ≡ Accepted → Indexed b starts (due b)
-  pub runs : v ≡ Accepted → RunEnds Translation b ends
+  pub runs : v ≡ Accepted → RunEndTable Translation b ends
 
 -- what reading a sheet gives: the verdict, and of an accepted one the index, the ends of runs and the owners
 pub record ReadSheet (b : List ℕ) (v : Verdict) (starts ends owners : List ℕ) : Type 0 where
   pub verdict : v ≡ sheetVerdict b
   pub index : v ≡ Accepted → Indexed b starts (due b)
-  pub runs : v ≡ Accepted → RunEnds Sheet b ends
+  pub runs : v ≡ Accepted → RunEndTable Sheet b ends
   pub owned : v ≡ Accepted → Owners b owners
 
 -- record r of an opened sheet with the table of owners
@@ -76,6 +62,6 @@ pub record NamesAt (b starts owners : List ℕ) (r : ℕ) : Type 0 where
 -- node k of an opened sheet with the tables of runs and owners
 pub record NodeAt (b starts ends owners : List ℕ) (k : ℕ) : Type 0 where
   pub file : Opened Sheet b starts
-  pub runs : RunEnds Sheet b ends
+  pub runs : RunEndTable Sheet b ends
   pub owned : Owners b owners
   pub below : k < nodes b

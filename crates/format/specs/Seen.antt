@@ -23,7 +23,7 @@ unfoldable pub once : ℕ → ℕ
 once n = cond (ltb n 1) 1 2
 
 -- two tables with an entry for each node, the first of counts up to 2
-pub record Sized (times parents : List ℕ) : Type 0 where
+pub record ChildTables (times parents : List ℕ) : Type 0 where
   pub timesLength : length times ≡ mostNodes
   pub parentsLength : length parents ≡ mostNodes
   pub small : (k : ℕ) → k < mostNodes → getD times k 0 ≤ 2
@@ -37,14 +37,14 @@ pub record NotedOne (c p : ℕ) (times parents times′ parents′ : List ℕ) :
 pub record Noted (rec : List ℕ) (p n : ℕ) (times parents times′ parents′ : List ℕ) : Type 0 where
   pub counted : (k : ℕ) → k < mostNodes → getD times′ k 0 ≡ min 2 (getD times k 0 + timesIn rec n k)
   pub last : (k : ℕ) → k < mostNodes → getD parents′ k 0 ≡ cond (eqb (timesIn rec n k) 0) (getD parents k 0) p
-  pub sized : Sized times′ parents′
+  pub sized : ChildTables times′ parents′
 
 -- the tables after the children of the first p nodes are noted
 pub record Seen (b : List ℕ) (p : ℕ) (times parents : List ℕ) : Type 0 where
   pub counted : (k : ℕ) → k < mostNodes → getD times k 0 ≡ min 2 (sumOf p (λ q. timesIn (nodeRecord b q) (children (nodeRecord b q)) k))
   pub last : (k : ℕ) → k < mostNodes
       → getD parents k 0 ≡ lastOf p (λ q. not (eqb (timesIn (nodeRecord b q) (children (nodeRecord b q)) k) 0))
-  pub sized : Sized times parents
+  pub sized : ChildTables times parents
 
 -- the table of how often each node is a child, 2 for more than once
 pub record TimesOf (b times : List ℕ) : Type 0 where

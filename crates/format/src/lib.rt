@@ -3,7 +3,6 @@ mod names;
 mod patterns;
 mod runs;
 mod seen;
-mod shape;
 pub mod sheet;
 pub mod translation;
 mod tree;

@@ -13,6 +13,7 @@ ghost use Rattle.format.specs.Readers.{Owners, NamesAt};
 use definitions::Layout;
 use definitions::Verdict;
 use definitions::numbers;
+use definitions::sheet_kinds;
 use definitions::sizes::Owners;
 use definitions::sizes::Starts;
 use file_layout::layout::due;
@@ -22,17 +23,16 @@ use file_layout::layout::functions;
 use file_layout::layout::items;
 use file_layout::layout::nodes;
 use file_layout::layout::readings;
-use file_layout::sheet_kinds;
 use file_records::declared_counts::arity;
 use file_records::declared_counts::parameters;
 use file_records::records::field;
 use file_records::records::field_count;
 use file_records::records::indexed;
 use file_records::records::kind;
-use file_records::records::wide;
-use file_records::records::wide8;
 use file_references::references::children_below;
 use file_references::references::constructors_below;
+use widths::wide;
+use widths::wide8;
 
 // The parameter count of the function that owns the node of record `r`.
 fn owner_parameters(b: &[u8], starts: &Starts, owners: &Owners, r: usize) -> u16

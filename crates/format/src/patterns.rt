@@ -16,22 +16,22 @@ ghost use Rattle.format.specs.Clauses.{entryOf, ClausesOf, ClausesFrom, 
 use crate::tree::is_body;
 use definitions::Verdict;
 use definitions::numbers;
+use definitions::sheet_kinds;
 use definitions::sizes::Ends;
 use definitions::sizes::MOST_NODES;
 use definitions::sizes::Owners;
 use definitions::sizes::Starts;
 use file_layout::layout::first_node;
 use file_layout::layout::nodes;
-use file_layout::sheet_kinds;
 use file_records::declared_counts::arity;
 use file_records::records::field;
 use file_records::records::indexed;
 use file_records::records::kind;
-use file_records::records::wide;
-use file_records::records::wide32;
 use file_references::references::child;
 use file_references::references::clause_constructor;
 use file_references::references::clauses;
+use widths::wide;
+use widths::wide32;
 
 // One more than the constructor of the clause of a case's record that node `k` is, 0 where it is none.
 fn clause_of(rec: &[u8], k: usize) -> u32

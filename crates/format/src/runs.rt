@@ -1,6 +1,6 @@
 // The runs of nodes that functions own: where each ends, and which function owns a node.
 ghost use Rattle.file_records.specs.Index.{Opened};
-ghost use Rattle.format.specs.Readers.{RunEnds, Owners, ownerAfter};
+ghost use Rattle.format.specs.Readers.{RunEndTable, Owners, ownerAfter};
 ghost use Prim.Native.Nat.{_<_};
 ghost use Rattle.definitions.specs.Shape.{fileShape};
 ghost use Rattle.definitions.specs.declared.Layout.the-variants.{Sheet};
@@ -18,12 +18,12 @@ use file_layout::layout::functions;
 use file_layout::layout::nodes;
 use file_records::records::field;
 use file_records::records::indexed;
-use file_records::records::wide;
+use widths::wide;
 
 // Fills the table of the ends of runs.
 pub(crate) fn run_ends(y: Layout, b: &[u8], starts: &Starts, ends: &mut Ends)
     requires { ⌜ Opened y (now b) (now starts) × (length (now ends) ≡ mostFunctions) ⌝ }
-    ensures { λ _. ⌜ RunEnds y (now (b .entry)) (now (ends .exit)) ⌝ }
+    ensures { λ _. ⌜ RunEndTable y (now (b .entry)) (now (ends .exit)) ⌝ }
 {
     let first = first_function(y, b);
     let count = functions(b) as usize;
@@ -47,7 +47,7 @@ fn owner_after(ends: &Ends, f: usize, k: usize) -> usize
 
 // Fills the table of owners of a sheet's nodes.
 pub(crate) fn run_owners(b: &[u8], ends: &Ends, owners: &mut Owners)
-    requires { ⌜ (fileShape Sheet (now b) ≡ Accepted) × RunEnds Sheet (now b) (now ends) × (length (now owners) ≡ mostNodes) ⌝ }
+    requires { ⌜ (fileShape Sheet (now b) ≡ Accepted) × RunEndTable Sheet (now b) (now ends) × (length (now owners) ≡ mostNodes) ⌝ }
     ensures { λ _. ⌜ Owners (now (b .entry)) (now (owners .exit)) ⌝ }
 {
     let count = nodes(b) as usize;

@@ -6,7 +6,7 @@ ghost use Rattle.definitions.specs.Layouts.{nodes};
 ghost use Rattle.definitions.specs.References.{children};
 ghost use Rattle.definitions.specs.declared.Layout.the-variants.{Sheet};
 ghost use Rattle.file_records.specs.Index.{Opened};
-ghost use Rattle.format.specs.Seen.{Sized, NotedOne, Noted, Seen, once};
+ghost use Rattle.format.specs.Seen.{ChildTables, NotedOne, Noted, Seen, once};
 ghost use lib.ListN.{getD, set};
 use definitions::sizes::MOST_NODES;
 use definitions::sizes::Starts;
@@ -14,9 +14,9 @@ use file_layout::layout::first_node;
 use file_layout::layout::nodes;
 use file_records::records::indexed;
 use file_records::records::kind;
-use file_records::records::wide;
 use file_references::references::child_inside;
 use file_references::references::children;
+use widths::wide;
 
 // Once more: once, or more than once.
 fn once(n: u8) -> u8
@@ -45,7 +45,7 @@ fn note_child(c: usize, p: u16, times: &mut [u8; MOST_NODES], parents: &mut [u16
 
 // Notes the nodes that the record of node `p` names.
 fn note_children(rec: &[u8], p: u16, times: &mut [u8; MOST_NODES], parents: &mut [u16; MOST_NODES])
-    requires { ⌜ Sized (now times) (now parents) ⌝ }
+    requires { ⌜ ChildTables (now times) (now parents) ⌝ }
     ensures { λ r. ⌜ Noted (now (rec .entry)) p (children (now (rec .entry))) (now (times .entry)) (now (parents .entry)) (now (times .exit)) (now (parents .exit)) ⌝ }
 {
     let kind = kind(rec);

@@ -3,13 +3,12 @@ ghost use mathlib.Core.Path.{_≡_};
 ghost use Rattle.definitions.specs.Checks.{sheetVerdict};
 ghost use Rattle.definitions.specs.declared.Layout.the-variants.{Sheet};
 ghost use Rattle.file_records.specs.Index.{Opened};
-ghost use Rattle.format.specs.Readers.{RunEnds, Owners, LentSheetTables, ReadSheet};
+ghost use Rattle.format.specs.Readers.{RunEndTable, Owners, LentSheetTables, ReadSheet};
 use crate::names::names;
 use crate::patterns::patterns;
 use crate::runs::run_ends;
 use crate::runs::run_owners;
 use crate::seen::note_sheet;
-use crate::shape::file_shape;
 use crate::tree::trees;
 use definitions::Layout;
 use definitions::Verdict;
@@ -19,6 +18,7 @@ use definitions::sizes::MOST_NODES;
 use definitions::sizes::MOST_RECORDS;
 use definitions::sizes::Owners;
 use definitions::sizes::Starts;
+use file_shape::file_shape;
 
 // What reading a sheet gives: the verdict, where its records start, where the runs of its functions end, and which
 // function owns each node. Of a refused file only the verdict counts.
@@ -31,7 +31,7 @@ pub struct SheetRead {
 
 // The checks of a sheet whose shape is accepted: 5 and 7, then 6.
 fn checks(b: &[u8], starts: &Starts, ends: &Ends, owners: &Owners) -> Verdict
-    requires { ⌜ (Opened Sheet (now b) (now starts)) × RunEnds Sheet (now b) (now ends) × Owners (now b) (now owners) ⌝ }
+    requires { ⌜ (Opened Sheet (now b) (now starts)) × RunEndTable Sheet (now b) (now ends) × Owners (now b) (now owners) ⌝ }
     ensures { λ v. ⌜ v ≡ sheetVerdict (now (b .entry)) ⌝ }
 {
     let named = names(b, starts, owners);
@@ -50,7 +50,7 @@ fn checks(b: &[u8], starts: &Starts, ends: &Ends, owners: &Owners) -> Verdict
 
 // Reads a sheet into tables that the caller lends: where its records start, where the runs of its functions end, and which
 // function owns each node. Of a refused file only the verdict counts.
-pub fn fill_sheet(b: &[u8], starts: &mut Starts, ends: &mut Ends, owners: &mut Owners) -> Verdict
+fn fill_sheet(b: &[u8], starts: &mut Starts, ends: &mut Ends, owners: &mut Owners) -> Verdict
     requires { ⌜ LentSheetTables (now starts) (now ends) (now owners) ⌝ }
     ensures { λ v. ⌜ ReadSheet (now (b .entry)) v (now (starts .exit)) (now (ends .exit)) (now (owners .exit)) ⌝ }
 {

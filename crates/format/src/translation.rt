@@ -10,7 +10,6 @@ ghost use Rattle.definitions.specs.declared.Layout.the-variants.{Translation};
 ghost use Rattle.file_records.specs.Index.{Opened};
 ghost use Rattle.format.specs.Readers.{LentTables, ReadTranslation};
 use crate::runs::run_ends;
-use crate::shape::file_shape;
 use definitions::Layout;
 use definitions::Verdict;
 use definitions::numbers;
@@ -18,16 +17,17 @@ use definitions::sizes::Ends;
 use definitions::sizes::MOST_FUNCTIONS;
 use definitions::sizes::MOST_RECORDS;
 use definitions::sizes::Starts;
+use definitions::translation_kinds;
 use file_layout::layout::due;
 use file_layout::layout::functions;
 use file_layout::layout::items;
 use file_layout::layout::nodes;
 use file_layout::layout::readings;
-use file_layout::translation_kinds;
 use file_records::records::field;
 use file_records::records::indexed;
 use file_records::records::kind;
 use file_references::references::children_below;
+use file_shape::file_shape;
 
 // What reading a translation gives: the verdict, where its records start, and where the runs of its functions end. Of a
 // refused file only the verdict counts.

@@ -9,25 +9,25 @@ ghost use Rattle.definitions.specs.Checks.{isBody, clausesRise, treeRight, tree
 ghost use Rattle.definitions.specs.Verdicts.{firstOf};
 ghost use Rattle.definitions.specs.declared.Layout.the-variants.{Sheet};
 ghost use Rattle.file_records.specs.Index.{Opened};
-ghost use Rattle.format.specs.Readers.{RunEnds, Owners, NodeAt, childRight};
+ghost use Rattle.format.specs.Readers.{RunEndTable, Owners, NodeAt, childRight};
 ghost use Rattle.format.specs.Seen.{TimesOf};
 use definitions::Verdict;
 use definitions::numbers;
+use definitions::sheet_kinds;
 use definitions::sizes::Ends;
 use definitions::sizes::MOST_NODES;
 use definitions::sizes::Owners;
 use definitions::sizes::Starts;
 use file_layout::layout::first_node;
 use file_layout::layout::nodes;
-use file_layout::sheet_kinds;
 use file_records::records::indexed;
 use file_records::records::kind;
-use file_records::records::wide;
-use file_records::records::wide8;
 use file_references::references::child_inside;
 use file_references::references::children;
 use file_references::references::clause_constructor;
 use file_references::references::clauses;
+use widths::wide;
+use widths::wide8;
 
 // Whether node `k` is the body of its function.
 pub(crate) fn is_body(b: &[u8], starts: &Starts, ends: &Ends, owners: &Owners, k: usize) -> bool
@@ -109,7 +109,7 @@ pub(crate) fn trees(
     owners: &Owners,
     times: &[u8; MOST_NODES],
 ) -> Verdict
-    requires { ⌜ (Opened Sheet (now b) (now starts)) × RunEnds Sheet (now b) (now ends) × Owners (now b) (now owners) × TimesOf (now b) (now times) ⌝ }
+    requires { ⌜ (Opened Sheet (now b) (now starts)) × RunEndTable Sheet (now b) (now ends) × Owners (now b) (now owners) × TimesOf (now b) (now times) ⌝ }
     ensures { λ v. ⌜ v ≡ firstOf (nodes (now (b .entry))) (tree (now (b .entry))) ⌝ }
 {
     let first = first_node(b);

@@ -6,15 +6,15 @@ ghost use Rattle.definitions.specs.Translate.{translation};
 ghost use Rattle.definitions.specs.declared.Verdict.the-variants.{Accepted};
 ghost use Rattle.join.specs.Promise.{Joins};
 use allowances::allowed;
-use cells::answer::Answer;
-use cells::answer::refused;
+use answer::Answer;
+use answer::refused;
 use definitions::numbers;
 use definitions::sizes::TRANSLATION_BYTES;
 use file_layout::layout;
-use file_records::records::wide;
 use run::run;
 use translator::Translated;
 use translator::translate;
+use widths::wide;
 
 // Translates a sheet into a lent buffer and runs the translation on a list of readings, with allowances of steps, nesting and
 // cells, in lent cells. Every refusal is known before the first byte is written. The slice behind `cells` stays the same.
@@ -24,10 +24,10 @@ pub fn translate_and_run(
     readings: &[i32],
     steps: u32,
     nesting: u32,
-    most: u32,
+    cells_allowed: u32,
     cells: &mut &mut [u8],
 ) -> Answer
-    ensures { λ r. ⌜ Joins (now (sheet .entry)) (now (out .entry)) (now (readings .entry)) steps nesting most (now (now (cells .entry))) r (now (out .exit)) (now (now (cells .exit)))
+    ensures { λ r. ⌜ Joins (now (sheet .entry)) (now (out .entry)) (now (readings .entry)) steps nesting «cells_allowed» (now (now (cells .entry))) r (now (out .exit)) (now (now (cells .exit)))
         × (now (cells .exit) .ptr ≡ now (cells .entry) .ptr) ⌝ }
 {
     let mut own = [0u8; TRANSLATION_BYTES];
@@ -35,7 +35,16 @@ pub fn translate_and_run(
     match translated {
         Translated::Refused { number, place } => refused(number, place),
         Translated::Length(size) => {
-            run_accepted(sheet, size, out, readings, steps, nesting, most, cells)
+            run_accepted(
+                sheet,
+                size,
+                out,
+                readings,
+                steps,
+                nesting,
+                cells_allowed,
+                cells,
+            )
         }
     }
 }
@@ -48,11 +57,11 @@ fn run_accepted(
     readings: &[i32],
     steps: u32,
     nesting: u32,
-    most: u32,
+    cells_allowed: u32,
     cells: &mut &mut [u8],
 ) -> Answer
     requires { ⌜ (sheetVerdict (now sheet) ≡ Accepted) × (size ≡ length (translation (now sheet))) ⌝ }
-    ensures { λ r. ⌜ Joins (now (sheet .entry)) (now (out .entry)) (now (readings .entry)) steps nesting most (now (now (cells .entry))) r (now (out .exit)) (now (now (cells .exit)))
+    ensures { λ r. ⌜ Joins (now (sheet .entry)) (now (out .entry)) (now (readings .entry)) steps nesting «cells_allowed» (now (now (cells .entry))) r (now (out .exit)) (now (now (cells .exit)))
         × (now (cells .exit) .ptr ≡ now (cells .entry) .ptr) ⌝ }
 {
     if out.len() < size {
@@ -61,9 +70,9 @@ fn run_accepted(
     if readings.len() != wide(layout::readings(sheet)) {
         return refused(numbers::BAD_READINGS, 0);
     }
-    if !allowed(nesting, most, cells.len()) {
+    if !allowed(nesting, cells_allowed, cells.len()) {
         return refused(numbers::BAD_ALLOWANCE, 0);
     }
     translate(sheet, out);
-    run(&out[..size], readings, steps, nesting, most, cells)
+    run(&out[..size], readings, steps, nesting, cells_allowed, cells)
 }

@@ -33,13 +33,13 @@ module _ (b rec : List ℕ) (r f : ℕ) (ef : f ≡ firstFunction Sheet b) where
   match-result x e g = rw (eq-eqb r (firstFunction Sheet b) (e ∙ ef), g) refl
 
   module _ (er : r ≡ f → ⊥) (k : ℕ) (ek : k ≡ kindOf rec) where
-    pub match-call : (n x p : ℕ) → k ≡ SheetKinds.call → n ≡ fieldCount rec - 1 → x ≡ field rec 0 → p ≡ parameters b x → eqb n p ≡ argumentsMatch b r rec
+    pub match-call : {n x p : ℕ} → k ≡ SheetKinds.call → n ≡ fieldCount rec - 1 → x ≡ field rec 0 → p ≡ parameters b x → eqb n p ≡ argumentsMatch b r rec
     unfolding argumentsMatch
-    match-call n x p e g h i = rw (ne-eqb r (firstFunction Sheet b) (λ q. er (q ∙ sym ef)), ← ek, e, ← g, ← h, i) refl
+    match-call e g h i = rw (ne-eqb r (firstFunction Sheet b) (λ q. er (q ∙ sym ef)), ← ek, e, ← g, ← h, i) refl
 
-    pub match-build : (n x p : ℕ) → k ≡ SheetKinds.build → n ≡ fieldCount rec - 1 → x ≡ field rec 0 → p ≡ arity b x → eqb n p ≡ argumentsMatch b r rec
+    pub match-build : {n x p : ℕ} → k ≡ SheetKinds.build → n ≡ fieldCount rec - 1 → x ≡ field rec 0 → p ≡ arity b x → eqb n p ≡ argumentsMatch b r rec
     unfolding argumentsMatch
-    match-build n x p e g h i = rw (ne-eqb r (firstFunction Sheet b) (λ q. er (q ∙ sym ef)), ← ek, e, ← g, ← h, i) refl
+    match-build e g h i = rw (ne-eqb r (firstFunction Sheet b) (λ q. er (q ∙ sym ef)), ← ek, e, ← g, ← h, i) refl
 
     pub match-other : (k ≡ SheetKinds.call → ⊥) → (k ≡ SheetKinds.build → ⊥) → true ≡ argumentsMatch b r rec
     unfolding argumentsMatch

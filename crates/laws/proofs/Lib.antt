@@ -14,3 +14,4 @@ pub mod Arguments
 pub mod Walk
 pub mod ByteFiles
 pub mod NodeKinds
+pub mod Stores

@@ -122,15 +122,15 @@ module _ (b rec : List ℕ) (r k : ℕ) (ek : k ≡ kindOf rec) where
       refl
 
 -- the verdict on record r, by the two tests
-module _ (b rec : List ℕ) (r n : ℕ) (er : rec ≡ recordOf b r) (en : n ≡ nodes b) (t : Bool) (et : t ≡ allOf (children rec) (λ j. ltb (child rec j) n)) where
+module _ (b : List ℕ) {rec : List ℕ} (r : ℕ) {n : ℕ} (er : rec ≡ recordOf b r) (en : n ≡ nodes b) {t : Bool} (et : t ≡ allOf (children rec) (λ j. ltb (child rec j) n)) where
   pub children-out : t ≡ false → Refused outOfRange r ≡ references b r
   unfolding references inRange require
   children-out e = rw (← er, ← en, ← et, e) refl
 
-  pub names-out : t ≡ true → (u : Bool) → u ≡ namesInRange b r rec → u ≡ false → Refused outOfRange r ≡ references b r
+  pub names-out : t ≡ true → {u : Bool} → u ≡ namesInRange b r rec → u ≡ false → Refused outOfRange r ≡ references b r
   unfolding references inRange require
-  names-out e u f g = rw (← er, ← en, ← et, e, ← f, g) refl
+  names-out e f g = rw (← er, ← en, ← et, e, ← f, g) refl
 
-  pub all-in : t ≡ true → (u : Bool) → u ≡ namesInRange b r rec → u ≡ true → Accepted ≡ references b r
+  pub all-in : t ≡ true → {u : Bool} → u ≡ namesInRange b r rec → u ≡ true → Accepted ≡ references b r
   unfolding references inRange require
-  all-in e u f g = rw (← er, ← en, ← et, e, ← f, g) refl
+  all-in e f g = rw (← er, ← en, ← et, e, ← f, g) refl

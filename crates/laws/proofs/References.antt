@@ -122,12 +122,12 @@ module _ (rec : List ℕ) (j k x : ℕ) (ek : k ≡ kindOf rec) (t : Bool) (et :
   child-second e u g h f = rw (← ek, ← et, e, ← g, h) f
 
 -- the field of the j-th node is in the record
-module _ (rec : List ℕ) (j k : ℕ) (h : j < children rec) (ek : k ≡ kindOf rec) (t : Bool) (et : t ≡ everyOther k) where
+module _ (rec : List ℕ) {j k : ℕ} (h : j < children rec) (ek : k ≡ kindOf rec) {t : Bool} (et : t ≡ everyOther k) where
   pub room-other : t ≡ true → 2 * j < fieldCount rec
   unfolding children childCount
   room-other e = let i : j < (fieldCount rec + 1) / 2 = rw (← ek, ← et, e) at h in omega arith
 
-  module _ (ht : t ≡ false) (u : Bool) (eu : u ≡ fromFirst k) where
+  module _ (ht : t ≡ false) {u : Bool} (eu : u ≡ fromFirst k) where
     pub room-first : u ≡ true → j < fieldCount rec
     unfolding children childCount
     room-first e = rw (← ek, ← et, ht, ← eu, e) at h
@@ -141,17 +141,17 @@ module _ (rec : List ℕ) (j k : ℕ) (h : j < children rec) (ek : k ≡ kindOf 
         by false i = absurd (omega arith)
 
 -- the test of every node named, by what the tests of the kind answered
-module _ (rec : List ℕ) (k limit : ℕ) (ek : k ≡ kindOf rec) (v t : Bool) (et : t ≡ everyOther k) where
+module _ (rec : List ℕ) {k : ℕ} (limit : ℕ) (ek : k ≡ kindOf rec) (v : Bool) {t : Bool} (et : t ≡ everyOther k) where
   pub below-other : t ≡ true → v ≡ allOf ((fieldCount rec + 1) / 2) (λ j. ltb (field rec (2 * j)) limit) → v ≡ allOf (children rec) (λ j. ltb (child rec j) limit)
   unfolding children childCount child childField
   below-other e f = rw (← ek, ← et, e) f
 
-  module _ (ht : t ≡ false) (u : Bool) (eu : u ≡ fromFirst k) where
+  module _ (ht : t ≡ false) {u : Bool} (eu : u ≡ fromFirst k) where
     pub below-first : u ≡ true → v ≡ allOf (fieldCount rec - 0) (λ j. ltb (field rec (0 + j)) limit) → v ≡ allOf (children rec) (λ j. ltb (child rec j) limit)
     unfolding children childCount child childField
     below-first e f = rw (← ek, ← et, ht, ← eu, e) (simp (zero-add, sub-zero) at f)
 
-    module _ (hu : u ≡ false) (w : Bool) (ew : w ≡ fromSecond k) where
+    module _ (hu : u ≡ false) {w : Bool} (ew : w ≡ fromSecond k) where
       pub below-second : w ≡ true → v ≡ allOf (fieldCount rec - 1) (λ j. ltb (field rec (1 + j)) limit) → v ≡ allOf (children rec) (λ j. ltb (child rec j) limit)
       unfolding children childCount child childField
       below-second e f = rw (← ek, ← et, ht, ← eu, hu, ← ew, e) f

@@ -8,6 +8,7 @@ use native.Mathlib.Omega.{arith}
 use lib.ListN.{length}
 use lib.Dec.{leb, eqb}
 use borrow.Author.Tests.{le-leb, lt-leb, le-ltb, lt-ltb, eq-eqb, ne-eqb, leb-true, leb-false}
+use Rattle.definitions.specs.OperatorCodes
 use Rattle.definitions.specs.SheetKinds
 use Rattle.definitions.specs.TranslationKinds
 use Rattle.definitions.specs.Sizes.{mostNodes}
@@ -117,11 +118,11 @@ module _ (y : Layout) (b : List ℕ) where
         nodes-test n e h = rw (readings-right, items-right, functions-right, ← e, le-leb 1 n h) refl
 
 -- the operator code
-pub code-sheet : (rec : List ℕ) (k o : ℕ) → k ≡ kindOf rec → k ≡ SheetKinds.operator → o ≡ field rec 0 → leb o 5 ≡ operatorCode rec
+pub code-sheet : (rec : List ℕ) (k o : ℕ) → k ≡ kindOf rec → k ≡ SheetKinds.operator → o ≡ field rec 0 → leb o OperatorCodes.greatest ≡ operatorCode rec
 unfolding operatorCode within
 code-sheet rec k o e f g = rw (← e, f, ← g, le-leb 0 o (omega arith)) refl
 
-pub code-translation : (rec : List ℕ) (k o : ℕ) → k ≡ kindOf rec → k ≡ TranslationKinds.operator → o ≡ field rec 0 → leb o 5 ≡ operatorCode rec
+pub code-translation : (rec : List ℕ) (k o : ℕ) → k ≡ kindOf rec → k ≡ TranslationKinds.operator → o ≡ field rec 0 → leb o OperatorCodes.greatest ≡ operatorCode rec
 unfolding operatorCode within
 code-translation rec k o e f g = rw (← e, f, ← g, le-leb 0 o (omega arith)) refl
 

@@ -8,26 +8,29 @@ use borrow.Author.Tests.{lt-ltb, le-ltb}
 use Rattle.definitions.specs.Lists.{allOf}
 use Rattle.laws.proofs.Lists.{all-none, all-more, all-not}
 
--- each of the first j numbers passes
-pub record Each (j : ℕ) (test : ℕ → Bool) : Type 0 where
+-- before turn j of a loop over n numbers, which are all the m that are to pass: those before j passed
+pub record Testing (test : ℕ → Bool) (m n j : ℕ) : Type 0 where
+  pub reached : j ≤ n
+  pub count : n ≡ m
   pub passed : allOf j test ≡ true
 
-pub each-none : (test : ℕ → Bool) → Each 0 test
-each-none test = record { passed = all-none test }
+pub tests-begin : {test : ℕ → Bool} {m n : ℕ} → n ≡ m → Testing test m n 0
+tests-begin {test} e = record { reached = omega arith; count = e; passed = all-none test }
 
-pub each-more : (j : ℕ) (test : ℕ → Bool) → Each j test → test j ≡ true → Each (j + 1) test
-each-more j test e f = record { passed = all-more j test (e .passed) f }
+module _ {test : ℕ → Bool} {m n j : ℕ} (t : Testing test m n j) where
+  pub tests-go-on : j < n → test j ≡ true → Testing test m n (j + 1)
+  tests-go-on h e = record { reached = omega arith; count = t .count; passed = all-more j test (t .passed) e }
 
--- one fails, so all do not pass; all are tested, so all pass
-pub each-fails : (j n m : ℕ) (test : ℕ → Bool) → n ≡ m → j < n → test j ≡ false → false ≡ allOf m test
-each-fails j n m test e h f = sym (all-not j m test (omega (arith, e, h)) f)
+  -- one fails, so all do not pass; all are tested, so all pass
+  pub tests-fail : j < n → test j ≡ false → false ≡ allOf m test
+  tests-fail h e = sym (all-not j m test (omega (arith, t .count, h)) e)
 
-pub each-all : (j n m : ℕ) (test : ℕ → Bool) → n ≡ m → j ≤ n → n ≤ j → Each j test → true ≡ allOf m test
-each-all j n m test e h k p = let q : j ≡ m = omega (arith, e, h, k) in sym (rw q at (p .passed))
+  pub tests-end : n ≤ j → true ≡ allOf m test
+  tests-end h = let q : j ≡ m = omega (arith, t .count, t .reached, h) in sym (rw q at (t .passed))
 
 -- a test against a limit, by the comparison of what was read
-pub below-test : (x y limit : ℕ) → x ≡ y → x < limit → ltb y limit ≡ true
-below-test x y limit e h = lt-ltb y limit (rw e at h)
+pub below-test : {x y limit : ℕ} → x ≡ y → x < limit → ltb y limit ≡ true
+below-test {x} {y} {limit} e h = lt-ltb y limit (rw e at h)
 
-pub below-not : (x y limit : ℕ) → x ≡ y → limit ≤ x → ltb y limit ≡ false
-below-not x y limit e h = le-ltb y limit (rw e at h)
+pub below-not : {x y limit : ℕ} → x ≡ y → limit ≤ x → ltb y limit ≡ false
+below-not {x} {y} {limit} e h = le-ltb y limit (rw e at h)

@@ -10,6 +10,7 @@ use borrow.Author.Tests.{ne-eqb, le-ltb, lt-ltb, ltb-false}
 use mir.Syntax.{Width, w32}
 use mir.Val.{bits, hbits, toZ, ofZ, SFits}
 use mir.ValLaws.{toZ-ofZ}
+use Rattle.definitions.specs.OperatorCodes
 use Rattle.definitions.specs.Operators.{gives, reduced, quotient, truth, equal, computed}
 
 -- numbers as they are read back
@@ -59,33 +60,46 @@ module _ (w : Width) (x y : ℤ) (f : SFits w x) (g : SFits w y) where
   equal-false k = ap truth (sym (unequal w x y f g k))
 
 -- the result of an operator on numbers as they are read back
-pub number-answer : (w : Width) (x y r : ℤ) (h : ℤ → ℤ → ℤ) → SFits w x → SFits w y → mag r < 2 ^ hbits w → r ≡ h (toZ w (ofZ w x)) (toZ w (ofZ w y))
+pub number-answer : (w : Width) {x y r : ℤ} (h : ℤ → ℤ → ℤ) → SFits w x → SFits w y → mag r < 2 ^ hbits w → r ≡ h (toZ w (ofZ w x)) (toZ w (ofZ w y))
     → gives (toZ w (ofZ w r)) ≡ gives (h x y)
-number-answer w x y r h f g k e = ap gives (toZ-ofZ w r (record { sfits = k }) ∙ e ∙ read-both w x y f g h)
+number-answer w {x} {y} {r} h f g k e = ap gives (toZ-ofZ w r (record { sfits = k }) ∙ e ∙ read-both w x y f g h)
 
 -- the operator that a code names
 module _ (code : ℕ) (x y : ℤ) where
-  pub code-add : code ≡ 0 → gives (reduced w32 (x +ℤ y)) ≡ computed code x y
+  pub code-add : code ≡ OperatorCodes.add → gives (reduced w32 (x +ℤ y)) ≡ computed code x y
   unfolding computed
   code-add e = rw e refl
 
-  pub code-subtract : code ≡ 1 → gives (reduced w32 (x -ℤ y)) ≡ computed code x y
+  pub code-subtract : code ≡ OperatorCodes.subtract → gives (reduced w32 (x -ℤ y)) ≡ computed code x y
   unfolding computed
   code-subtract e = rw e refl
 
-  pub code-multiply : code ≡ 2 → gives (reduced w32 (x *ℤ y)) ≡ computed code x y
+  pub code-multiply : code ≡ OperatorCodes.multiply → gives (reduced w32 (x *ℤ y)) ≡ computed code x y
   unfolding computed
   code-multiply e = rw e refl
 
-  pub code-divide : code ≡ 3 → quotient w32 x y ≡ computed code x y
+  pub code-divide : code ≡ OperatorCodes.divide → quotient w32 x y ≡ computed code x y
   unfolding computed
   code-divide e = rw e refl
 
-  pub code-less : code ≡ 4 → gives (truth (ltZ x y)) ≡ computed code x y
+  pub code-less : code ≡ OperatorCodes.less → gives (truth (ltZ x y)) ≡ computed code x y
   unfolding computed
   code-less e = rw e refl
 
-  pub code-equal : (code ≡ 0 → ⊥) → (code ≡ 1 → ⊥) → (code ≡ 2 → ⊥) → (code ≡ 3 → ⊥) → (code ≡ 4 → ⊥)
-      → gives (truth (equal x y)) ≡ computed code x y
+  pub code-equal : code ≡ OperatorCodes.equal → gives (truth (equal x y)) ≡ computed code x y
   unfolding computed
-  code-equal a b c d e = rw (ne-eqb code 0 a, ne-eqb code 1 b, ne-eqb code 2 c, ne-eqb code 3 d, ne-eqb code 4 e) refl
+  code-equal e = rw e refl
+
+  pub code-none : (code ≡ OperatorCodes.add → ⊥) → (code ≡ OperatorCodes.subtract → ⊥) → (code ≡ OperatorCodes.multiply → ⊥)
+      → (code ≡ OperatorCodes.divide → ⊥) → (code ≡ OperatorCodes.less → ⊥) → (code ≡ OperatorCodes.equal → ⊥)
+      → gives (pos 0) ≡ computed code x y
+  unfolding computed
+  code-none a b c d e f =
+      rw (
+        ne-eqb code OperatorCodes.add a,
+        ne-eqb code OperatorCodes.subtract b,
+        ne-eqb code OperatorCodes.multiply c,
+        ne-eqb code OperatorCodes.divide d,
+        ne-eqb code OperatorCodes.less e,
+        ne-eqb code OperatorCodes.equal f,
+      ) refl

@@ -1,19 +1,31 @@
 -- How numbers and their bits go through 64 bits, and how an operator on the bits gives the number.
 use mathlib.Core.Path.{_≡_, refl, sym, ap, _∙_, subst}
-use Prim.Native.Nat.{ℕ, suc, _+_, _*_, _%_, _^_, _≤_, _<_}
+use Prim.Native.Nat.{ℕ, suc, _+_, _-_, _*_, _%_, _^_, _≤_, _<_}
 use mathlib.Core.Bool.{Bool, true, false}
 use native.Mathlib.Omega.{arith}
 use native.Mathlib.Nat.{mod-eq-of-lt, mul-le-mul}
 use lib.IntN.{ℤ, pos, negsuc, natAbs, _+ℤ_, _-ℤ_, _*ℤ_}
 use lib.Signed.{ltZ, nonNeg}
 use lib.Dec.{T}
-use borrow.Author.Tests.{le-ltb, ltb-true}
+use borrow.Author.Tests.{le-ltb, lt-ltb, ltb-true}
 use mir.Syntax.{Width, w32, w64}
 use mir.Val.{bits, toZ, ofZ, Fits, SFits}
 use mir.ValLaws.{toZ-ofZ, toZ-fits}
 use Rattle.definitions.specs.Operators.{residue, reduced}
-use Rattle.laws.proofs.Bytes.{wide-difference, high-signed, high-fits, wide-fits}
 use Rattle.operators.proofs.Residues.{residue-below, residue-sum, residue-product, residue-difference}
+
+-- a number from 2 ^ 31 on, read as signed 32 bits, is 2 ^ 32 less; the 64-bit difference that says so, and its range
+wide-difference : (n : ℕ) → n < 4294967296 → toZ w64 n -ℤ pos 4294967296 ≡ negsuc (4294967296 - suc n)
+wide-difference n h = rw (lt-ltb n 9223372036854775808 (omega arith), lt-ltb n 4294967296 h) refl
+
+high-signed : (n : ℕ) → 2147483648 ≤ n → negsuc (4294967296 - suc n) ≡ toZ w32 n
+high-signed n h = rw (le-ltb n 2147483648 h) refl
+
+high-fits : (n : ℕ) → 2147483648 ≤ n → n < 4294967296 → SFits w32 (toZ w64 n -ℤ pos 4294967296)
+high-fits n h k = rw (wide-difference n k) (record { sfits = omega arith })
+
+pub wide-fits : (n : ℕ) → n < 4294967296 → SFits w64 (toZ w64 n -ℤ pos 4294967296)
+wide-fits n k = rw (wide-difference n k) (record { sfits = omega arith })
 
 -- a number of 32 bits is one of 64
 pub widened : (x : ℤ) → SFits w32 x → SFits w64 (toZ w32 (ofZ w32 x))
@@ -44,7 +56,8 @@ sum-narrow (negsuc m) n f h k =
     rw (le-ltb n (suc m) (omega arith)) (record { sfits = omega arith })
 
 module _ (x : ℤ) (f : SFits w32 x) where
-  low-test : {t : Bool} → ltZ (toZ w32 (ofZ w32 x)) (pos 0) ≡ t → ltZ x (pos 0) ≡ t
+  -- the sign of a number, by the test of its bits
+  pub low-test : {t : Bool} → ltZ (toZ w32 (ofZ w32 x)) (pos 0) ≡ t → ltZ x (pos 0) ≡ t
   low-test {t} e = subst (λ (z : ℤ). ltZ z (pos 0) ≡ t) (toZ-ofZ w32 x f) e
 
   -- the sum in 64 bits of a negative number and 2 ^ 32
@@ -97,7 +110,7 @@ module _ (w : Width) where
       ap (λ (v : ℤ). toZ w (ofZ w v)) s
       ∙ toZ-ofZ w (toZ w (residue w z)) (toZ-fits w (residue w z) (record { fits = residue-below w z }))
 
-  module _ (x y r : ℤ) (a b n : ℕ) (f : SFits w x) (g : SFits w y) (ea : a ≡ residue w (toZ w (ofZ w x))) (eb : b ≡ residue w (toZ w (ofZ w y))) where
+  module _ {x y r : ℤ} {a b n : ℕ} (f : SFits w x) (g : SFits w y) (ea : a ≡ residue w (toZ w (ofZ w x))) (eb : b ≡ residue w (toZ w (ofZ w y))) where
     pub sum-number : n ≡ (a + b) % 2 ^ bits w → r ≡ toZ w n → toZ w (ofZ w r) ≡ reduced w (x +ℤ y)
     sum-number e =
         number-read (x +ℤ y) r n

@@ -3,7 +3,8 @@ use mathlib.Core.Path.{_≡_, refl, sym, ap, _∙_}
 use Prim.Native.Nat.{ℕ, zero, suc, _+_, _-_, _*_, _/_, _%_, _^_, _≤_, _<_}
 use mathlib.Core.Bool.{Bool, true, false, cond}
 use native.Mathlib.Omega.{arith}
-use native.Mathlib.Nat.{mod-lt, mod-mod, mod-eq-of-lt, mod-self, zero-mod, add-mod, add-mul-mod-self-right, mod-add-div', add-assoc, add-comm, add-zero, zero-add, mul-comm, mul-add, add-mul, mul-zero, zero-mul, mul-right-comm}
+use native.Mathlib.Nat.{mod-lt, mod-mod, mod-eq-of-lt, mod-self, zero-mod, add-mod, add-mul-mod-self-right, mod-add-div'}
+use native.Mathlib.Nat.{add-assoc, add-comm, add-zero, zero-add, mul-comm, mul-add, add-mul, mul-zero, zero-mul, mul-right-comm}
 use native.Mathlib.Numerals.{add-one}
 use lib.Pow.{pow-pos}
 use lib.IntN.{ℤ, pos, negsuc, negℤ, subℕ, _+ℤ_, _-ℤ_, _*ℤ_, -ℤ-+ℤ-cancel}
@@ -15,29 +16,29 @@ use mir.ValLaws.{toZ-ofZ, ofZ-toZ, toZ-fits, half-full, pow-bits}
 use Rattle.definitions.specs.Operators.{residue, reduced}
 
 -- two numbers with the same remainder modulo m
-record Same (m a b : ℕ) : Type 0 where
+record Congruent (m a b : ℕ) : Type 0 where
   pub same : a % m ≡ b % m
 
 module _ {m a b : ℕ} where
-  back : Same m a b → Same m b a
+  back : Congruent m a b → Congruent m b a
   back p = record { same = sym (p .same) }
 
-  then : {c : ℕ} → Same m a b → Same m b c → Same m a c
+  then : {c : ℕ} → Congruent m a b → Congruent m b c → Congruent m a c
   then p q = record { same = p .same ∙ q .same }
 
   -- sums and products of numbers with the same remainders have the same remainder
-  plus : {c d : ℕ} → Same m a b → Same m c d → Same m (a + c) (b + d)
+  plus : {c d : ℕ} → Congruent m a b → Congruent m c d → Congruent m (a + c) (b + d)
   plus {c} {d} p q =
       record { same = add-mod a c m ∙ ap (λ (x : ℕ). (x + c % m) % m) (p .same) ∙ ap (λ (x : ℕ). (b % m + x) % m) (q .same) ∙ sym (add-mod b d m) }
 
-equal-same : {m a b : ℕ} → a ≡ b → Same m a b
+equal-same : {m a b : ℕ} → a ≡ b → Congruent m a b
 equal-same {m} e = record { same = ap (λ (x : ℕ). x % m) e }
 
 -- a number's remainder, by its quotient
-remainder-same : (m a : ℕ) → Same m (a % m) a
+remainder-same : (m a : ℕ) → Congruent m (a % m) a
 remainder-same m a = record { same = mod-mod a m }
 
-times-remainder : (m a c : ℕ) → Same m (a * c) (a % m * c)
+times-remainder : (m a c : ℕ) → Congruent m (a * c) (a % m * c)
 times-remainder m a c =
     let e : a * c ≡ a % m * c + a / m * c * m =
     sym (ap (λ (x : ℕ). x * c) (mod-add-div' a m))
@@ -45,24 +46,24 @@ times-remainder m a c =
     ∙ ap (λ (x : ℕ). a % m * c + x) (mul-right-comm (a / m) m c) in
     record { same = ap (λ (x : ℕ). x % m) e ∙ add-mul-mod-self-right (a % m * c) (a / m * c) m }
 
-times : {m a b : ℕ} (c : ℕ) → Same m a b → Same m (a * c) (b * c)
+times : {m a b : ℕ} (c : ℕ) → Congruent m a b → Congruent m (a * c) (b * c)
 times {m} {a} {b} c p =
     then (times-remainder m a c)
     (then (equal-same (ap (λ (x : ℕ). x * c) (p .same))) (back (times-remainder m b c)))
 
-times-left : {m a b : ℕ} (c : ℕ) → Same m a b → Same m (c * a) (c * b)
+times-left : {m a b : ℕ} (c : ℕ) → Congruent m a b → Congruent m (c * a) (c * b)
 times-left {m} {a} {b} c p = then (equal-same (mul-comm c a)) (then (times c p) (equal-same (mul-comm b c)))
 
 -- a multiple of m goes
-add-none : {m c : ℕ} (a : ℕ) → Same m c 0 → Same m (a + c) a
+add-none : {m c : ℕ} (a : ℕ) → Congruent m c 0 → Congruent m (a + c) a
 add-none a p = then (plus (equal-same refl) p) (equal-same (add-zero a))
 
 -- what is added on both sides goes
-cancel : {m a b : ℕ} (c : ℕ) → 0 < m → Same m (a + c) (b + c) → Same m a b
+cancel : {m a b : ℕ} (c : ℕ) → 0 < m → Congruent m (a + c) (b + c) → Congruent m a b
 cancel {m} {a} {b} c h p =
     let d = m - c % m in
     let below : c % m < m = mod-lt c h in
-    let none : Same m (c + d) 0 =
+    let none : Congruent m (c + d) 0 =
     then (plus (back (remainder-same m c)) (equal-same refl))
     (then (equal-same (omega arith)) (record { same = mod-self m ∙ sym (zero-mod m) })) in
     then (back (add-none a none))
@@ -70,31 +71,31 @@ cancel {m} {a} {b} c h p =
     (then (plus p (equal-same refl)) (then (equal-same (add-assoc b c d)) (add-none b none))))
 
 -- two numbers below m with the same remainder are equal
-below-same : {m a b : ℕ} → a < m → b < m → Same m a b → a ≡ b
+below-same : {m a b : ℕ} → a < m → b < m → Congruent m a b → a ≡ b
 below-same h k p = sym (mod-eq-of-lt h) ∙ p .same ∙ mod-eq-of-lt k
 
 -- r stands for a number modulo m: with the size of a negative number it makes a multiple of m
-abbrev Stands : ℕ → ℤ → ℕ → Type 0
-Stands m (pos n) r = Same m n r
-Stands m (negsuc n) r = Same m (suc n + r) 0
+abbrev ResidueOf : ℕ → ℤ → ℕ → Type 0
+ResidueOf m (pos n) r = Congruent m n r
+ResidueOf m (negsuc n) r = Congruent m (suc n + r) 0
 
-stands-same : (m : ℕ) (z : ℤ) {r s : ℕ} → Stands m z r → Same m r s → Stands m z s
+stands-same : (m : ℕ) (z : ℤ) {r s : ℕ} → ResidueOf m z r → Congruent m r s → ResidueOf m z s
 stands-same m (pos n) p q = then p q
 stands-same m (negsuc n) p q = then (plus (equal-same refl) (back q)) p
 
 -- what stands for a number is determined modulo m
-stands-once : (m : ℕ) (z : ℤ) {r s : ℕ} → 0 < m → Stands m z r → Stands m z s → Same m r s
+stands-once : (m : ℕ) (z : ℤ) {r s : ℕ} → 0 < m → ResidueOf m z r → ResidueOf m z s → Congruent m r s
 stands-once m (pos n) h p q = then (back p) q
 stands-once m (negsuc n) {r} {s} h p q =
     cancel (suc n) h (then (equal-same (add-comm r (suc n))) (then p (then (back q) (equal-same (add-comm (suc n) s)))))
 
-negated-stands : (m n r : ℕ) → Same m (n + r) 0 → Stands m (negℤ (pos n)) r
+negated-stands : (m n r : ℕ) → Congruent m (n + r) 0 → ResidueOf m (negℤ (pos n)) r
 negated-stands m zero r p = back (then (equal-same (sym (zero-add r))) p)
 negated-stands m (suc n) r p = p
 
 -- sums
-difference-by : (m a b r s : ℕ) → Same m a r → Same m (b + s) 0 → (t : Bool) → ltb a b ≡ t
-    → Stands m (cond t (negsuc (b - suc a)) (pos (a - b))) (r + s)
+difference-by : (m a b r s : ℕ) → Congruent m a r → Congruent m (b + s) 0 → (t : Bool) → ltb a b ≡ t
+    → ResidueOf m (cond t (negsuc (b - suc a)) (pos (a - b))) (r + s)
 difference-by m a b r s p q true e =
     let h : a < b = ltb-true a b e in
     let k = suc (b - suc a) in
@@ -103,17 +104,17 @@ difference-by m a b r s p q false e =
     let h : b ≤ a = ltb-false a b e in
     then (back (add-none (a - b) q)) (then (equal-same (omega arith)) (plus p (equal-same refl)))
 
-difference-stands : (m a b r s : ℕ) → Same m a r → Same m (b + s) 0 → Stands m (subℕ a b) (r + s)
+difference-stands : (m a b r s : ℕ) → Congruent m a r → Congruent m (b + s) 0 → ResidueOf m (subℕ a b) (r + s)
 difference-stands m a b r s p q = difference-by m a b r s p q (ltb a b) refl
 
-sum-stands : (m : ℕ) → 0 < m → (x y : ℤ) (r s : ℕ) → Stands m x r → Stands m y s → Stands m (x +ℤ y) (r + s)
+sum-stands : (m : ℕ) → 0 < m → (x y : ℤ) (r s : ℕ) → ResidueOf m x r → ResidueOf m y s → ResidueOf m (x +ℤ y) (r + s)
 sum-stands m h (pos a) (pos b) r s p q = plus p q
 sum-stands m h (pos a) (negsuc b) r s p q = difference-stands m a (suc b) r s p q
 sum-stands m h (negsuc a) (pos b) r s p q = rw (add-comm r s) (difference-stands m b (suc a) s r q p)
 sum-stands m h (negsuc a) (negsuc b) r s p q = then (equal-same (omega arith)) (plus p q)
 
 -- products
-product-stands : (m : ℕ) → 0 < m → (x y : ℤ) (r s : ℕ) → Stands m x r → Stands m y s → Stands m (x *ℤ y) (r * s)
+product-stands : (m : ℕ) → 0 < m → (x y : ℤ) (r s : ℕ) → ResidueOf m x r → ResidueOf m y s → ResidueOf m (x *ℤ y) (r * s)
 product-stands m h (pos a) (pos b) r s p q = then (times b p) (times-left r q)
 product-stands m h (pos a) (negsuc b) r s p q =
     negated-stands m (a * suc b) (r * s)
@@ -132,13 +133,13 @@ product-stands m h (negsuc a) (negsuc b) r s p q =
 
 -- remainders modulo 2 ^ w
 module _ (w : Width) where
-  residue-stands : (z : ℤ) → Stands (2 ^ bits w) z (residue w z)
+  residue-stands : (z : ℤ) → ResidueOf (2 ^ bits w) z (residue w z)
   unfolding residue
   residue-stands (pos n) = back (remainder-same (2 ^ bits w) n)
   residue-stands (negsuc n) =
       let m = 2 ^ bits w in
       let below : n % m < m = mod-lt n (pow-pos (bits w)) in
-      let size : Same m (suc n) (suc (n % m)) =
+      let size : Congruent m (suc n) (suc (n % m)) =
       then (equal-same (sym (add-one n)))
       (then (plus (back (remainder-same m n)) (equal-same refl)) (equal-same (add-one (n % m)))) in
       then (plus size (equal-same refl)) (then (equal-same (omega arith)) (record { same = mod-self m ∙ sym (zero-mod m) }))
@@ -148,12 +149,12 @@ module _ (w : Width) where
   residue-below (pos n) = mod-lt n (pow-pos (bits w))
   residue-below (negsuc n) = let h : 0 < 2 ^ bits w = pow-pos (bits w) in omega arith
 
-  residue-is : (z : ℤ) (r : ℕ) → r < 2 ^ bits w → Stands (2 ^ bits w) z r → r ≡ residue w z
+  residue-is : (z : ℤ) (r : ℕ) → r < 2 ^ bits w → ResidueOf (2 ^ bits w) z r → r ≡ residue w z
   residue-is z r h p = below-same h (residue-below z) (stands-once (2 ^ bits w) z (pow-pos (bits w)) p (residue-stands z))
 
   -- an operator on the bits that stands for an operator on numbers works on remainders
   over-operator : (f : ℕ → ℕ → ℕ) (g : ℤ → ℤ → ℤ)
-      → ((m : ℕ) → 0 < m → (x y : ℤ) (r s : ℕ) → Stands m x r → Stands m y s → Stands m (g x y) (f r s))
+      → ((m : ℕ) → 0 < m → (x y : ℤ) (r s : ℕ) → ResidueOf m x r → ResidueOf m y s → ResidueOf m (g x y) (f r s))
       → (x y : ℤ) → f (residue w x) (residue w y) % 2 ^ bits w ≡ residue w (g x y)
   over-operator f g stands x y =
       let m = 2 ^ bits w in

@@ -5,7 +5,8 @@ ghost use Rattle.operators.specs.Results.{computedOf};
 
 mod arithmetic;
 pub mod bits;
-pub mod codes;
+
+use definitions::operator_codes;
 
 // What an operator gives: a number, or the number of a run fault.
 pub enum Computed {
@@ -13,24 +14,27 @@ pub enum Computed {
     Fault(u16),
 }
 
-// The operator of a code; a code above 5 is read as 5.
+// The operator of a code; a code above the greatest gives 0.
 pub fn compute(code: u16, x: i32, y: i32) -> Computed
     ensures { λ r. ⌜ computedOf r ≡ computed code x y ⌝ }
 {
-    if code == codes::ADD {
+    if code == operator_codes::ADD {
         return Computed::Number(arithmetic::add(x, y));
     }
-    if code == codes::SUBTRACT {
+    if code == operator_codes::SUBTRACT {
         return Computed::Number(arithmetic::subtract(x, y));
     }
-    if code == codes::MULTIPLY {
+    if code == operator_codes::MULTIPLY {
         return Computed::Number(arithmetic::multiply(x, y));
     }
-    if code == codes::DIVIDE {
+    if code == operator_codes::DIVIDE {
         return arithmetic::divide(x, y);
     }
-    if code == codes::LESS {
+    if code == operator_codes::LESS {
         return Computed::Number(arithmetic::less(x, y));
     }
-    Computed::Number(arithmetic::equal(x, y))
+    if code == operator_codes::EQUAL {
+        return Computed::Number(arithmetic::equal(x, y));
+    }
+    Computed::Number(0)
 }

@@ -54,8 +54,9 @@ fit-clauses : (cs : List Clause)
 unfolding clauseWords
 fit-clauses [] f = fit-none
 fit-clauses (c ∷ cs) f =
-    fit-more (c .constructor) (c .node ∷ clauseWords cs) (f 0 c refl .0)
-    (fit-more (c .node) (clauseWords cs) (f 0 c refl .1) (fit-clauses cs (λ j d e. f (suc j) d e)))
+    let node = c .node in
+    fit-more (c .constructor) (node ∷ clauseWords cs) (f 0 c refl .0)
+    (fit-more (node) (clauseWords cs) (f 0 c refl .1) (fit-clauses cs (λ j d e. f (suc j) d e)))
 
 module _ (b : List ℕ) (accepted : sheetVerdict b ≡ Accepted) where
   -- a formal is one of all, and there are at most 512

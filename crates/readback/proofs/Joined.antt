@@ -9,7 +9,7 @@ use native.Mathlib.Nat.{not-suc-le-zero}
 use native.Mathlib.Decide.{ℕ-discrete}
 use lib.ListN.{length, getElem?, length-append}
 use Rattle.definitions.specs.Lists.{joined, sumOf, countOf}
-use Rattle.accepted.proofs.Sums.{Below}
+use Rattle.accepted.proofs.Sums.{SomeBelow}
 use Rattle.accepted.proofs.Counts.{count-reached}
 use Rattle.accepted.proofs.Elements.{element-below, element-front, element-back}
 
@@ -76,7 +76,7 @@ module _ {A : Type 0} (test : ℕ → Bool) (at : ℕ → A) where
     pub before : countOf k test ≡ l
     pub is : at k ≡ x
 
-  pub picked-found : (n l : ℕ) {x : A} → getElem? (picked n test at) l ≡ some x → Below n (Picked l x)
+  pub picked-found : (n l : ℕ) {x : A} → getElem? (picked n test at) l ≡ some x → SomeBelow n (Picked l x)
   picked-found n l {x} e =
       let h : l < countOf n test = rw (picked-length n) at (element-below (picked n test at) l e) in
       let f = count-reached n l test h in

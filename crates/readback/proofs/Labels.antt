@@ -21,8 +21,7 @@ use Rattle.definitions.specs.Checks.{sheetVerdict}
 use Rattle.definitions.specs.Translate.{calls, labelOf, actuals}
 use Rattle.definitions.specs.declared.Verdict.the-variants.{Accepted}
 use Rattle.accepted.specs.Child.{argument}
-use Rattle.accepted.proofs.Sums.{Below}
-use Rattle.accepted.proofs.Counts.{count-term, count-reached, count-limit}
+use Rattle.accepted.proofs.Counts.{count-term, count-limit}
 use Rattle.accepted.proofs.Elements.{element-there}
 use Rattle.accepted.proofs.SheetRecords.{SheetRecord, is-call, node-is}
 use Rattle.accepted.proofs.Children.{argument-found}
@@ -51,11 +50,6 @@ call-field : (rec : List ℕ) {f n : ℕ} {ns : List ℕ} (i : ℕ) → SheetRec
     → field rec (1 + i) ≡ n
 call-field rec i (is-call e l g) p = argument-found rec i p .is
 
--- a call of f
-pub record Call (b : List ℕ) (f k : ℕ) : Type 0 where
-  pub arguments : List ℕ
-  pub is : sheetNodeOf b k ≡ call f arguments
-
 module _ (b : List ℕ) (accepted : sheetVerdict b ≡ Accepted) where
   pub call-passes : (f k : ℕ) {ns : List ℕ} → k < nodes b → sheetNodeOf b k ≡ call f ns → calls b f k ≡ true
   unfolding calls
@@ -80,17 +74,6 @@ module _ (b : List ℕ) (accepted : sheetVerdict b ≡ Accepted) where
           | no q ↦ absurd (omega (arith, l, count-term m k (calls b f) (omega (arith, p, q)) (call-passes f m g d)))
         ]
       ]
-
-  -- each label below the number of calls is a call's
-  pub label-reached : (f l : ℕ) → l < countOf (nodes b) (calls b f) → Below (nodes b) (λ k. Call b f k × (labelOf b f k ≡ l))
-  unfolding labelOf
-  label-reached f l h =
-      let r = count-reached (nodes b) l (calls b f) h in
-      record {
-        at = r .at;
-        below = r .below;
-        holds = (record { arguments = fieldsFrom (nodeRecord b (r .at)) 1; is = calls-node b f (r .at) (r .holds .0) }, r .holds .1);
-      }
 
   -- a formal lists as many actuals as there are calls
   pub actuals-length : (f i : ℕ) → length (actuals b f i) ≡ countOf (nodes b) (calls b f)

@@ -1,18 +1,15 @@
 -- The runs, the nodes and the actuals of an accepted sheet's translation, as a translation file is read.
 use mathlib.Core.Path.{_≡_, refl, ap, _∙_}
-use Prim.Native.Nat.{ℕ, zero, suc, pred, _≤_, _<_}
+use Prim.Native.Nat.{ℕ, suc, pred, _<_}
 use mathlib.Core.List.{List, [], _∷_}
-use mathlib.Core.Option.{none, some}
-use mathlib.Core.Bool.{Bool}
+use mathlib.Core.Option.{some}
 use native.Mathlib.Omega.{arith}
 use lib.IntN.{ℤ}
 use lib.ListN.{getElem?}
-use lib.Dec.{leb}
 use mir.Syntax.{w32}
 use Rattle.definitions.specs.Bytes.{signed, words32, bytesOf}
 use Rattle.definitions.specs.TranslationKinds
 use Rattle.definitions.specs.Operators.{residue}
-use Rattle.definitions.specs.Lists.{countOf}
 use Rattle.definitions.specs.Layouts.{functions, nodes, nodeRecord, nodeCount, runEnd, bodyOf, ownerOf}
 use Rattle.definitions.specs.References.{parameters}
 use Rattle.definitions.specs.NodeFields.{Clause}
@@ -20,26 +17,20 @@ use Rattle.definitions.specs.SheetNodes.{SheetNode, number, reading, parameter,
 use Rattle.definitions.specs.TranslationNodes.{translationNode, translationNodeOf, actual, tagOf, tupleFields}
 use Rattle.definitions.specs.TranslationNodes
 use Rattle.definitions.specs.Checks.{sheetVerdict}
-use Rattle.definitions.specs.Translate.{recordWords, calls, labelOf, formalOf, actuals, scrutineeOf, clauseWords, functionWords, translation}
+use Rattle.definitions.specs.Translate.{recordWords, labelOf, formalOf, actuals, scrutineeOf, clauseWords, functionWords, translation}
 use Rattle.definitions.specs.declared.Layout.the-variants.{Sheet, Translation}
 use Rattle.definitions.specs.declared.Verdict.the-variants.{Accepted}
 use Rattle.accepted.proofs.Sums.{sum-same}
-use Rattle.accepted.proofs.Elements.{element-below, element-past}
+use Rattle.accepted.proofs.Elements.{element-below}
 use Rattle.accepted.proofs.SheetRecords.{SheetRecord, is-number, node-is}
 use Rattle.accepted.proofs.Checks.{sheet-shape}
 use Rattle.accepted.proofs.Names.{call-below, call-count}
 use Rattle.readback.specs.TranslatedNode.{translatedNode, translatedKind, translatedFields}
 use Rattle.readback.proofs.Fields.{Fit, kind-read, field-read, fields-read, fields-after, clauses-read}
 use Rattle.readback.proofs.Signed.{signed-read}
-use Rattle.readback.proofs.Labels.{actuals-length, actuals-argument}
+use Rattle.readback.proofs.Labels.{actuals-argument}
 use Rattle.readback.proofs.Fitting.{function-writable, formal-writable, node-writable}
-use Rattle.readback.proofs.Records.{node-words, translation-functions, function-written, formal-written, node-written}
-
--- equal tests have equal counts
-count-same : (n : ℕ) (test to : ℕ → Bool) → ((i : ℕ) → i < n → test i ≡ to i) → countOf n test ≡ countOf n to
-unfolding countOf
-count-same zero test to e = refl
-count-same (suc n) test to e = rw (e n (omega arith), count-same n test to (λ i h. e i (omega arith))) refl
+use Rattle.readback.proofs.Records.{node-words, function-written, formal-written, node-written}
 
 -- a number of a sheet is a signed field
 number-is : (rec : List ℕ) {z : ℤ} → SheetRecord rec (number z) → signed rec 4 ≡ z
@@ -101,13 +92,6 @@ module _ (b : List ℕ) (accepted : sheetVerdict b ≡ Accepted) where
   pub body-read : (f : ℕ) → f < functions b → bodyOf Translation (translation b) f ≡ bodyOf Sheet b f
   unfolding bodyOf
   body-read f h = ap pred (run-end-read f h)
-
-  pub owner-read : (k : ℕ) → ownerOf Translation (translation b) k ≡ ownerOf Sheet b k
-  unfolding ownerOf
-  owner-read k =
-      rw (translation-functions b accepted)
-      (count-same (functions b) (λ f. leb (runEnd Translation (translation b) f) k) (λ f. leb (runEnd Sheet b f) k)
-      (λ f h. rw (run-end-read f h) refl))
 
   -- a node is what the sheet's node becomes
   module _ (k : ℕ) (h : k < nodes b) where
@@ -194,9 +178,3 @@ module _ (b : List ℕ) (accepted : sheetVerdict b ≡ Accepted) where
       let c = call-count b accepted k h e in
       let g : i < parameters b f = rw c at (element-below ns i p) in
       actual-read f i (labelOf b f k) (call-below b accepted k h e) g ∙ actuals-argument b accepted f k i h e p
-
-  -- a label that no call has names none
-  pub no-actual : (f i l : ℕ) → f < functions b → i < parameters b f → countOf (nodes b) (calls b f) ≤ l
-      → actual (translation b) (formalOf b f i) l ≡ none
-  no-actual f i l h g m =
-      actual-read f i l h g ∙ element-past (actuals b f i) l (rw (actuals-length b accepted f i) m)

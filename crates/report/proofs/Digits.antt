@@ -10,7 +10,7 @@ use lib.IntN.{ℤ, pos, negsuc, natAbs}
 use lib.Signed.{ltZ}
 use lib.ListN.{length, length-append}
 use borrow.Author.Tests.{ltb-true, ltb-false, lt-ltb, le-ltb}
-use Rattle.report.specs.Writing.{Wrote}
+use Rattle.report.specs.Writing.{WroteBytes}
 use Rattle.report.proofs.Writing.{wrote-then}
 use Rattle.report.specs.Decimals.{digit, digitsWithin, decimal, signed, integer}
 
@@ -43,23 +43,23 @@ decimal-length (suc k) n h = each (λ i. decimal-length k (n / 10) i) (ltb n 10)
     each f false e = rw (decimal-more n (ltb-false n 10 e), length-append) (omega (arith, f (omega arith)))
 
 -- a digit, and a last digit after the others
-pub wrote-digit : (out : List ℕ) (at n r : ℕ) (o : List ℕ) → n < 10 → Wrote out at ((48 + n) ∷ []) r o → Wrote out at (decimal n) r o
-wrote-digit out at n r o h w = rw (decimal-small n h) w
+pub wrote-digit : {out : List ℕ} {at n r : ℕ} {o : List ℕ} → n < 10 → WroteBytes out at ((48 + n) ∷ []) r o → WroteBytes out at (decimal n) r o
+wrote-digit {n} h w = rw (decimal-small n h) w
 
-pub wrote-last : (out : List ℕ) (at n m : ℕ) (o : List ℕ) (r : ℕ) (p : List ℕ) → 10 ≤ n → Wrote out at (decimal (n / 10)) m o
-    → Wrote o m ((48 + n % 10) ∷ []) r p → Wrote out at (decimal n) r p
-wrote-last out at n m o r p h v w = rw (decimal-more n h) (wrote-then v w)
+pub wrote-last : {out : List ℕ} {at n m : ℕ} {o : List ℕ} {r : ℕ} {p : List ℕ} → 10 ≤ n → WroteBytes out at (decimal (n / 10)) m o
+    → WroteBytes o m ((48 + n % 10) ∷ []) r p → WroteBytes out at (decimal n) r p
+wrote-last {n} h v w = rw (decimal-more n h) (wrote-then v w)
 
 -- a number with a sign, and without one
-pub wrote-minus : (out : List ℕ) (at : ℕ) (negative : Bool) (n m : ℕ) (o : List ℕ) (r : ℕ) (p : List ℕ) → negative ≡ true → Wrote out at (45 ∷ []) m o
-    → Wrote o m (decimal n) r p → Wrote out at (signed negative n) r p
+pub wrote-minus : {out : List ℕ} {at : ℕ} {negative : Bool} (n : ℕ) {m : ℕ} {o : List ℕ} {r : ℕ} {p : List ℕ} → negative ≡ true → WroteBytes out at (45 ∷ []) m o
+    → WroteBytes o m (decimal n) r p → WroteBytes out at (signed negative n) r p
 unfolding signed
-wrote-minus out at negative n m o r p e v w = rw e (wrote-then v w)
+wrote-minus n e v w = rw e (wrote-then v w)
 
-pub wrote-plain : (out : List ℕ) (at : ℕ) (negative : Bool) (n r : ℕ) (o : List ℕ) → negative ≡ false → Wrote out at (decimal n) r o
-    → Wrote out at (signed negative n) r o
+pub wrote-plain : {out : List ℕ} {at : ℕ} {negative : Bool} (n : ℕ) {r : ℕ} {o : List ℕ} → negative ≡ false → WroteBytes out at (decimal n) r o
+    → WroteBytes out at (signed negative n) r o
 unfolding signed
-wrote-plain out at negative n r o e w = rw e w
+wrote-plain n e w = rw e w
 
 -- a number by its sign and its size
 pub integer-signed : (z : ℤ) → signed (ltZ z (pos 0)) (natAbs z) ≡ integer z

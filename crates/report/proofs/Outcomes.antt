@@ -10,12 +10,12 @@ use borrow.Author.Tests.{ltb-true}
 use mir.Syntax.{w32, w64}
 use mir.Val.{toZ, ofZ, Fits, SFits}
 use mir.ValLaws.{toZ-ofZ}
-use Rattle.operators.proofs.Conversions.{widened}
-use Rattle.cells.specs.Answers.{outcomeOf, valueOf}
-use Rattle.cells.specs.declared.answer.Outcome.{Outcome}
-use Rattle.cells.specs.declared.answer.Outcome.the-variants.{Number, Constructor, Ended, Refused}
+use Rattle.operators.proofs.Conversions.{widened, low-test}
+use Rattle.answer.specs.Answers.{outcomeOf, valueOf}
+use Rattle.answer.specs.declared.Outcome.{Outcome}
+use Rattle.answer.specs.declared.Outcome.the-variants.{Number, Constructor, Ended, Refused}
 use Rattle.report.specs.Decimals.{signed, integer}
-use Rattle.report.specs.Writing.{Shows}
+use Rattle.report.specs.Writing.{ShownOf}
 use Rattle.report.proofs.Digits.{integer-signed}
 
 -- a negative number taken from 0 is its size, and any other number is its own
@@ -32,11 +32,8 @@ size-bound (pos n) f = let h : n < 2147483648 = f .sfits in omega arith
 size-bound (negsuc n) f = let h : n < 2147483648 = f .sfits in omega arith
 
 module _ (x : ℤ) (f : SFits w32 x) where
-  test-of : {t : Bool} → ltZ (toZ w32 (ofZ w32 x)) (pos 0) ≡ t → ltZ x (pos 0) ≡ t
-  test-of {t} e = subst (λ (z : ℤ). ltZ z (pos 0) ≡ t) (toZ-ofZ w32 x f) e
-
   difference : ltZ (toZ w32 (ofZ w32 x)) (pos 0) ≡ true → pos 0 -ℤ toZ w64 (ofZ w64 (toZ w32 (ofZ w32 x))) ≡ pos (natAbs x)
-  difference e = ap (λ (z : ℤ). pos 0 -ℤ z) (toZ-ofZ w64 (toZ w32 (ofZ w32 x)) (widened x f) ∙ toZ-ofZ w32 x f) ∙ negated x (test-of e)
+  difference e = ap (λ (z : ℤ). pos 0 -ℤ z) (toZ-ofZ w64 (toZ w32 (ofZ w32 x)) (widened x f) ∙ toZ-ofZ w32 x f) ∙ negated x (low-test x f e)
 
   -- the size in 64 bits of a negative number
   pub difference-fits : ltZ (toZ w32 (ofZ w32 x)) (pos 0) ≡ true → SFits w64 (pos 0 -ℤ toZ w64 (ofZ w64 (toZ w32 (ofZ w32 x))))
@@ -48,7 +45,7 @@ module _ (x : ℤ) (f : SFits w32 x) where
   negative-size e = toZ-ofZ w64 _ (difference-fits e) ∙ difference e
 
   pub positive-size : ltZ (toZ w32 (ofZ w32 x)) (pos 0) ≡ false → toZ w32 (ofZ w32 x) ≡ pos (natAbs x)
-  positive-size e = toZ-ofZ w32 x f ∙ own-size x (test-of e)
+  positive-size e = toZ-ofZ w32 x f ∙ own-size x (low-test x f e)
 
   -- a number that is the size may be cast
   pub size-cast : (z : ℤ) → z ≡ pos (natAbs x) → T (nonNeg z) × Fits w64 (natAbs z)
@@ -57,23 +54,23 @@ module _ (x : ℤ) (f : SFits w32 x) where
 
 -- an outcome's number, and its value by sign and size
 shows-as : (o u : Outcome) (number : ℕ) (negative : Bool) (size : ℕ) → o ≡ u → number ≡ outcomeOf u → signed negative size ≡ integer (valueOf u)
-    → Shows o (record { number = number; negative = negative; size = size })
+    → ShownOf o (record { number = number; negative = negative; size = size })
 shows-as o u number negative size e f g = record { number = f ∙ sym (ap outcomeOf e); value = g ∙ sym (ap (λ (v : Outcome). integer (valueOf v)) e) }
 
-pub shows-number : (o : Outcome) (z : ℤ) (size : ℕ) → SFits w32 z → o ≡ Number z → size ≡ natAbs (toZ w32 (ofZ w32 z))
-    → Shows o (record { number = 0; negative = ltZ (toZ w32 (ofZ w32 z)) (pos 0); size = size })
+pub shows-number : {o : Outcome} {z : ℤ} {size : ℕ} → SFits w32 z → o ≡ Number z → size ≡ natAbs (toZ w32 (ofZ w32 z))
+    → ShownOf o (record { number = 0; negative = ltZ (toZ w32 (ofZ w32 z)) (pos 0); size = size })
 unfolding outcomeOf valueOf
-shows-number o z size f e g =
+shows-number {o} {z} {size} f e g =
     shows-as o (Number z) 0 (ltZ (toZ w32 (ofZ w32 z)) (pos 0)) size e refl (rw (g, toZ-ofZ w32 z f) (integer-signed z))
 
-pub shows-constructor : (o : Outcome) (t k w : ℕ) → o ≡ Constructor t k w → Shows o (record { number = 100; negative = false; size = t })
+pub shows-constructor : {o : Outcome} {t k w : ℕ} → o ≡ Constructor t k w → ShownOf o (record { number = 100; negative = false; size = t })
 unfolding outcomeOf valueOf integer
-shows-constructor o t k w e = shows-as o (Constructor t k w) 100 false t e refl refl
+shows-constructor {o} {t} {k} {w} e = shows-as o (Constructor t k w) 100 false t e refl refl
 
-pub shows-end : (o : Outcome) (n : ℕ) → o ≡ Ended n → Shows o (record { number = n; negative = false; size = 0 })
+pub shows-end : (o : Outcome) (n : ℕ) → o ≡ Ended n → ShownOf o (record { number = n; negative = false; size = 0 })
 unfolding outcomeOf valueOf integer
 shows-end o n e = shows-as o (Ended n) n false 0 e refl refl
 
-pub shows-refusal : (o : Outcome) (n p : ℕ) → o ≡ Refused n p → Shows o (record { number = n; negative = false; size = p })
+pub shows-refusal : {o : Outcome} {n p : ℕ} → o ≡ Refused n p → ShownOf o (record { number = n; negative = false; size = p })
 unfolding outcomeOf valueOf integer
-shows-refusal o n p e = shows-as o (Refused n p) n false p e refl refl
+shows-refusal {o} {n} {p} e = shows-as o (Refused n p) n false p e refl refl

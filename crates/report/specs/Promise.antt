@@ -3,8 +3,8 @@ use mathlib.Core.Path.{_≡_}
 use Prim.Native.Nat.{ℕ, _≤_}
 use mathlib.Core.List.{List, _++_}
 use lib.ListN.{length, drop}
-use Rattle.cells.specs.Answers.{answerOf}
-use Rattle.cells.specs.declared.answer.Answer.{Answer}
+use Rattle.answer.specs.Answers.{answerOf}
+use Rattle.answer.specs.declared.Answer.{Answer}
 use Rattle.report.specs.Lines.{line}
 
 -- how many bytes the space for a line has

@@ -2,7 +2,7 @@
 ghost use Rattle.report.specs.Decimals.{signed};
 ghost use Rattle.report.specs.Lines.{counts, countedLine, refusalLine};
 ghost use Rattle.report.specs.Promise.{WritesLine};
-ghost use Rattle.report.specs.Writing.{Wrote, PutsLine};
+ghost use Rattle.report.specs.Writing.{WroteBytes, PutsLine};
 
 mod bytes;
 mod decimals;
@@ -12,7 +12,7 @@ use crate::bytes::put_word;
 use crate::decimals::put_decimal;
 use crate::decimals::put_signed;
 use crate::shown::show;
-use cells::answer::Answer;
+use answer::Answer;
 use definitions::numbers::CONSTRUCTOR;
 use definitions::numbers::NUMBER;
 use definitions::numbers::is_refusal;
@@ -26,7 +26,7 @@ pub type Line = [u8; LINE_BYTES];
 
 // Writes the steps, the cells and the line end.
 fn put_counts(out: &mut [u8], at: usize, steps: u32, cells: u16) -> usize
-    ensures { λ r. ⌜ Wrote (now (out .entry)) at (counts steps cells) r (now (out .exit)) ⌝ }
+    ensures { λ r. ⌜ WroteBytes (now (out .entry)) at (counts steps cells) r (now (out .exit)) ⌝ }
 {
     let first = put_word(out, at, b" steps ");
     let second = put_decimal(out, first, steps as usize);
@@ -44,7 +44,7 @@ fn put_counted(
     steps: u32,
     cells: u16,
 ) -> usize
-    ensures { λ r. ⌜ Wrote (now (out .entry)) 0 (countedLine (now (word .entry)) (signed negative size) steps cells) r (now (out .exit)) ⌝ }
+    ensures { λ r. ⌜ WroteBytes (now (out .entry)) 0 (countedLine (now (word .entry)) (signed negative size) steps cells) r (now (out .exit)) ⌝ }
 {
     let first = put_word(out, 0, word);
     let second = put_signed(out, first, negative, size);
@@ -53,7 +53,7 @@ fn put_counted(
 
 // Writes the line of a refusal.
 fn put_refusal(out: &mut [u8], number: u16, negative: bool, size: usize) -> usize
-    ensures { λ r. ⌜ Wrote (now (out .entry)) 0 (refusalLine number (signed negative size)) r (now (out .exit)) ⌝ }
+    ensures { λ r. ⌜ WroteBytes (now (out .entry)) 0 (refusalLine number (signed negative size)) r (now (out .exit)) ⌝ }
 {
     let first = put_word(out, 0, b"refused ");
     let second = put_decimal(out, first, number as usize);

@@ -1,8 +1,8 @@
 // What a line shows of an outcome.
 ghost use mathlib.Core.Path.{_≡_};
 ghost use lib.IntN.{natAbs};
-ghost use Rattle.report.specs.Writing.{Shows};
-use cells::answer::Outcome;
+ghost use Rattle.report.specs.Writing.{ShownOf};
+use answer::Outcome;
 use definitions::numbers::CONSTRUCTOR;
 use definitions::numbers::NUMBER;
 
@@ -26,7 +26,7 @@ fn magnitude(x: i32) -> usize
 
 // Number, sign and size of an outcome.
 pub(crate) fn show(o: Outcome) -> Shown
-    ensures { λ s. ⌜ Shows o s ⌝ }
+    ensures { λ s. ⌜ ShownOf o s ⌝ }
 {
     match o {
         Outcome::Number(value) => Shown {

@@ -4,7 +4,7 @@ use mathlib.Core.List.{List}
 use lib.IntN.{ℤ}
 use Rattle.definitions.specs.Operators.{Computed, gives, faults}
 use Rattle.definitions.specs.Rule.{Value, Ending, value, ended, integer, State, Reached, reach, resultOf}
-use Rattle.rule_laws.specs.Visits.{Trace, alone, after, afterBoth, endingOf}
+use Rattle.rule_laws.specs.Derivations.{Trace, alone, after, afterBoth, endingOf}
 use Rattle.rule_laws.specs.Reads.{stateOf, Reads, Shows, an-integer, an-end, Arrives}
 
 module _ {t : List ℕ} {C S : Type 0} (R : Reads t C S) where

@@ -4,6 +4,7 @@ use mathlib.Core.Bool.{Bool, true, false, cond}
 use lib.IntN.{ℤ}
 use lib.Dec.{eqb}
 use Rattle.definitions.specs.Numbers.{zeroDivisor}
+use Rattle.definitions.specs.OperatorCodes
 use Rattle.definitions.specs.Operators.{Computed, gives, faults, computed, quotient, isZero}
 
 pub data Result : Computed → Type 0 where
@@ -17,8 +18,8 @@ either false h g = g
 pub computed-result : (o : ℕ) (x y : ℤ) → Result (computed o x y)
 unfolding computed quotient
 computed-result o x y =
-    either (eqb o 0) a-number
-    (either (eqb o 1) a-number
-    (either (eqb o 2) a-number
-    (either (eqb o 3) (either (isZero y) no-divisor a-number)
-    (either (eqb o 4) a-number a-number))))
+    either (eqb o OperatorCodes.add) a-number
+    (either (eqb o OperatorCodes.subtract) a-number
+    (either (eqb o OperatorCodes.multiply) a-number
+    (either (eqb o OperatorCodes.divide) (either (isZero y) no-divisor a-number)
+    (either (eqb o OperatorCodes.less) a-number (either (eqb o OperatorCodes.equal) a-number a-number)))))

@@ -12,10 +12,13 @@ use Rattle.definitions.specs.Ranges.{within}
 use Rattle.definitions.specs.Operators.{computed, isZero}
 use Rattle.definitions.specs.NodeFields.{Clause, chosen}
 use Rattle.definitions.specs.TranslationNodes.{TranslationNode, number, reading, formal, select, operator, conditional, call, tuple, caseOf, translationNodeOf, tagOf, tupleFields}
-use Rattle.definitions.specs.Rule.{Ending, value, ended, integer, constructor, State, Reached, Contexts, reach, withStep, numberDue, constructorDue, nodeDue, selected, evaluated, visited}
+use Rattle.definitions.specs.Rule.{Ending, value, ended, integer, constructor, State, Reached, Contexts, reach, withStep}
+use Rattle.definitions.specs.Rule.{numberDue, constructorDue, nodeDue, selected, evaluated, visited}
 use Rattle.accepted.specs.Mention as Mention
-use Rattle.rule_laws.specs.Visits.{Trace, Visits, NotNumber, constructor-came, ended-before, NotConstructor, number-came, ended-first, number-itself, reading-value, tuple-itself}
-use Rattle.rule_laws.specs.Visits.{select-tag, select-field, select-beyond, select-fails, case-chosen, case-unmatched, case-fails, if-chosen, if-fails, operator-numbers, left-fails, right-fails}
+use Rattle.rule_laws.specs.Derivations.{Trace, Derivation, NotNumber, constructor-came, ended-before, NotConstructor, number-came, ended-first}
+use Rattle.rule_laws.specs.Derivations.{number-itself, reading-value, tuple-itself}
+use Rattle.rule_laws.specs.Derivations.{select-tag, select-field, select-beyond, select-fails, case-chosen, case-unmatched}
+use Rattle.rule_laws.specs.Derivations.{case-fails, if-chosen, if-fails, operator-numbers, left-fails, right-fails}
 use Rattle.rule_laws.specs.Reads.{stateOf, Reads, Shows, an-integer, a-constructor, an-end, Arrives}
 use Rattle.rule_laws.specs.Found.{stopped, Comes, Found, Finding, FindingHooks}
 use Rattle.rule_laws.proofs.Mentions.{branch-mentioned, clause-mentioned}
@@ -38,7 +41,7 @@ module _ {t : List ℕ} {C S : Type 0} (R : Reads t C S) (rs : List ℤ) where
 
   -- a visit of labels that arrives is found
   pub found : {nd : TranslationNode} {k n : ℕ} {ws : List ℕ} {s : State S} {r : Reached C S} {a : Trace} {e : Ending (List ℕ)}
-      → Visits t rs nd k ws a e → Arrives R n s a e r → Found R rs nd k ws n s r
+      → Derivation t rs nd k ws a e → Arrives R n s a e r → Found R rs nd k ws n s r
   found {a} {e} v f = record { ending = e; comes = record { trace = a; visits = v; arrives = f } }
 
   -- where a number or a constructor is due of a node's visit, by what came

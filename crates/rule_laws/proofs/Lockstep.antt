@@ -13,7 +13,7 @@ use Rattle.definitions.specs.TranslationNodes.{TranslationNode, number, reading
 use Rattle.definitions.specs.Rule.{Ending, State, Reached, Visit, Contexts, reach, numberDue, constructorDue, nodeDue, resultOf, selected, evaluated, visited}
 use Rattle.accepted.specs.Mention as Mention
 use Rattle.accepted.specs.Mention.{Mention}
-use Rattle.rule_laws.specs.SideBySide.{SideBySide, Ends, integers, constructors, ends, Both, cut, arrive, Due, neither, each, Beside, Alike, numbers, readings, formals}
+use Rattle.rule_laws.specs.SideBySide.{SideBySide, AlikeEnds, integers, constructors, ends, Both, cut, arrive, Due, neither, each, Beside, Alike, numbers, readings, formals}
 use Rattle.rule_laws.specs.SideBySide.{selects, operators, conditionals, calls, tuples, cases, InStep}
 use Rattle.rule_laws.proofs.Mentions.{clause-mentioned}
 
@@ -26,7 +26,7 @@ module _ {C S D T : Type 0} (B : SideBySide C S D T) where
   both-back l (arrive u g e) = arrive u (onward l g) e
 
   -- an end where both are
-  pub both-here : (w : World) {e : Ending C} {d : Ending D} → Ends B w e d → Both B w (reach e (here w)) (reach d (there w))
+  pub both-here : (w : World) {e : Ending C} {d : Ending D} → AlikeEnds B w e d → Both B w (reach e (here w)) (reach d (there w))
   unfolding reach
   both-here w e = arrive w (stays w) e
 

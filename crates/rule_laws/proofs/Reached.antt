@@ -9,9 +9,11 @@ use Rattle.definitions.specs.Operators.{computed, isZero}
 use Rattle.definitions.specs.TranslationNodes.{TranslationNode, translationNodeOf}
 use Rattle.definitions.specs.Rule.{Ending, value, ended, integer, constructor, State, Reached, Contexts, withStep, numberDue, constructorDue, nodeDue, selected, evaluated, visited}
 use Rattle.accepted.specs.Mention as Mention
-use Rattle.rule_laws.specs.Visits.{Trace, alone, after, afterBoth, afterCall, depthOf, stepsOf, Visits, NotNumber, constructor-came, ended-before, NotConstructor, number-came, ended-first}
-use Rattle.rule_laws.specs.Visits.{number-itself, reading-value, tuple-itself, formal-actual, formal-beyond, formal-outside, call-body, select-tag, select-field, select-beyond, select-fails}
-use Rattle.rule_laws.specs.Visits.{case-chosen, case-unmatched, case-fails, if-chosen, if-fails, operator-numbers, left-fails, right-fails}
+use Rattle.rule_laws.specs.Derivations.{Trace, alone, after, afterBoth, afterCall, depthOf, stepsOf}
+use Rattle.rule_laws.specs.Derivations.{Derivation, NotNumber, constructor-came, ended-before, NotConstructor, number-came, ended-first}
+use Rattle.rule_laws.specs.Derivations.{number-itself, reading-value, tuple-itself, formal-actual, formal-beyond}
+use Rattle.rule_laws.specs.Derivations.{formal-outside, call-body, select-tag, select-field, select-beyond, select-fails}
+use Rattle.rule_laws.specs.Derivations.{case-chosen, case-unmatched, case-fails, if-chosen, if-fails, operator-numbers, left-fails, right-fails}
 use Rattle.rule_laws.specs.Reads.{stateOf, Reads, Shows, an-integer, a-constructor, an-end, Arrives}
 use Rattle.rule_laws.specs.Reached.{Allowed, Reaching, ReachingHooks}
 use Rattle.rule_laws.proofs.Mentions.{branch-mentioned, clause-mentioned}
@@ -54,18 +56,18 @@ module _ {t : List ℕ} {C S : Type 0} (R : Reads t C S) where
     constructor-fails go an-integer number-came f = arrives-ended R f
     constructor-fails go an-end ended-first f = arrives-ended R f
 
-  module _ (rs : List ℤ) (most : ℕ) where
+  module _ (rs : List ℤ) (cellsAllowed : ℕ) where
     -- the room that a node's visit leaves for the visits that it asks for
     module _ {n left : ℕ} {m : S} where
-      allows-one : {a : Trace} → Allowed R most (after a) (suc n) (stateOf (suc left) m) → Allowed R most a n (stateOf left m)
+      allows-one : {a : Trace} → Allowed R cellsAllowed (after a) (suc n) (stateOf (suc left) m) → Allowed R cellsAllowed a n (stateOf left m)
       allows-one p = record { depth = omega (arith, p .depth); steps = omega (arith, p .steps); cells = p .cells }
 
-      allows-first : {a d : Trace} → Allowed R most (afterBoth a d) (suc n) (stateOf (suc left) m) → Allowed R most a n (stateOf left m)
+      allows-first : {a d : Trace} → Allowed R cellsAllowed (afterBoth a d) (suc n) (stateOf (suc left) m) → Allowed R cellsAllowed a n (stateOf left m)
       allows-first p = record { depth = omega (arith, p .depth); steps = omega (arith, p .steps); cells = omega (arith, p .cells) }
 
-      allows-second : {a d : Trace} {e : Ending (List ℕ)} {r : Reached C S} → Allowed R most (afterBoth a d) (suc n) (stateOf (suc left) m)
+      allows-second : {a d : Trace} {e : Ending (List ℕ)} {r : Reached C S} → Allowed R cellsAllowed (afterBoth a d) (suc n) (stateOf (suc left) m)
           → Arrives R n (stateOf left m) a e r
-          → Allowed R most d n (r .state)
+          → Allowed R cellsAllowed d n (r .state)
       allows-second p f =
           record {
             depth = omega (arith, p .depth);
@@ -73,21 +75,21 @@ module _ {t : List ℕ} {C S : Type 0} (R : Reads t C S) where
             cells = omega (arith, p .cells, went-cells (f .went));
           }
 
-    module _ (M : Contexts C S) (hooks : ReachingHooks R rs most M) where
+    module _ (M : Contexts C S) (hooks : ReachingHooks R rs cellsAllowed M) where
       -- a node's evaluation comes to this end wherever there is room
-      record Evaluates (nd : TranslationNode) (k : ℕ) (ws : List ℕ) (a : Trace) (e : Ending (List ℕ)) : Type 0 where
-        pub at : (n left : ℕ) (w : C) (m : S) → At m k w ws → Allowed R most a (suc n) (stateOf (suc left) m)
+      record EvaluatesTo (nd : TranslationNode) (k : ℕ) (ws : List ℕ) (a : Trace) (e : Ending (List ℕ)) : Type 0 where
+        pub at : (n left : ℕ) (w : C) (m : S) → At m k w ws → Allowed R cellsAllowed a (suc n) (stateOf (suc left) m)
             → Arrives R (suc n) (stateOf (suc left) m) a e (evaluated M t rs (visited M t rs n) nd k w (stateOf left m))
 
       evaluating : {nd : TranslationNode} {k : ℕ} {ws : List ℕ} {a : Trace} {e : Ending (List ℕ)}
-          → ((n left : ℕ) (w : C) (m : S) → At m k w ws → Allowed R most a (suc n) (stateOf (suc left) m)
+          → ((n left : ℕ) (w : C) (m : S) → At m k w ws → Allowed R cellsAllowed a (suc n) (stateOf (suc left) m)
           → Arrives R (suc n) (stateOf (suc left) m) a e (evaluated M t rs (visited M t rs n) nd k w (stateOf left m)))
-          → Evaluates nd k ws a e
+          → EvaluatesTo nd k ws a e
       evaluating f = record { at = f }
 
       -- where there is room for a visit its step is counted, and the node is evaluated
-      opened : (n left k : ℕ) (w : C) (m : S) {ws : List ℕ} {a : Trace} {e : Ending (List ℕ)} → Evaluates (translationNodeOf t k) k ws a e
-          → At m k w ws → Allowed R most a n (stateOf left m)
+      opened : (n left k : ℕ) (w : C) (m : S) {ws : List ℕ} {a : Trace} {e : Ending (List ℕ)} → EvaluatesTo (translationNodeOf t k) k ws a e
+          → At m k w ws → Allowed R cellsAllowed a n (stateOf left m)
           → Arrives R n (stateOf left m) a e (visited M t rs n k w (stateOf left m))
       unfolding visited withStep
       opened zero left k w m {a} f s p = absurd (omega (arith, least a .0, p .depth))
@@ -95,13 +97,13 @@ module _ {t : List ℕ} {C S : Type 0} (R : Reads t C S) where
       opened (suc n) (suc left) k w m f s p = f .at n left w m s p
 
       -- so the visit is reached
-      reaching : (n : ℕ) {k : ℕ} {ws : List ℕ} {a : Trace} {e : Ending (List ℕ)} → Evaluates (translationNodeOf t k) k ws a e
-          → Reaching R rs most n (visited M t rs n) k ws a e
+      reaching : (n : ℕ) {k : ℕ} {ws : List ℕ} {a : Trace} {e : Ending (List ℕ)} → EvaluatesTo (translationNodeOf t k) k ws a e
+          → Reaching R rs cellsAllowed n (visited M t rs n) k ws a e
       reaching n {k} f = record { reaches = λ w s a p. opened n (s .left) k w (s .store) f a p }
 
       -- by the rule with which the visit of labels ends
-      evaluates : {nd : TranslationNode} {k : ℕ} {ws : List ℕ} {a : Trace} {e : Ending (List ℕ)} → Visits t rs nd k ws a e → translationNodeOf t k ≡ nd
-          → Evaluates nd k ws a e
+      evaluates : {nd : TranslationNode} {k : ℕ} {ws : List ℕ} {a : Trace} {e : Ending (List ℕ)} → Derivation t rs nd k ws a e → translationNodeOf t k ≡ nd
+          → EvaluatesTo nd k ws a e
       unfolding evaluated selected nodeDue
       evaluates number-itself e = evaluating (λ n l w m s p. arrives-alone R _ s an-integer)
       evaluates reading-value e = evaluating (λ n l w m s p. arrives-alone R _ s an-integer)
@@ -171,6 +173,6 @@ module _ {t : List ℕ} {C S : Type 0} (R : Reads t C S) where
           number-goes _ (f .shows) (arrives-both R f (number-fails _ (g .shows) h g)))
 
       -- a visit of labels is reached
-      pub visits-reached : (n : ℕ) {k : ℕ} {ws : List ℕ} {a : Trace} {e : Ending (List ℕ)} → Visits t rs (translationNodeOf t k) k ws a e
-          → Reaching R rs most n (visited M t rs n) k ws a e
+      pub visits-reached : (n : ℕ) {k : ℕ} {ws : List ℕ} {a : Trace} {e : Ending (List ℕ)} → Derivation t rs (translationNodeOf t k) k ws a e
+          → Reaching R rs cellsAllowed n (visited M t rs n) k ws a e
       visits-reached n v = reaching n (evaluates v refl)

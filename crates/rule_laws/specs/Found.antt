@@ -8,7 +8,7 @@ use lib.IntN.{ℤ}
 use Rattle.definitions.specs.Numbers.{isStop}
 use Rattle.definitions.specs.TranslationNodes.{TranslationNode, formal, call, translationNodeOf}
 use Rattle.definitions.specs.Rule.{Ending, value, ended, State, Reached, Visit, Contexts, visited}
-use Rattle.rule_laws.specs.Visits.{Trace, Visits}
+use Rattle.rule_laws.specs.Derivations.{Trace, Derivation}
 use Rattle.rule_laws.specs.Reads.{stateOf, Reads, Arrives}
 
 -- whether a visit was stopped
@@ -20,7 +20,7 @@ module _ {t : List ℕ} {C S : Type 0} (R : Reads t C S) (rs : List ℤ) where
   -- a visit of labels that comes to an ending, where one of contexts has reached r
   pub record Comes (nd : TranslationNode) (k : ℕ) (ws : List ℕ) (n : ℕ) (s : State S) (r : Reached C S) (e : Ending (List ℕ)) : Type 0 where
     pub trace : Trace
-    pub visits : Visits t rs nd k ws trace e
+    pub visits : Derivation t rs nd k ws trace e
     pub arrives : Arrives R n s trace e r
 
   -- the same with some ending

@@ -34,16 +34,16 @@ pub record Keeps (t : List ℕ) (rs : List ℤ) (C S : Type 0) : Type 1 where
   pub number-tag : {m : S} {k : ℕ} {c : C} → Built m k c → Number (pos (tagOf t k))
   pub number-computed : {x y z : ℤ} (o : ℕ) → Number x → Number y → computed o x y ≡ gives z → Number z
   -- a number that a visit may end with in place of a value
-  pub Ends : ℕ → Type 0
-  pub stop-ends : (n : ℕ) → isStop n ≡ true → Ends n
-  pub fault-ends : (n : ℕ) → isFault n ≡ true → Ends n
+  pub MayEnd : ℕ → Type 0
+  pub stop-ends : (n : ℕ) → isStop n ≡ true → MayEnd n
+  pub fault-ends : (n : ℕ) → isFault n ≡ true → MayEnd n
 
 module _ {t : List ℕ} {rs : List ℤ} {C S : Type 0} (K : Keeps t rs C S) where
   -- an ending that may come out
   pub data Proper (m : S) : Ending C → Type 0 where
     an-integer : {z : ℤ} → K .Number z → Proper m (value (integer z))
     a-constructor : {k : ℕ} {c : C} → K .Built m k c → Proper m (value (constructor k c))
-    an-end : {n : ℕ} → K .Ends n → Proper m (ended n)
+    an-end : {n : ℕ} → K .MayEnd n → Proper m (ended n)
 
   -- what is kept from a state to the end of a visit
   pub record Kept (s : State S) (r : Reached C S) : Type 0 where

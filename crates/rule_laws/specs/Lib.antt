@@ -1,6 +1,6 @@
 pub mod Keeps
 pub mod SideBySide
-pub mod Visits
+pub mod Derivations
 pub mod Reads
 pub mod Found
 pub mod Reached

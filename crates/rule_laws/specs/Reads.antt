@@ -1,5 +1,5 @@
 -- How contexts are read as lists of labels, in a translation file: what a context stands for where a node is visited under it, and
--- what a visit does to a state. The visits of labels are the relation `Visits`.
+-- what a visit does to a state. The visits of labels are the relation `Derivation`.
 use mathlib.Core.Path.{_≡_}
 use Prim.Native.Nat.{ℕ, suc, _+_, _≤_}
 use mathlib.Core.List.{List}
@@ -10,7 +10,7 @@ use lib.ListN.{getElem?}
 use Rattle.definitions.specs.TranslationNodes.{TranslationNode, tuple, translationNodeOf, tupleFields}
 use Rattle.definitions.specs.Rule.{Ending, value, ended, integer, constructor, State, Reached}
 use Rattle.accepted.specs.Mention.{Mention}
-use Rattle.rule_laws.specs.Visits.{Trace, alone, after, afterBoth, stepsOf, cellsOf}
+use Rattle.rule_laws.specs.Derivations.{Trace, alone, after, afterBoth, stepsOf, cellsOf}
 
 -- a state by its parts
 abbrev pub stateOf : {S : Type 0} → ℕ → S → State S

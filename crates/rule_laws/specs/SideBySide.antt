@@ -44,15 +44,15 @@ module _ {C S D T : Type 0} (B : SideBySide C S D T) where
   open SideBySide B using (World, here, there, Leads, Steps, At, Built, AtFormal, AtCall, Nested, Cut)
 
   -- endings that are alike
-  pub data Ends (w : World) : Ending C → Ending D → Type 0 where
-    integers : {z : ℤ} → Ends w (value (integer z)) (value (integer z))
-    constructors : {k m : ℕ} {c : C} {d : D} → Built w k m c d → Ends w (value (constructor k c)) (value (constructor m d))
-    ends : {n : ℕ} → Ends w (ended n) (ended n)
+  pub data AlikeEnds (w : World) : Ending C → Ending D → Type 0 where
+    integers : {z : ℤ} → AlikeEnds w (value (integer z)) (value (integer z))
+    constructors : {k m : ℕ} {c : C} {d : D} → Built w k m c d → AlikeEnds w (value (constructor k c)) (value (constructor m d))
+    ends : {n : ℕ} → AlikeEnds w (ended n) (ended n)
 
   -- one was cut short, or both have come to a world that this one leads to, with endings that are alike
   pub data Both (w : World) : Reached C S → Reached D T → Type 0 where
     cut : {r : Reached C S} {q : Reached D T} → Cut w r q → Both w r q
-    arrive : {e : Ending C} {d : Ending D} (v : World) → Leads w v → Ends v e d
+    arrive : {e : Ending C} {d : Ending D} (v : World) → Leads w v → AlikeEnds v e d
         → Both w (record { ending = e; state = here v }) (record { ending = d; state = there v })
 
   -- both go on to nodes, or neither has one
@@ -79,7 +79,7 @@ module _ {C S D T : Type 0} (B : SideBySide C S D T) where
         → Alike rs qs w k m c d (caseOf n cs) (caseOf n′ cs′)
 
   -- a nesting in which one more visit can be opened
-  pub record Opened (n n′ : ℕ) : Type 0 where
+  pub record OneMoreVisit (n n′ : ℕ) : Type 0 where
     pub rest : ℕ
     pub is : n′ ≡ suc rest
     pub nested : Nested n rest
@@ -96,7 +96,7 @@ module _ {C S D T : Type 0} (B : SideBySide C S D T) where
         → Both w (withStep (here w .left) (here w .store) go) (withStep (there w .left) (there w .store) go′)
     -- one visit more
     pub unopened : (n′ : ℕ) → Nested zero n′ → Beside (visited M t rs zero) (visited N u qs n′)
-    pub opened : (n n′ : ℕ) → Nested (suc n) n′ → Opened n n′
+    pub opened : (n n′ : ℕ) → Nested (suc n) n′ → OneMoreVisit n n′
     -- the two places that look at contexts, from the world before the step is counted
     pub formals-both : (n n′ : ℕ) → Nested n n′ → Beside (visited M t rs n) (visited N u qs n′)
         → (w v : World) {p q : ℕ} {c : C} {d : D} → Steps w v → AtFormal v p q c d

@@ -6,11 +6,15 @@ use native.Mathlib.Omega.{arith}
 use lib.IntN.{ℤ}
 use lib.ListN.{length, getD, set, length-set}
 use lib.Seq.{getD-set-same, getD-set-other}
+use denote.Ref.{RefT}
 use Rattle.definitions.specs.Sizes.{mostNodes, mostNesting}
+use Rattle.definitions.specs.Layouts.{nodes}
 use Rattle.definitions.specs.Rule as Rule
 use Rattle.definitions.specs.Rule.{Reached}
 use Rattle.run.specs.Lent.{Lent}
-use Rattle.run.specs.States.{below, above, stateOf, countedState, visits, evaluates}
+use Rattle.run.specs.NodeTable.{ReadingsIn}
+use Rattle.run.specs.Packed.{stateIn}
+use Rattle.run.specs.States.{below, above, stateOf, reachedOf, countedState, visits, Equipped, Visitable, Visits, Evaluates}
 use Rattle.run.proofs.Steps.{visit-counted}
 
 module _ (counts : List ℕ) (size : length counts ≡ 2) where
@@ -31,34 +35,36 @@ taken-below limits h = omega arith
 taken-above : (limits : ℕ) → (below limits ≡ 0 → ⊥) → above (limits - 1) ≡ above limits
 taken-above limits h = omega arith
 
--- a visit whose step and nesting are taken is its node worked out
-pub visit-taken : (b : List ℕ) (rs : List ℤ) (limits k w left : ℕ) (counts cells : List ℕ) (q : Reached ℕ Lent) → length counts ≡ 2 → left ≡ getD counts 0 0
-    → (left ≡ 0 → ⊥) → (below limits ≡ 0 → ⊥)
-    → q ≡ evaluates b rs (above (limits - 1)) (below (limits - 1)) k w (countedState (set counts 0 (left - 1)) cells)
-    → q ≡ visits b rs (above limits) (below limits) k w (countedState counts cells)
-visit-taken b rs limits k w left counts cells q size e h g f =
-    f ∙ rw (steps-set counts size (left - 1) cells, taken-above limits g, taken-below limits g, e)
-    (visit-counted b rs (above limits) k w (getD counts 1 0) cells (below limits) (getD counts 0 0) (λ z. h (e ∙ z)) g)
+-- a node worked out with its step and nesting taken is its visit
+pub visit-taken : {b tab : List ℕ} {limits at : ℕ} {counts : List ℕ} {cells : RefT (List ℕ)} {x : ℕ} {counts′ : List ℕ} {cells′ : RefT (List ℕ)}
+    → length counts ≡ 2 → (getD counts 0 0 ≡ 0 → ⊥) → (below limits ≡ 0 → ⊥)
+    → Evaluates b tab (limits - 1) at (set counts 0 (getD counts 0 0 - 1)) cells x counts′ cells′
+    → Visits b tab limits at counts cells x counts′ cells′
+visit-taken {b} {limits = limits} {at = at} {counts = counts} {cells = cells} size h g e =
+    record {
+      same = λ rs held. e .same rs held
+          ∙ rw (steps-set counts size (getD counts 0 0 - 1) (cells .now), taken-above limits g, taken-below limits g)
+          (visit-counted b rs (above limits) (below at) (above at) (cells .now) (below limits) (getD counts 0 0) (getD counts 1 0) h g);
+      size = e .size;
+      stays = e .stays;
+    }
 
--- a visit of a node under a context, by the number that holds both
-pub visits-at : (b : List ℕ) (rs : List ℤ) (most n p k w : ℕ) (s : Rule.State Lent) (q : Reached ℕ Lent) → (below p ≡ k) × (above p ≡ w)
-    → q ≡ visits b rs most n (below p) (above p) s → q ≡ visits b rs most n k w s
-visits-at b rs most n p k w s q e f = rw (e .0, e .1) at f
+-- the visit of node k under context w, by the number p that holds both: that it may be made, and what it gives
+module _ {b tab : List ℕ} {p k w : ℕ} {counts : List ℕ} (at : (below p ≡ k) × (above p ≡ w)) where
+  pub visitable-at : Equipped b tab → length counts ≡ 2 → k < nodes b → Visitable b tab p counts
+  visitable-at q size h = record { equipped = q; there = rw (at .0) h; size = size }
 
-pub below-at : (b p k : ℕ) {w : ℕ} → (below p ≡ k) × (above p ≡ w) → k < b → below p < b
-below-at b p k e h = rw (e .0) h
-
--- the state of a call once its cell is counted
-pub cell-made : (b : List ℕ) (rs : List ℤ) (most n k w v : ℕ) (counts cells : List ℕ) → length counts ≡ 2
-    → visits b rs most n k w (countedState (set counts 1 v) cells) ≡ visits b rs most n k w (stateOf (getD counts 0 0) v cells)
-cell-made b rs most n k w v counts cells size = rw (cells-set counts size v cells) refl
+  pub visits-at : {limits x : ℕ} {cells : RefT (List ℕ)} {counts′ : List ℕ} {cells′ : RefT (List ℕ)}
+      → Visits b tab limits p counts cells x counts′ cells′ → (rs : List ℤ) → ReadingsIn b rs tab
+      → reachedOf (stateIn x counts′) (cells′ .now) ≡ visits b rs (above limits) (below limits) k w (countedState counts (cells .now))
+  visits-at v rs h = rw (at .0, at .1) at (v .same rs h)
 
 -- the first visit of a run: its limits, function 0's body under the empty context
-limits-below : (nesting most : ℕ) → nesting < 65536 → below (nesting + 65536 * most) ≡ nesting
-limits-below nesting most h = omega arith
+limits-below : (nesting cellsAllowed : ℕ) → nesting < 65536 → below (nesting + 65536 * cellsAllowed) ≡ nesting
+limits-below nesting cellsAllowed h = omega arith
 
-limits-above : (nesting most : ℕ) → nesting < 65536 → above (nesting + 65536 * most) ≡ most
-limits-above nesting most h = omega arith
+limits-above : (nesting cellsAllowed : ℕ) → nesting < 65536 → above (nesting + 65536 * cellsAllowed) ≡ cellsAllowed
+limits-above nesting cellsAllowed h = omega arith
 
 first-at : (first : ℕ) → first < 65536 → (below first ≡ first) × (above first ≡ 0)
 first-at first h = (omega arith, omega arith)
@@ -66,8 +72,8 @@ first-at first h = (omega arith, omega arith)
 pub first-there : (n first : ℕ) → n ≤ mostNodes → first < n → below first < n
 first-there n first l h = rw (first-at first (omega arith) .0) h
 
-pub first-visit : (b : List ℕ) (rs : List ℤ) (nesting most n first : ℕ) (s : Rule.State Lent) (q : Reached ℕ Lent) → nesting ≤ mostNesting → n ≤ mostNodes → first < n
-    → q ≡ visits b rs (above (nesting + 65536 * most)) (below (nesting + 65536 * most)) (below first) (above first) s → q ≡ visits b rs most nesting first 0 s
-first-visit b rs nesting most n first s q l m h f =
+pub first-visit : (b : List ℕ) (rs : List ℤ) (nesting cellsAllowed n first : ℕ) (s : Rule.State Lent) (q : Reached ℕ Lent) → nesting ≤ mostNesting → n ≤ mostNodes → first < n
+    → q ≡ visits b rs (above (nesting + 65536 * cellsAllowed)) (below (nesting + 65536 * cellsAllowed)) (below first) (above first) s → q ≡ visits b rs cellsAllowed nesting first 0 s
+first-visit b rs nesting cellsAllowed n first s q l m h f =
     let e = first-at first (omega arith) in
-    f ∙ rw (limits-above nesting most (omega arith), limits-below nesting most (omega arith), e .0, e .1) refl
+    f ∙ rw (limits-above nesting cellsAllowed (omega arith), limits-below nesting cellsAllowed (omega arith), e .0, e .1) refl

@@ -150,10 +150,10 @@ module _ (b rec : List ℕ) (k kind x first : ℕ) (er : rec ≡ nodeRecord b k)
 module _ (b index ends rec : List ℕ) (k kind : ℕ) (ready : Ready b index ends) (h : k < nodes b) (er : rec ≡ nodeRecord b k) (e : kind ≡ kindOf rec) where
   pub formal-record : (first y f : ℕ) → kind ≡ kinds.formal → first ≡ field rec 0 → y ≡ first → f ≡ 1 + functions b → f + y < due b
   formal-record first y f n ef ey eg =
-      let l = formal-below b (ready .accepted) k h (is-formal b rec k (node-is b rec k kind kinds.formal h er e n)) in omega arith
+      let l = formal-below b (ready .accepted) k h (is-formal (node-is h er e n)) in omega arith
 
   pub function-there : (f : ℕ) → kind ≡ kinds.call → f ≡ field rec 1 → f < functions b
-  function-there f n ef = rw ef (translation-call-below b (ready .accepted) k h (is-call b rec k (node-is b rec k kind kinds.call h er e n)))
+  function-there f n ef = rw ef (translation-call-below b (ready .accepted) k h (is-call (node-is h er e n)))
 
 -- where the record of a formal and of a node stands
 pub formal-place : (b : List ℕ) (first y f : ℕ) → y ≡ first → f ≡ 1 + functions b → f + y ≡ 1 + functions b + first
@@ -169,14 +169,14 @@ pub opens : (b index ends : List ℕ) → Ready b index ends → Opened Translat
 opens b index ends ready = record { accepted = translation-shape b (ready .accepted); index = ready .index }
 
 -- the first k entries are right
-pub record Filling (b tab : List ℕ) (count k : ℕ) : Type 0 where
+pub record FillingEntries (b tab : List ℕ) (count k : ℕ) : Type 0 where
   pub reached : k ≤ count
   pub counted : count ≡ nodes b
   pub room : count ≤ mostNodes
   pub size : length tab ≡ tableEntries
   pub entry : (i : ℕ) → i < k → EntryOf b i (getD tab i 0)
 
-pub filling-begins : (b index ends tab : List ℕ) (count : ℕ) → Ready b index ends → count ≡ nodes b → length tab ≡ tableEntries → Filling b tab count 0
+pub filling-begins : (b index ends tab : List ℕ) (count : ℕ) → Ready b index ends → count ≡ nodes b → length tab ≡ tableEntries → FillingEntries b tab count 0
 filling-begins b index ends tab count ready e s =
     record {
       reached = omega arith;
@@ -186,14 +186,14 @@ filling-begins b index ends tab count ready e s =
       entry = λ i h. absurd (not-suc-le-zero h);
     }
 
-module _ (b tab : List ℕ) (count k : ℕ) (w : Filling b tab count k) where
+module _ (b tab : List ℕ) (count k : ℕ) (w : FillingEntries b tab count k) where
   pub filling-below : k < count → k < nodes b
   filling-below h = let c = w .counted in omega arith
 
   pub filling-room : (x : ℕ) → k < count → x ≡ k → x < tableEntries
   filling-room x h e = let c = w .room in omega arith
 
-  pub filling-goes-on : (y x : ℕ) → k < count → y ≡ k → EntryOf b k x → Filling b (set tab y x) count (k + 1)
+  pub filling-goes-on : (y x : ℕ) → k < count → y ≡ k → EntryOf b k x → FillingEntries b (set tab y x) count (k + 1)
   filling-goes-on y x h e g =
       rw e (record {
         reached = omega arith;

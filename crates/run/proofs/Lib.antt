@@ -10,9 +10,13 @@ pub mod Endings
 pub mod NodeKinds
 pub mod Steps
 pub mod Counting
+pub mod Nodes
+pub mod Remains
+pub mod Operands
+pub mod Visiting
+pub mod SimpleSteps
 pub mod NumberSteps
 pub mod ConstructorSteps
-pub mod Nodes
 pub mod Answering
 pub mod Entries
 pub mod ReadingEntries

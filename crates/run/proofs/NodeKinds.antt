@@ -18,7 +18,7 @@ use Rattle.accepted.proofs.Sections.{node-kind}
 use Rattle.run.specs.States.{NodeIs}
 
 -- the node of a kind
-module _ (b rec : List ℕ) (k : ℕ) where
+module _ {b rec : List ℕ} {k : ℕ} where
   pub is-number : NodeIs b rec k kinds.number → translationNodeOf b k ≡ number (signed rec 4)
   unfolding translationNodeOf translationNode
   is-number h = rw (← h .is, h .of) refl
@@ -56,8 +56,8 @@ module _ (b rec : List ℕ) (k : ℕ) where
   is-case h = rw (← h .is, h .of) refl
 
 -- a node's record, with the kind that was read
-pub node-is : (b rec : List ℕ) (k kind n : ℕ) → k < nodes b → rec ≡ nodeRecord b k → kind ≡ kindOf rec → kind ≡ n → NodeIs b rec k n
-node-is b rec k kind n h e f g = record { below = h; is = e; of = sym f ∙ g }
+pub node-is : {b rec : List ℕ} {k kind n : ℕ} → k < nodes b → rec ≡ nodeRecord b k → kind ≡ kindOf rec → kind ≡ n → NodeIs b rec k n
+node-is h e f g = record { below = h; is = e; of = sym f ∙ g }
 
 past : (k n : ℕ) → n ≤ k → (k ≡ n → ⊥) → suc n ≤ k
 past k n h e = omega arith
@@ -70,10 +70,10 @@ last-of k l g n0 n1 n2 n3 n4 n5 n6 n7 =
     k kinds.number l n0) n1) n2) n3) n4) n5) n6) n7)
 
 -- the last kind, where the record has none of the others
-pub node-last : (b rec : List ℕ) (k kind : ℕ) → translationVerdict b ≡ Accepted → k < nodes b → rec ≡ nodeRecord b k → kind ≡ kindOf rec
-    → (kind ≡ kinds.number → ⊥) → (kind ≡ kinds.reading → ⊥) → (kind ≡ kinds.formal → ⊥) → (kind ≡ kinds.select → ⊥) → (kind ≡
-    kinds.operator → ⊥) → (kind ≡ kinds.conditional → ⊥) → (kind ≡ kinds.call → ⊥) → (kind ≡ kinds.tuple → ⊥)
+pub node-last : {b rec : List ℕ} {k kind : ℕ} → translationVerdict b ≡ Accepted → k < nodes b → rec ≡ nodeRecord b k → kind ≡ kindOf rec
+    → (kind ≡ kinds.number → ⊥) → (kind ≡ kinds.reading → ⊥) → (kind ≡ kinds.formal → ⊥) → (kind ≡ kinds.select → ⊥)
+    → (kind ≡ kinds.operator → ⊥) → (kind ≡ kinds.conditional → ⊥) → (kind ≡ kinds.call → ⊥) → (kind ≡ kinds.tuple → ⊥)
     → NodeIs b rec k kinds.caseOf
-node-last b rec k kind accepted h e f n0 n1 n2 n3 n4 n5 n6 n7 =
+node-last {b} {rec} {k} {kind} accepted h e f n0 n1 n2 n3 n4 n5 n6 n7 =
     let l = node-kind Translation b (translation-shape b accepted) k h in
-    node-is b rec k kind kinds.caseOf h e f (last-of kind (rw (f, e) (l .least)) (rw (f, e) (l .greatest)) n0 n1 n2 n3 n4 n5 n6 n7)
+    node-is h e f (last-of kind (rw (f, e) (l .least)) (rw (f, e) (l .greatest)) n0 n1 n2 n3 n4 n5 n6 n7)

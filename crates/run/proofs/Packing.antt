@@ -16,7 +16,7 @@ use Rattle.run.specs.declared.state.Outcome.the-variants as outcomes
 use Rattle.run.specs.declared.state.State.{State}
 use Rattle.run.specs.Lent.{Lent}
 use Rattle.run.specs.NodeTable.{Parts}
-use Rattle.run.specs.States.{endingOf, stateOf, reachedOf, Leaves, visits}
+use Rattle.run.specs.States.{endingOf, reachedOf, Leaves}
 use Rattle.run.specs.Packed.{either, outcomeIn}
 use Rattle.run.proofs.Entries.{split, halves, bits-back}
 
@@ -63,22 +63,18 @@ pub value-packed : (o : Outcome) (v : Value) (x : ℕ) → o ≡ outcomes.Value 
 value-packed o v x eo e = e ∙ sym eo
 
 -- the state of a visit that returned a number, by the counts that it left
-pub leaves-in : (o : Outcome) (x : ℕ) (e : Ending ℕ) (left made : ℕ) → outcomeIn x ≡ o → endingOf o ≡ e
+pub leaves-in : {o : Outcome} {e : Ending ℕ} {left made : ℕ} (x : ℕ) → outcomeIn x ≡ o → endingOf o ≡ e
     → Leaves (record { outcome = outcomeIn x; left = left; made = made }) e left made
-leaves-in o x e left made f l = record { ending = ap endingOf f ∙ l; steps = refl; cells = refl }
+leaves-in x f l = record { ending = ap endingOf f ∙ l; steps = refl; cells = refl }
 
-pub told-in : (x : ℕ) (o u : Outcome) → o ≡ outcomeIn x → o ≡ u → outcomeIn x ≡ u
-told-in x o u e f = sym e ∙ f
+-- an outcome by the state that was opened
+pub opens : {o p q : Outcome} → o ≡ p → o ≡ q → p ≡ q
+opens e f = sym e ∙ f
+
+pub opens-value : {o p : Outcome} {v w : Value} → o ≡ p → o ≡ outcomes.Value v → v ≡ w → p ≡ outcomes.Value w
+opens-value e f g = sym e ∙ f ∙ ap outcomes.Value g
 
 pub reached-opened : (s : State) (x l m : ℕ) (after : List ℕ) (q : Reached ℕ Lent) → (s .outcome ≡ outcomeIn x) × (s .left ≡ l) × (s .made ≡ m)
     → reachedOf (record { outcome = outcomeIn x; left = l; made = m }) after ≡ q → reachedOf s after ≡ q
 unfolding reachedOf
 reached-opened s x l m after q e g = rw (e .0, e .1, e .2) g
-
--- cells that were read stay as they were
-pub unchanged : (s : State) (cells before : List ℕ) (q : Reached ℕ Lent) → cells ≡ before → reachedOf s before ≡ q → reachedOf s cells ≡ q
-unchanged s cells before q e g = rw e g
-
-pub visits-unchanged : (b : List ℕ) (rs : List ℤ) (most n k w left made : ℕ) (cells before : List ℕ) (q : Reached ℕ Lent) → cells ≡ before
-    → q ≡ visits b rs most n k w (stateOf left made cells) → q ≡ visits b rs most n k w (stateOf left made before)
-visits-unchanged b rs most n k w left made cells before q e g = rw e at g

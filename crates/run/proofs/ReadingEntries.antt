@@ -24,18 +24,18 @@ use Rattle.run.specs.States.{Equipped}
 use Rattle.run.proofs.Entries.{bits-back}
 
 -- the first i readings are set
-pub record Setting (tab : List ℕ) (rs : List ℤ) (tab′ : List ℕ) (i : ℕ) : Type 0 where
+pub record SettingReadings (tab : List ℕ) (rs : List ℤ) (tab′ : List ℕ) (i : ℕ) : Type 0 where
   pub reached : i ≤ length rs
   pub narrow : length rs ≤ mostReadings
   pub room : length tab′ ≡ tableEntries
   pub kept : (k : ℕ) → k < mostNodes → getD tab′ k 0 ≡ getD tab k 0
   pub set : (j : ℕ) → j < i → readingIn tab′ j ≡ getD rs j (pos 0)
 
-pub setting-begins : (tab : List ℕ) (rs : List ℤ) → length tab ≡ tableEntries → length rs ≤ mostReadings → Setting tab rs tab 0
+pub setting-begins : (tab : List ℕ) (rs : List ℤ) → length tab ≡ tableEntries → length rs ≤ mostReadings → SettingReadings tab rs tab 0
 setting-begins tab rs e h =
     record { reached = omega arith; narrow = h; room = e; kept = λ k l. refl; set = λ j l. absurd (not-suc-le-zero l) }
 
-module _ (tab : List ℕ) (rs : List ℤ) (tab′ : List ℕ) (i : ℕ) (w : Setting tab rs tab′ i) where
+module _ (tab : List ℕ) (rs : List ℤ) (tab′ : List ℕ) (i : ℕ) (w : SettingReadings tab rs tab′ i) where
   pub setting-room : i < length rs → mostNodes + i < tableEntries
   setting-room h = let n = w .narrow in omega arith
 
@@ -49,7 +49,7 @@ module _ (tab : List ℕ) (rs : List ℤ) (tab′ : List ℕ) (i : ℕ) (w : Set
       rw s (ap (toZ w32) (mod-eq-of-lt l ∙ ex ∙ ap (residue w32) ey) ∙ bits-back z f ∙ ez)
 
   pub setting-goes-on : (x : ℕ) (y z : ℤ) → i < length rs → SFits w32 z → y ≡ z → z ≡ getD rs i (pos 0) → x ≡ residue w32 y → x < 4294967296
-      → Setting tab rs (set tab′ (mostNodes + i) x) (i + 1)
+      → SettingReadings tab rs (set tab′ (mostNodes + i) x) (i + 1)
   setting-goes-on x y z h f ey ez ex l =
       record {
         reached = omega arith;

@@ -22,15 +22,15 @@ use crate::state::LEFT;
 use crate::state::MADE;
 use crate::visit::visit;
 use allowances::allowed;
-use cells::answer::Answer;
-use cells::answer::refused;
+use answer::Answer;
+use answer::refused;
 use definitions::Verdict;
 use definitions::numbers;
 use definitions::sizes::MOST_FUNCTIONS;
 use definitions::sizes::MOST_RECORDS;
 use file_layout::layout;
-use file_records::records::wide;
 use format::translation::fill_translation;
+use widths::wide;
 
 // Reads a translation into a lent table. Of a refused file only the verdict counts.
 fn read_file(file: &[u8], table: &mut Table) -> Verdict
@@ -54,21 +54,21 @@ fn run_table(
     readings: &[i32],
     steps: u32,
     nesting: u32,
-    most: u32,
+    cells_allowed: u32,
     cells: &mut &mut [u8],
 ) -> Answer
     requires { ⌜ Readable (now file) (now table) ⌝ }
-    ensures { λ r. ⌜ Runs (now (file .entry)) (now (readings .entry)) steps nesting most (now (now (cells .entry))) r (now (now (cells .exit)))
+    ensures { λ r. ⌜ Runs (now (file .entry)) (now (readings .entry)) steps nesting «cells_allowed» (now (now (cells .entry))) r (now (now (cells .exit)))
         × (now (cells .exit) .ptr ≡ now (cells .entry) .ptr) ⌝ }
 {
     if readings.len() != wide(layout::readings(file)) {
         return refused(numbers::BAD_READINGS, 0);
     }
-    if !allowed(nesting, most, cells.len()) {
+    if !allowed(nesting, cells_allowed, cells.len()) {
         return refused(numbers::BAD_ALLOWANCE, 0);
     }
     set_readings(table, readings);
-    let limits = nesting + 0x1_0000 * most;
+    let limits = nesting + 0x1_0000 * cells_allowed;
     let first = first_body(file) as u32;
     let mut counts = [steps, 0u32];
     let x = visit(&file, table, cells, &mut counts, limits, first);
@@ -83,16 +83,24 @@ pub fn run(
     readings: &[i32],
     steps: u32,
     nesting: u32,
-    most: u32,
+    cells_allowed: u32,
     cells: &mut &mut [u8],
 ) -> Answer
-    ensures { λ r. ⌜ Runs (now (file .entry)) (now (readings .entry)) steps nesting most (now (now (cells .entry))) r (now (now (cells .exit)))
+    ensures { λ r. ⌜ Runs (now (file .entry)) (now (readings .entry)) steps nesting «cells_allowed» (now (now (cells .entry))) r (now (now (cells .exit)))
         × (now (cells .exit) .ptr ≡ now (cells .entry) .ptr) ⌝ }
 {
     let mut table = [0u64; TABLE_ENTRIES];
     let verdict = read_file(file, &mut table);
     match verdict {
         Verdict::Refused { number, place } => refused(number, place),
-        Verdict::Accepted => run_table(file, &mut table, readings, steps, nesting, most, cells),
+        Verdict::Accepted => run_table(
+            file,
+            &mut table,
+            readings,
+            steps,
+            nesting,
+            cells_allowed,
+            cells,
+        ),
     }
 }

@@ -26,7 +26,7 @@ use file_layout::layout::first_node;
 use file_records::records::field;
 use file_records::records::indexed;
 use file_records::records::record;
-use file_records::records::wide;
+use widths::wide;
 
 // A node that was looked up, or none.
 pub enum Found {

@@ -16,18 +16,18 @@ use definitions::sizes::Ends;
 use definitions::sizes::MOST_NODES;
 use definitions::sizes::MOST_READINGS;
 use definitions::sizes::Starts;
+use definitions::translation_kinds;
 use file_layout::layout::first_item;
 use file_layout::layout::first_node;
 use file_layout::layout::nodes;
-use file_layout::translation_kinds;
 use file_records::records::field;
 use file_records::records::field_count;
 use file_records::records::indexed;
 use file_records::records::kind;
 use file_records::records::start_in;
-use file_records::records::wide;
 use operators::bits::bits_of;
 use operators::bits::number_of;
+use widths::wide;
 
 pub(crate) const TABLE_ENTRIES: usize = MOST_NODES + MOST_READINGS;
 

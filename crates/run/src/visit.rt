@@ -32,9 +32,9 @@ use crate::state::tag;
 use cells::cell::add_cell;
 use cells::cell::pair_of;
 use definitions::numbers;
-use file_layout::translation_kinds;
-use file_records::records::wide32;
+use definitions::translation_kinds;
 use operators::compute;
+use widths::wide32;
 
 // Visits a node under a context: the two stops, the step counted, and the node by its kind.
 pub(crate) fn visit(

@@ -15,9 +15,9 @@ use Rattle.definitions.specs.Run.{Answer, runAnswer, runCells}
 use Rattle.definitions.specs.declared.Layout.the-variants.{Sheet}
 use Rattle.definitions.specs.declared.Verdict.{Verdict}
 use Rattle.definitions.specs.declared.Verdict.the-variants.{Accepted}
-use Rattle.meaning.specs.Evaluator.{ownWithin}
-use Rattle.meaning.proofs.Own.{own-sound, no-own}
-use Rattle.meaning.proofs.SelfCall.{self-call-endless}
+use Rattle.evaluator.specs.Evaluator.{ownWithin}
+use Rattle.evaluator.proofs.Own.{own-sound, no-own}
+use Rattle.evaluator.proofs.SelfCall.{self-call-endless}
 use Rattle.sheets.specs.Sheets.{loop}
 use Rattle.sheets.specs.Trial.{Trial, Own, Holds}
 use Rattle.sheets.proofs.Opened.{opened}

@@ -19,7 +19,7 @@ use Rattle.definitions.specs.TranslationNodes
 use Rattle.definitions.specs.Rule
 use Rattle.definitions.specs.Cells
 use Rattle.definitions.specs.Run
-use Rattle.meaning.specs.Evaluator
+use Rattle.evaluator.specs.Evaluator
 use Rattle.sheets.specs.Sheets
 use Rattle.sheets.specs.Starred
 
@@ -54,12 +54,12 @@ unfolding
     Rule.evaluated Rule.visited
     Cells.cellOf Cells.underTail Cells.formalByCells Cells.withCell Cells.whereCell Cells.callByCells Cells.byCells
     Cells.evaluation Cells.cellWords Cells.cellBytes
-    Run.endingOutcome Run.endingNode Run.endingContext Run.answerOf Run.ruleEnd Run.ruleAnswer Run.ruleCells
+    Run.endingOutcome Run.endingNode Run.endingContext Run.reachedAnswer Run.ruleEnd Run.ruleAnswer Run.ruleCells
     Run.refusal Run.runVerdict Run.answerAfter Run.runAnswer Run.cellsOver Run.bytesAfter Run.runCells
     Evaluator.numberDue Evaluator.constructorDue Evaluator.clauseDue Evaluator.closureDue Evaluator.endBy
     Evaluator.endWithin Evaluator.ownWithin
     Sheets.S Sheets.unusedDivision Sheets.divisionByZero Sheets.headOfOnes Sheets.negativeDivision Sheets.overflow
     Sheets.loop Sheets.nestedCalls Sheets.boxes Sheets.callerArgument Sheets.builtField Sheets.bytesOfS
     Sheets.translationOfS
-    Starred.answering Starred.trialWith Starred.trial Starred.starred
+    Starred.answering Starred.trialWith Starred.trial Starred.starred Starred.further
 opened = tt

@@ -2,10 +2,10 @@
 use mathlib.Core.Path.{_≡_, refl}
 use mathlib.Core.List.{map}
 use Rattle.definitions.specs.Checks.{sheetVerdict}
-use Rattle.sheets.specs.Orders.{Order, orders}
+use Rattle.sheets.specs.Orders.{ReaderTrial, orders}
 use Rattle.sheets.proofs.Opened.{opened}
 
 -- the reader's verdict on each file is the one that the order picks
-pub orders-hold : map (λ (o : Order). sheetVerdict (o .sheet)) orders ≡ map (λ (o : Order). o .verdict) orders
+pub orders-hold : map (λ (o : ReaderTrial). sheetVerdict (o .sheet)) orders ≡ map (λ (o : ReaderTrial). o .verdict) orders
 unfolding opened orders
 orders-hold = refl

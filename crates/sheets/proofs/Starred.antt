@@ -1,7 +1,8 @@
--- The starred sheets of document 01 hold of the definitions: one statement over the list, by one computation.
+-- The starred sheets of document 01 hold of the definitions: one statement over the list, by one computation. So do the
+-- further trials.
 use mathlib.Core.Path.{_≡_, refl}
 use mathlib.Core.List.{map}
-use Rattle.sheets.specs.Starred.{starred, Starred}
+use Rattle.sheets.specs.Starred.{starred, further, Starred, Further}
 use Rattle.sheets.proofs.Opened.{opened}
 use Rattle.sheets.proofs.Observed.{observed, expected, endless, all-hold}
 
@@ -22,3 +23,11 @@ starred-hold =
       translatedCount = refl;
       formal = refl;
     }
+
+-- and so for the further trials
+further-agree : map observed further ≡ map expected further
+unfolding opened observed expected endless
+further-agree = refl
+
+pub further-hold : Further
+further-hold = record { hold = all-hold further further-agree }

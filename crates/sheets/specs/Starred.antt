@@ -1,4 +1,5 @@
--- The starred lines of document 01, "Sheets to try", as a list of trials, and the statement over the list.
+-- The starred lines of document 01, "Sheets to try", as a list of trials, and the statement over the list; then further trials,
+-- under the same statement.
 use mathlib.Core.Path.{_≡_}
 use Prim.Native.Nat.{ℕ, suc, _*_}
 use mathlib.Core.List.{List, [], _∷_, List·Memᴰ}
@@ -39,7 +40,7 @@ trialWith readings sheet steps nesting cells answer made own =
 unfoldable pub trial : List ℕ → ℕ → ℕ → ℕ → Answer → List ℕ → Option Outcome → Trial
 trial = trialWith []
 
--- the starred lines in the document's order, with its words above each; the last seven are more than it asks for
+-- the starred lines in the document's order, with its words above each
 unfoldable pub starred : List Trial
 starred =
     -- S: 10, 13 steps, 2 cells
@@ -75,8 +76,13 @@ starred =
     -- loop with 3 steps, nesting 9, 9 cells: 11
     ∷ trial loop 3 9 9
     (answering (endOutcome noStep) 3 3) (0 ∷ 0 ∷ 0 ∷ 0 ∷ 1 ∷ 0 ∷ 1 ∷ 0 ∷ 1 ∷ 0 ∷ 2 ∷ 0 ∷ []) none
+    ∷ []
+
+-- trials that it does not ask for
+unfoldable pub further : List Trial
+further =
     -- loop with nesting 1: 12 after 1 step, 1 cell
-    ∷ trial loop 3 1 9
+    trial loop 3 1 9
     (answering (endOutcome noNesting) 1 1) (0 ∷ 0 ∷ 0 ∷ 0 ∷ []) none
     -- f(h(2), 7): -12
     ∷ trial nestedCalls 1000 100 100
@@ -110,3 +116,6 @@ pub record Starred : Type 0 where
   pub translated : translation S ≡ translationOfS
   pub translatedCount : length (translation S) ≡ 96
   pub formal : fieldsFrom (itemRecord Translation (translation S) 0) 0 ≡ 0 ∷ 2 ∷ []
+
+pub record Further : Type 0 where
+  pub hold : (t : Trial) → List·Memᴰ t further → Holds t

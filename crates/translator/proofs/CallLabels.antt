@@ -56,13 +56,13 @@ pub record CallOf (b : List ℕ) (f k : ℕ) : Type 0 where
   pub few : functions b ≤ mostFunctions
 
 -- so says its record, or it is no call
-module _ (b starts : List ℕ) (k first kind : ℕ) (rec : List ℕ) (w : AcceptedSheet b starts) (h : k < nodes b)
+module _ {b starts : List ℕ} {k first kind : ℕ} {rec : List ℕ} (w : AcceptedSheet b starts) (h : k < nodes b)
     (p : first ≡ firstNode b) (q : rec ≡ recordAt b (startIn starts (first + k))) (e : kind ≡ kindOf rec) where
   there : rec ≡ nodeRecord b k
   there = node-reached b starts k first rec (w .file) h p q
 
-  pub call-read : (x f : ℕ) → kind ≡ SheetKinds.call → x ≡ field rec 0 → f ≡ x → CallOf b f k
-  call-read x f g y z =
+  pub call-read : {x f : ℕ} → kind ≡ SheetKinds.call → x ≡ field rec 0 → f ≡ x → CallOf b f k
+  call-read {f} g y z =
       let t = calls-named b k kind f (e ∙ rw there refl) g (z ∙ y ∙ rw there refl) in
       record {
         below = h;
@@ -76,7 +76,7 @@ module _ (b starts : List ℕ) (k first kind : ℕ) (rec : List ℕ) (w : Accept
   none-read = calls-none b k kind (e ∙ rw there refl)
 
 -- node k is a call of function f: it is labelled and counted
-module _ (b labels counts : List ℕ) (f k : ℕ) (w : Labels b labels k) (c : Counts b counts k) (o : CallOf b f k) where
+module _ {b labels counts : List ℕ} {f k : ℕ} (w : Labels b labels k) (c : Counts b counts k) (o : CallOf b f k) where
   abbrev x : ℕ
   x = getD counts f 0
 

@@ -24,7 +24,7 @@ use Rattle.accepted.proofs.Head.{nodes-limit}
 use Rattle.readback.proofs.Joined.{picked-tabled}
 use Rattle.readback.proofs.Totals.{count-weighed}
 use Rattle.readback.proofs.Size.{no-arguments, call-arguments}
-use Rattle.translator.specs.Tables.{Counts, callCount, firstCall, Order, Placing}
+use Rattle.translator.specs.Tables.{Counts, callCount, firstCall, CallOrder, Placing}
 use Rattle.translator.proofs.CallLabels.{calls-same, CallOf}
 
 -- the calls are no more than the nodes
@@ -47,13 +47,13 @@ module _ (b : List ℕ) where
   place-within f j h l = omega (arith, sum-term f (functions b) (callCount b) h, all-calls, l)
 
   -- the calls of function f, and those before them, while they are summed
-  module _ (counts : List ℕ) (w : Counts b counts (nodes b)) (shaped : fileShape Sheet b ≡ Accepted) (count f : ℕ) (h : f < count)
+  module _ {counts : List ℕ} (w : Counts b counts (nodes b)) (shaped : fileShape Sheet b ≡ Accepted) {count f : ℕ} (h : f < count)
       (e : count ≡ functions b) where
     pub count-is : getD counts f 0 ≡ callCount b f
     count-is = w .entry f (omega (arith, h, e))
 
-    pub total-few : (total : ℕ) → total ≡ firstCall b f → total + getD counts f 0 ≤ mostNodes
-    total-few total s =
+    pub total-few : {total : ℕ} → total ≡ firstCall b f → total + getD counts f 0 ≤ mostNodes
+    total-few s =
         omega (arith, s, count-is, sum-term f (functions b) (callCount b) (omega (arith, h, e)), all-calls, nodes-limit Sheet b shaped)
 
   label-within : (f k : ℕ) → k < nodes b → calls b f k ≡ true → labelOf b f k < callCount b f
@@ -82,7 +82,7 @@ module _ (b : List ℕ) where
       ]
 
   -- node k, a call of function f, is put in its place
-  module _ (order : List ℕ) (f k x : ℕ) (w : Order b order k) (o : CallOf b f k) (e : x ≡ place f k) where
+  module _ {order : List ℕ} {f k x : ℕ} (w : CallOrder b order k) (o : CallOf b f k) (e : x ≡ place f k) where
     pub place-narrow : x < nodes b
     place-narrow = omega (arith, e, place-within f (labelOf b f k) (o .function) (label-within f k (o .below) (o .test)))
 
@@ -95,7 +95,7 @@ module _ (b : List ℕ) where
         let r : place g k ≡ x = ap (λ (n : ℕ). place n k) (calls-same b g f k q (o .test)) ∙ sym e in
         rw r (getD-set-same order x k 0 (omega (arith, w .size, l, place-narrow)))
 
-    pub call-ordered : nodes b ≤ mostNodes → Order b (set order x k) (k + 1)
+    pub call-ordered : nodes b ≤ mostNodes → CallOrder b (set order x k) (k + 1)
     call-ordered l =
         record {
           size = length-set order x k ∙ w .size;
@@ -105,7 +105,7 @@ module _ (b : List ℕ) where
         }
 
   -- a node that is no call leaves the table
-  pub other-ordered : (order : List ℕ) (k : ℕ) → ((f : ℕ) → calls b f k ≡ false) → Order b order k → Order b order (k + 1)
+  pub other-ordered : (order : List ℕ) (k : ℕ) → ((f : ℕ) → calls b f k ≡ false) → CallOrder b order k → CallOrder b order (k + 1)
   other-ordered order k p w =
       record {
         size = w .size;
@@ -114,19 +114,19 @@ module _ (b : List ℕ) where
             (λ q. absurd (true≢false (sym q ∙ p f))) i (omega (arith, n));
       }
 
-  pub order-all : (order : List ℕ) (k n : ℕ) → n ≡ nodes b → k ≤ n → n ≤ k → Order b order k → Order b order (nodes b)
-  order-all order k n e h l w = let q : k ≡ nodes b = omega (arith, e, h, l) in rw q at w
+  pub order-all : {order : List ℕ} {k n : ℕ} → n ≡ nodes b → k ≤ n → n ≤ k → CallOrder b order k → CallOrder b order (nodes b)
+  order-all {k} e h l w = let q : k ≡ nodes b = omega (arith, e, h, l) in rw q at w
 
   -- the place of a call, by the tables
-  pub place-read : (starts labels firsts : List ℕ) (f k x y : ℕ) → Placing b starts labels firsts → CallOf b f k
+  pub place-read : {starts labels firsts : List ℕ} {f k x y : ℕ} → Placing b starts labels firsts → CallOf b f k
       → x ≡ getD firsts f 0 → y ≡ getD labels k 0 → x + y ≡ place f k
-  place-read starts labels firsts f k x y w o e g =
+  place-read {f} {k} {x} {y} w o e g =
       let p : x ≡ firstCall b f = e ∙ w .first .entry f (omega (arith, o .function)) in
       let q : y ≡ labelOf b f k = g ∙ w .labelled .entry f k (o .below) (o .test) in
       rw (p, q) refl
 
   -- the table of all calls: its entries are nodes, and list the actuals
-  module _ (order : List ℕ) (w : Order b order (nodes b)) (f : ℕ) where
+  module _ (order : List ℕ) (w : CallOrder b order (nodes b)) (f : ℕ) where
     pub ordered-node : (j : ℕ) → j < callCount b f → getD order (firstCall b f + j) 0 < nodes b
     unfolding labelOf
     ordered-node j h =

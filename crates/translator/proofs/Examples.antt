@@ -46,7 +46,7 @@ unfolding
     Translate.recordWords Translate.calls Translate.labelOf Translate.formalOf Translate.formals Translate.actuals
     Translate.translated Translate.headWords Translate.functionWords Translate.formalWords Translate.nodeWords
     Translate.translationWords Translate.translation
-    Promise.translationRefusal Promise.answerOf Promise.outputOf
+    Promise.translationRefusal Promise.translatedOf Promise.outputOf
 opened = tt
 
 unfoldable pub sheet : List ℕ

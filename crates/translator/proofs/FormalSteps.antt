@@ -17,9 +17,9 @@ use Rattle.accepted.proofs.Head.{nodes-limit}
 use Rattle.readback.proofs.Joined.{picked-length}
 use Rattle.file_records.specs.Index.{Opened, startIn}
 use Rattle.file_records.proofs.Indices.{indexed-field}
-use Rattle.translator.specs.Writing.{Wrote}
+use Rattle.translation_words.specs.Writing.{WroteWords}
 use Rattle.translator.specs.Tables.{Sums, callCount, firstCall, FormalAt}
-use Rattle.translator.proofs.Writing.{wrote-then, wrote-record}
+use Rattle.translation_words.proofs.Writing.{wrote-then, wrote-record}
 use Rattle.translator.proofs.SheetTables.{node-reached}
 use Rattle.translator.proofs.CallOrder.{place-within, ordered-node, ordered-actuals}
 
@@ -28,7 +28,7 @@ abbrev pub argumentOf : List ℕ → List ℕ → ℕ → ℕ → List ℕ
 argumentOf b order i place = field (nodeRecord b (getD order place 0)) (1 + i) ∷ []
 
 -- the formal of function f at position i: the calls of f are at the places from x to y
-module _ (b starts firsts order : List ℕ) (f i x y : ℕ) (w : FormalAt b starts firsts order f i) (e : x ≡ getD firsts f 0) (g : y ≡ getD firsts (f + 1) 0) where
+module _ {b starts firsts order : List ℕ} {f i x y : ℕ} (w : FormalAt b starts firsts order f i) (e : x ≡ getD firsts f 0) (g : y ≡ getD firsts (f + 1) 0) where
   first-is : x ≡ firstCall b f
   first-is = e ∙ w .tables .first .entry f (omega (arith, w .below))
 
@@ -41,14 +41,14 @@ module _ (b starts firsts order : List ℕ) (f i x y : ℕ) (w : FormalAt b star
   pub range-right : x ≤ y
   range-right = omega (arith, first-is, end-is)
 
-  pub place-small : (j : ℕ) → j < y - x → x + j < mostNodes
-  place-small j h =
+  pub place-small : {j : ℕ} → j < y - x → x + j < mostNodes
+  place-small {j} h =
       omega (arith, first-is, count-is, h, place-within b f j (w .below) (omega (arith, count-is, h)), nodes-limit Sheet b (w .tables .file .accepted))
 
   -- the argument of the call in a place
-  pub argument-read : (j first node u v : ℕ) (rec : List ℕ) → j < y - x → first ≡ firstNode b → node ≡ getD order (x + j) 0
+  pub argument-read : {j first node u v : ℕ} {rec : List ℕ} → j < y - x → first ≡ firstNode b → node ≡ getD order (x + j) 0
       → rec ≡ recordAt b (startIn starts (first + node)) → u ≡ field rec (1 + i) → v ≡ u → v ∷ [] ≡ argumentOf b order i (x + j)
-  argument-read j first node u v rec h p q r s t =
+  argument-read {j} {first} {node} {rec} h p q r s t =
       let n : node ≡ getD order (firstCall b f + j) 0 = q ∙ ap (λ (m : ℕ). getD order (m + j) 0) first-is in
       let l : node < nodes b = omega (arith, n, ordered-node b order (w .tables .ordered) f j (omega (arith, count-is, h))) in
       rw (t, s, node-reached b starts node first rec (w .tables .file) l p r, q) refl
@@ -62,25 +62,23 @@ module _ (b starts firsts order : List ℕ) (f i x y : ℕ) (w : FormalAt b star
   actuals-length = count-is ∙ sym (picked-length (calls b f) (λ k. field (nodeRecord b k) (1 + i)) (nodes b))
 
 -- a function's record
-pub function-words : (b starts : List ℕ) (first f x : ℕ) (rec : List ℕ) → Opened Sheet b starts → f < functions b → first ≡ firstFunction Sheet b
+pub function-words : {b starts : List ℕ} {first f x : ℕ} {rec : List ℕ} → Opened Sheet b starts → f < functions b → first ≡ firstFunction Sheet b
     → rec ≡ recordAt b (startIn starts (first + f)) → x ≡ field rec 1 → recordWords TranslationKinds.function (x ∷ []) ≡ functionWords b f
 unfolding functionWords
-function-words b starts first f x rec o h e p q =
+function-words {b} {starts} {first} {f} {x} {rec} o h e p q =
     let y : x ≡ field (recordOf b (first + f)) 1 = indexed-field b starts (due b) (first + f) 1 x rec (o .index) (omega (arith, e, h)) p q in
     rw (y, e) refl
 
 -- the number of all formals, by the table
-pub formals-read : (b formals′ : List ℕ) (c x : ℕ) → Sums (functions b) (parameters b) formals′ → c ≡ functions b → x ≡ getD formals′ c 0 → x ≡ formals b
+pub formals-read : (b : List ℕ) {formals′ : List ℕ} {c x : ℕ} → Sums (functions b) (parameters b) formals′ → c ≡ functions b → x ≡ getD formals′ c 0 → x ≡ formals b
 unfolding formals
-formals-read b formals′ c x w e f = f ∙ rw (e, w .entry (functions b) (omega arith)) refl
+formals-read b w e f = f ∙ rw (e, w .entry (functions b) (omega arith)) refl
 
 -- the head
-pub wrote-head : (b out : List ℕ) (at : ℕ) (n0 : ℕ) (o0 : List ℕ) (x n1 : ℕ) (o1 : List ℕ) (y n2 : ℕ) (o2 : List ℕ) (z n3 : ℕ) (o3 : List ℕ) (u n4 : ℕ) (o4 : List ℕ)
-    → Wrote out at (12 ∷ TranslationKinds.head ∷ []) n0 o0 → Wrote o0 n0 (x ∷ []) n1 o1 → Wrote o1 n1 (y ∷ []) n2 o2 → Wrote o2 n2 (z ∷ []) n3 o3 → Wrote o3 n3 (u ∷ []) n4 o4
-    → x ≡ readings b → y ≡ formals b → z ≡ functions b → u ≡ nodes b → Wrote out at (headWords b) n4 o4
+pub wrote-head : (b : List ℕ) {out : List ℕ} {at : ℕ} {n0 : ℕ} {o0 : List ℕ} {x n1 : ℕ} {o1 : List ℕ} {y n2 : ℕ} {o2 : List ℕ} {z n3 : ℕ} {o3 : List ℕ} {u n4 : ℕ} {o4 : List ℕ}
+    → WroteWords out at (12 ∷ TranslationKinds.head ∷ []) n0 o0 → WroteWords o0 n0 (x ∷ []) n1 o1 → WroteWords o1 n1 (y ∷ []) n2 o2 → WroteWords o2 n2 (z ∷ []) n3 o3 → WroteWords o3 n3 (u ∷ []) n4 o4
+    → x ≡ readings b → y ≡ formals b → z ≡ functions b → u ≡ nodes b → WroteWords out at (headWords b) n4 o4
 unfolding headWords
-wrote-head b out at n0 o0 x n1 o1 y n2 o2 z n3 o3 u n4 o4 s p q r t e f g h =
+wrote-head b s p q r t e f g h =
     rw (← e, ← f, ← g, ← h)
-    (wrote-record out at TranslationKinds.head 4 n0 o0 (x ∷ y ∷ z ∷ u ∷ []) n4 o4 s
-    (wrote-then o0 n0 (x ∷ y ∷ z ∷ []) n3 o3 (u ∷ []) n4 o4
-    (wrote-then o0 n0 (x ∷ y ∷ []) n2 o2 (z ∷ []) n3 o3 (wrote-then o0 n0 (x ∷ []) n1 o1 (y ∷ []) n2 o2 p q) r) t) refl)
+    (wrote-record s (wrote-then (wrote-then (wrote-then p q) r) t) refl)

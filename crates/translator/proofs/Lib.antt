@@ -1,4 +1,3 @@
-pub mod Writing
 pub mod SheetTables
 pub mod CallLabels
 pub mod CallOrder

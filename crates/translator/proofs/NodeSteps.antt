@@ -21,9 +21,9 @@ use Rattle.accepted.proofs.Head.{nodes-limit}
 use Rattle.accepted.proofs.SheetRecords.{SheetRecord, is-number, is-reading, is-parameter, is-patternVariable, is-operator, is-conditional, is-call, is-build, is-case, node-record}
 use Rattle.operators.proofs.Residues.{residue-read}
 use Rattle.file_records.specs.Index.{startIn}
-use Rattle.translator.specs.Writing.{fieldWords}
+use Rattle.translation_words.specs.Writing.{fieldWords}
 use Rattle.translator.specs.Tables.{NodeTables, NodeRead, OwnerFormals}
-use Rattle.translator.proofs.Writing.{fields-listed}
+use Rattle.translation_words.proofs.Writing.{fields-listed}
 use Rattle.translator.proofs.SheetTables.{node-reached}
 use Rattle.translator.proofs.CallLabels.{calls-named}
 
@@ -42,14 +42,17 @@ unfolding clauseWords
 clause-append [] c = refl
 clause-append (d ∷ cs) c = rw (clause-append cs c) refl
 
-clause-fields : (rec : List ℕ) (n : ℕ) → clauseWords (listed n (λ j. record { constructor = clauseConstructor rec j; node = field rec (2 + 2 * j) })) ≡ listed (2 * n) (λ i. field rec (1 + i))
+-- the clause of place j, as its two fields
+abbrev clauseAt : List ℕ → ℕ → Clause
+clauseAt rec j = record { constructor = clauseConstructor rec j; node = field rec (2 + 2 * j) }
+
+clause-fields : (rec : List ℕ) (n : ℕ) → clauseWords (listed n (clauseAt rec)) ≡ listed (2 * n) (λ i. field rec (1 + i))
 unfolding clauseWords listed clauseConstructor
 clause-fields rec zero = refl
 clause-fields rec (suc n) =
     let e : 2 * suc n ≡ suc (suc (2 * n)) = omega arith in
     let d : 1 + suc (2 * n) ≡ 2 + 2 * n = omega arith in
-    clause-append (listed n (λ j. record { constructor = clauseConstructor rec j; node = field rec (2 + 2 * j) })) (record { constructor = clauseConstructor rec n; node = field rec (2 + 2 * n) })
-    ∙ rw (clause-fields rec n, e, d, append-assoc) refl
+    clause-append (listed n (clauseAt rec)) (clauseAt rec n) ∙ rw (clause-fields rec n, e, d, append-assoc) refl
 
 -- the first of some elements, and the rest
 first-and-rest : (at : ℕ → ℕ) (n : ℕ) → listed (suc n) at ≡ at 0 ∷ listed n (λ i. at (1 + i))
@@ -81,7 +84,7 @@ module _ (b : List ℕ) (k : ℕ) (rec : List ℕ) where
       ∙ ap (λ (fs : List ℕ). field rec 0 ∷ fs) (sym (clause-fields rec (clauses rec)))))
 
 -- the words of a node, by its kind
-module _ (b starts ends owners labels formals rec : List ℕ) (k : ℕ) (w : NodeRead b starts ends owners labels formals rec k) (kind x : ℕ)
+module _ {b starts ends owners labels formals rec : List ℕ} {k : ℕ} (w : NodeRead b starts ends owners labels formals rec k) {kind x : ℕ}
     (e : kind ≡ kindOf rec) (f : x ≡ field rec 0) where
   here : kind ≡ kindOf (nodeRecord b k)
   here = e ∙ rw (w .there) refl
@@ -89,27 +92,27 @@ module _ (b starts ends owners labels formals rec : List ℕ) (k : ℕ) (w : Nod
   first : x ≡ field (nodeRecord b k) 0
   first = f ∙ rw (w .there) refl
 
-  pub number-words : (y v u : ℕ) → kind ≡ SheetKinds.number → y ≡ field rec 1 → v ≡ x → u ≡ y → v < 65536 → u < 65536
+  pub number-words : {y v u : ℕ} → kind ≡ SheetKinds.number → y ≡ field rec 1 → v ≡ x → u ≡ y → v < 65536 → u < 65536
       → recordWords TranslationKinds.number (v ∷ u ∷ []) ≡ nodeWords b k
   unfolding nodeWords sheetNodeOf sheetNode translated
-  number-words y v u g h p q s t =
+  number-words {v} {u} g h p q s t =
       rw (← here, g)
       (ap (recordWords TranslationKinds.number) (sym (number-fields (nodeRecord b k) v u (p ∙ first) (q ∙ h ∙ rw (w .there) refl) s t)))
 
-  pub parameter-words : (z : ℕ) → kind ≡ SheetKinds.parameter → z ≡ formalOf b (ownerOf Sheet b k) x → recordWords TranslationKinds.formal (z ∷ []) ≡ nodeWords b k
+  pub parameter-words : {z : ℕ} → kind ≡ SheetKinds.parameter → z ≡ formalOf b (ownerOf Sheet b k) x → recordWords TranslationKinds.formal (z ∷ []) ≡ nodeWords b k
   unfolding nodeWords sheetNodeOf sheetNode translated
-  parameter-words z g h = rw (← here, g, ← first, h) refl
+  parameter-words g h = rw (← here, g, ← first, h) refl
 
-  pub pattern-words : (z v y : ℕ) → kind ≡ SheetKinds.patternVariable → z ≡ scrutineeOf b k → v ≡ z → y ≡ x
+  pub pattern-words : {z v y : ℕ} → kind ≡ SheetKinds.patternVariable → z ≡ scrutineeOf b k → v ≡ z → y ≡ x
       → recordWords TranslationKinds.select (v ∷ (y + 1) ∷ []) ≡ nodeWords b k
   unfolding nodeWords sheetNodeOf sheetNode translated
-  pattern-words z v y g h p q =
+  pattern-words {y} g h p q =
       let n : y + 1 ≡ suc (field (nodeRecord b k) 0) = omega (arith, q, first) in
       rw (← here, g, p, h, n) refl
 
-  pub call-words : (v y : ℕ) → kind ≡ SheetKinds.call → v ≡ getD labels k 0 → y ≡ x → recordWords TranslationKinds.call (v ∷ y ∷ []) ≡ nodeWords b k
+  pub call-words : {v y : ℕ} → kind ≡ SheetKinds.call → v ≡ getD labels k 0 → y ≡ x → recordWords TranslationKinds.call (v ∷ y ∷ []) ≡ nodeWords b k
   unfolding nodeWords sheetNodeOf sheetNode translated
-  call-words v y g h p =
+  call-words {v} g h p =
       let l : v ≡ labelOf b x k = h ∙ w .tables .labelled .entry x k (w .below) (calls-named b k kind x here g first) in
       rw (← here, g, ← first, l, p) refl
 
@@ -140,9 +143,9 @@ module _ (b starts ends owners labels formals rec : List ℕ) (k : ℕ) (w : Nod
   owner-formals = record { shaped = w .tables .read .sheet .file .accepted; owned = w .tables .read .owned; summed = w .tables .summed; below = w .below }
 
 -- node k with its record
-pub node-read : (b starts ends owners labels formals : List ℕ) (k first : ℕ) (rec : List ℕ) → NodeTables b starts ends owners labels formals → k < nodes b → first ≡ firstNode b
+pub node-read : {b starts ends owners labels formals : List ℕ} {k first : ℕ} {rec : List ℕ} → NodeTables b starts ends owners labels formals → k < nodes b → first ≡ firstNode b
     → rec ≡ recordAt b (startIn starts (first + k)) → NodeRead b starts ends owners labels formals rec k
-node-read b starts ends owners labels formals k first rec w h e f =
+node-read {b} {starts} {k} {first} {rec} w h e f =
     record {
       tables = w;
       below = h;

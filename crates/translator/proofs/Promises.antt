@@ -18,25 +18,24 @@ use Rattle.definitions.specs.declared.Verdict.{Verdict}
 use Rattle.definitions.specs.declared.Verdict.the-variants.{Accepted, Refused}
 use Rattle.laws.proofs.Verdicts.{then-accepted, then-refused}
 use Rattle.accepted.proofs.Checks.{sheet-shape}
-use Rattle.readback.proofs.Words.{bytes-length}
-use Rattle.readback.proofs.Size.{translation-limit}
+use Rattle.readback.proofs.Size.{translation-length, translation-limit}
 use Rattle.format.specs.Readers.{ReadSheet}
-use Rattle.translator.specs.Promise.{translationRefusal, answerOf, outputOf, Translates}
-use Rattle.translator.specs.Writing.{Wrote}
+use Rattle.translator.specs.Promise.{translationRefusal, translatedOf, outputOf, Translates}
+use Rattle.translation_words.specs.Writing.{WroteWords}
 use Rattle.translator.specs.Tables.{ReadTables}
 use Rattle.translator.specs.declared.Translated.the-variants as answers
 
 -- the reader's refusal
-pub reader-refuses : (b out starts ends owners : List ℕ) (v : Verdict) (n p : ℕ) → ReadSheet b v starts ends owners → v ≡ Refused n p
+pub reader-refuses : {b out starts ends owners : List ℕ} {v : Verdict} {n p : ℕ} → ReadSheet b v starts ends owners → v ≡ Refused n p
     → Translates b out (answers.Refused n p) out
-unfolding translationRefusal answerOf outputOf
-reader-refuses b out starts ends owners v n p w e =
+unfolding translationRefusal translatedOf outputOf
+reader-refuses {b} {n} {p} w e =
     let r : sheetVerdict b ≡ Refused n p = sym (w .verdict) ∙ e in
     record { answer = rw (then-refused (sheetVerdict b) _ n p r) refl; output = rw (then-refused (sheetVerdict b) _ n p r) refl }
 
 -- the tables of an accepted sheet
-pub reader-accepts : (b starts ends owners : List ℕ) (v : Verdict) → ReadSheet b v starts ends owners → v ≡ Accepted → ReadTables b starts ends owners
-reader-accepts b starts ends owners v w e =
+pub reader-accepts : {b starts ends owners : List ℕ} {v : Verdict} → ReadSheet b v starts ends owners → v ≡ Accepted → ReadTables b starts ends owners
+reader-accepts {b} w e =
     let a : sheetVerdict b ≡ Accepted = sym (w .verdict) ∙ e in
     record {
       sheet = record { accepted = a; file = record { accepted = sheet-shape b a; index = w .index e } };
@@ -46,36 +45,32 @@ reader-accepts b starts ends owners v w e =
 
 -- an accepted sheet: the length that the writer answers, and the output that it leaves
 module _ (b : List ℕ) (accepted : sheetVerdict b ≡ Accepted) where
-  written-length : length (translation b) ≡ 2 * length (translationWords b)
-  unfolding translation
-  written-length = bytes-length (translationWords b)
-
   counted : 0 + 2 * length (translationWords b) ≤ translationBytes
-  counted = omega (arith, translation-limit b accepted, written-length)
+  counted = omega (arith, translation-limit b accepted, translation-length b accepted)
 
-  length-answered : (o : List ℕ) (n : ℕ) (p : List ℕ) → Wrote o 0 (translationWords b) n p → n ≡ length (translation b)
-  length-answered o n p v = omega (arith, v .place counted, written-length)
+  length-answered : (o : List ℕ) (n : ℕ) (p : List ℕ) → WroteWords o 0 (translationWords b) n p → n ≡ length (translation b)
+  length-answered o n p v = omega (arith, v .place counted, translation-length b accepted)
 
   pub greatest-fits : (room : ℕ) → translationBytes ≤ room → true ≡ leb (length (translation b)) room
-  greatest-fits room h = sym (le-leb (length (translation b)) room (omega (arith, h, counted, written-length)))
+  greatest-fits room h = sym (le-leb (length (translation b)) room (omega (arith, h, counted, translation-length b accepted)))
 
-  pub length-fits : (o : List ℕ) (n : ℕ) (p : List ℕ) (room : ℕ) → Wrote o 0 (translationWords b) n p → leb n room ≡ leb (length (translation b)) room
-  length-fits o n p room v = ap (λ (m : ℕ). leb m room) (length-answered o n p v)
+  pub length-fits : {o : List ℕ} {n : ℕ} {p : List ℕ} (room : ℕ) → WroteWords o 0 (translationWords b) n p → leb n room ≡ leb (length (translation b)) room
+  length-fits {o} {n} {p} room v = ap (λ (m : ℕ). leb m room) (length-answered o n p v)
 
   refusal-by : (out : List ℕ) (t : Bool) → t ≡ leb (length (translation b)) (length out) → translationRefusal b (length out) ≡ require t shortOutput 0
   unfolding translationRefusal
   refusal-by out t e = then-accepted (sheetVerdict b) _ accepted ∙ rw (← e) refl
 
   pub output-short : (out : List ℕ) (t : Bool) → t ≡ leb (length (translation b)) (length out) → t ≡ false → Translates b out (answers.Refused shortOutput 0) out
-  unfolding answerOf outputOf require
+  unfolding translatedOf outputOf require
   output-short out t e f =
       let r : translationRefusal b (length out) ≡ Refused shortOutput 0 = refusal-by out t e ∙ rw f refl in
       record { answer = rw r refl; output = rw r refl }
 
-  pub output-written : (out : List ℕ) (t : Bool) (n : ℕ) (o : List ℕ) → t ≡ leb (length (translation b)) (length out) → t ≡ true → Wrote out 0 (translationWords b) n o
+  pub output-written : {out : List ℕ} {t : Bool} {n : ℕ} {o : List ℕ} → t ≡ leb (length (translation b)) (length out) → t ≡ true → WroteWords out 0 (translationWords b) n o
       → Translates b out (answers.Length n) o
-  unfolding answerOf outputOf require translation
-  output-written out t n o e f v =
+  unfolding translatedOf outputOf require translation
+  output-written {out} {t} {n} {o} e f v =
       let r : translationRefusal b (length out) ≡ Accepted = refusal-by out t e ∙ rw f refl in
       let k : 0 + length (translation b) ≤ length out = omega (arith, leb-true (length (translation b)) (length out) (sym e ∙ f)) in
       record {

@@ -28,7 +28,7 @@ pub node-reached : (b starts : List ℕ) (k first : ℕ) (rec : List ℕ) → Op
 node-reached b starts k first rec o h e f = opened-record Sheet b starts (first + k) rec o (omega (arith, h, e)) f ∙ rw e refl
 
 -- a parameter count, of a function that the index shows
-module _ (b starts : List ℕ) (f count x : ℕ) (o : Opened Sheet b starts) (h : f < count) (e : count ≡ functions b)
+module _ {b starts : List ℕ} {f count x : ℕ} (o : Opened Sheet b starts) (h : f < count) (e : count ≡ functions b)
     (g : x ≡ field (recordAt b (startIn starts (firstFunction Sheet b + f))) 0) where
   below : f < functions b
   below = omega (arith, h, e)
@@ -36,8 +36,8 @@ module _ (b starts : List ℕ) (f count x : ℕ) (o : Opened Sheet b starts) (h 
   pub parameters-read : x ≡ parameters b f
   parameters-read = opened-parameters b starts f x o below g
 
-  pub formals-few : (total : ℕ) → total ≡ sumOf f (parameters b) → total + x ≤ mostFormals
-  formals-few total s =
+  pub formals-few : {total : ℕ} → total ≡ sumOf f (parameters b) → total + x ≤ mostFormals
+  formals-few {total} s =
       omega (
         arith,
         s,
@@ -55,11 +55,11 @@ pub record Summing (at : ℕ → ℕ) (sums : List ℕ) (count total f : ℕ) : 
   pub summed : total ≡ sumOf f at
   pub entry : (i : ℕ) → i < f + 1 → getD sums i 0 ≡ sumOf i at
 
-module _ (at : ℕ → ℕ) where
-  pub summing-begins : (sums : List ℕ) (count : ℕ) → count ≤ mostFunctions → length sums ≡ mostFunctions + 1 → getD sums 0 0 ≡ 0
+module _ {at : ℕ → ℕ} where
+  pub summing-begins : {sums : List ℕ} {count : ℕ} → count ≤ mostFunctions → length sums ≡ mostFunctions + 1 → getD sums 0 0 ≡ 0
       → Summing at sums count 0 0
   unfolding sumOf
-  summing-begins sums count l s z =
+  summing-begins l s z =
       record {
         reached = omega arith;
         few = l;
@@ -68,9 +68,9 @@ module _ (at : ℕ → ℕ) where
         entry = λ i h. let q : i ≡ 0 = omega arith in rw q z;
       }
 
-  pub summing-goes-on : (sums : List ℕ) (count total f x : ℕ) → Summing at sums count total f → f < count → x ≡ at f
+  pub summing-goes-on : {sums : List ℕ} {count total f x : ℕ} → Summing at sums count total f → f < count → x ≡ at f
       → Summing at (set sums (f + 1) (total + x)) count (total + x) (f + 1)
-  summing-goes-on sums count total f x w h e =
+  summing-goes-on {sums} {total} {f} {x} w h e =
       let s : total + x ≡ sumOf (f + 1) at = rw (sum-more f at, w .summed, e) refl in
       record {
         reached = omega (arith, h);
@@ -80,36 +80,36 @@ module _ (at : ℕ → ℕ) where
         entry = entry-more (λ i v. v ≡ sumOf i at) sums (f + 1) (total + x) (omega (arith, w .size, w .few, h)) (w .entry) s;
       }
 
-  pub summing-done : (sums : List ℕ) (count total f n : ℕ) → Summing at sums count total f → count ≤ f → count ≡ n → Sums n at sums
-  summing-done sums count total f n w h e = record { entry = λ i l. w .entry i (omega (arith, h, l, e)) }
+  pub summing-done : {sums : List ℕ} {count total f n : ℕ} → Summing at sums count total f → count ≤ f → count ≡ n → Sums n at sums
+  summing-done w h e = record { entry = λ i l. w .entry i (omega (arith, h, l, e)) }
 
 -- the formal of a parameter, by the tables of owners and of first formals
-module _ (b owners formals : List ℕ) (k : ℕ) (w : OwnerFormals b owners formals k) where
+module _ {b owners formals : List ℕ} {k : ℕ} (w : OwnerFormals b owners formals k) where
   pub formal-narrow : k < mostNodes
   formal-narrow = omega (arith, w .below, nodes-limit Sheet b (w .shaped))
 
-  pub formal-owner : (x : ℕ) → x ≡ getD owners k 0 → x < mostFunctions
-  formal-owner x e =
+  pub formal-owner : {x : ℕ} → x ≡ getD owners k 0 → x < mostFunctions
+  formal-owner {x} e =
       let o : x ≡ ownerOf Sheet b k = e ∙ w .owned .entry k (w .below) in
       omega (arith, o, owner-below Sheet b (w .shaped) k (w .below), functions-limit Sheet b (w .shaped))
 
-  pub formal-is : (x y z i : ℕ) → x ≡ getD owners k 0 → y ≡ getD formals x 0 → z ≡ i → y + z ≡ formalOf b (ownerOf Sheet b k) i
+  pub formal-is : {x y z i : ℕ} → x ≡ getD owners k 0 → y ≡ getD formals x 0 → z ≡ i → y + z ≡ formalOf b (ownerOf Sheet b k) i
   unfolding formalOf
-  formal-is x y z i e f g =
+  formal-is {x} e f g =
       let o : x ≡ ownerOf Sheet b k = e ∙ w .owned .entry k (w .below) in
       let h : ownerOf Sheet b k < functions b = owner-below Sheet b (w .shaped) k (w .below) in
       rw (f, o, g, w .summed .entry (ownerOf Sheet b k) (omega (arith, h))) refl
 
 -- the scrutinee, by the tables of owners and of runs
-module _ (b starts ends owners : List ℕ) (k : ℕ) (w : ReadTables b starts ends owners) (h : k < nodes b) where
+module _ {b starts ends owners : List ℕ} {k : ℕ} (w : ReadTables b starts ends owners) (h : k < nodes b) where
   pub scrutinee-narrow : k < mostNodes
   scrutinee-narrow = omega (arith, h, nodes-limit Sheet b (w .sheet .file .accepted))
 
   owner-few : ownerOf Sheet b k < functions b
   owner-few = owner-below Sheet b (w .sheet .file .accepted) k h
 
-  pub scrutinee-owner : (x : ℕ) → x ≡ getD owners k 0 → x < mostFunctions
-  scrutinee-owner x e =
+  pub scrutinee-owner : {x : ℕ} → x ≡ getD owners k 0 → x < mostFunctions
+  scrutinee-owner {x} e =
       let o : x ≡ ownerOf Sheet b k = e ∙ w .owned .entry k h in
       omega (arith, o, owner-few, functions-limit Sheet b (w .sheet .file .accepted))
 
@@ -118,9 +118,9 @@ module _ (b starts ends owners : List ℕ) (k : ℕ) (w : ReadTables b starts en
       let o : x ≡ ownerOf Sheet b k = e ∙ w .owned .entry k h in
       f ∙ rw (o, w .runs .entry (ownerOf Sheet b k) owner-few) (sym (body-before-end Sheet b (w .sheet .file .accepted) (ownerOf Sheet b k) owner-few))
 
-  pub scrutinee-read : (x y first z : ℕ) (rec : List ℕ) → x ≡ getD owners k 0 → y ≡ getD ends x 0 → first ≡ firstNode b
+  pub scrutinee-read : {x y first z : ℕ} {rec : List ℕ} → x ≡ getD owners k 0 → y ≡ getD ends x 0 → first ≡ firstNode b
       → rec ≡ recordAt b (startIn starts (first + (y - 1))) → z ≡ field rec 0 → z ≡ scrutineeOf b k
   unfolding scrutineeOf
-  scrutinee-read x y first z rec e f g p q =
+  scrutinee-read {x} {y} {first} {rec} e f g p q =
       let n : y - 1 ≡ bodyOf Sheet b (ownerOf Sheet b k) = omega (arith, scrutinee-end x y e f) in
       q ∙ rw (node-reached b starts (y - 1) first rec (w .sheet .file) (omega (arith, n, body-below Sheet b (w .sheet .file .accepted) (ownerOf Sheet b k) owner-few)) g p, n) refl

@@ -18,9 +18,9 @@ unfoldable pub translationRefusal : List ℕ → ℕ → Verdict
 translationRefusal sheet room = sheetVerdict sheet andThen require (leb (length (translation sheet)) room) shortOutput 0
 
 -- the answer: the translation's length, or the refusal
-unfoldable pub answerOf : Verdict → ℕ → Translated
-answerOf Accepted n = answers.Length n
-answerOf (Refused number place) n = answers.Refused number place
+unfoldable pub translatedOf : Verdict → ℕ → Translated
+translatedOf Accepted n = answers.Length n
+translatedOf (Refused number place) n = answers.Refused number place
 
 -- the output: the translation, and past it what was there; after a refusal all that was there
 unfoldable pub outputOf : Verdict → List ℕ → List ℕ → List ℕ
@@ -28,5 +28,5 @@ outputOf Accepted written out = written ++ drop (length written) out
 outputOf (Refused number place) written out = out
 
 pub record Translates (sheet out : List ℕ) (r : Translated) (out′ : List ℕ) : Type 0 where
-  pub answer : r ≡ answerOf (translationRefusal sheet (length out)) (length (translation sheet))
+  pub answer : r ≡ translatedOf (translationRefusal sheet (length out)) (length (translation sheet))
   pub output : out′ ≡ outputOf (translationRefusal sheet (length out)) (translation sheet) out

@@ -15,7 +15,7 @@ use Rattle.definitions.specs.Translate.{calls, labelOf}
 use Rattle.definitions.specs.declared.Layout.the-variants.{Sheet}
 use Rattle.definitions.specs.declared.Verdict.the-variants.{Accepted}
 use Rattle.file_records.specs.Index.{Opened}
-use Rattle.format.specs.Readers.{RunEnds, Owners}
+use Rattle.format.specs.Readers.{RunEndTable, Owners}
 
 -- "Calls of one function are labelled 0, 1, .. in node order": of the first n nodes, entry k is the label of the call k
 pub record Labels (b labels : List ℕ) (n : ℕ) : Type 0 where
@@ -44,7 +44,7 @@ abbrev pub firstCall : List ℕ → ℕ → ℕ
 firstCall b f = sumOf f (callCount b)
 
 -- the calls in order of function and label: of the first n nodes, each call stands at its label after its function's first
-pub record Order (b order : List ℕ) (n : ℕ) : Type 0 where
+pub record CallOrder (b order : List ℕ) (n : ℕ) : Type 0 where
   pub size : length order ≡ mostNodes
   pub entry : (f k : ℕ) → k < n → calls b f k ≡ true → getD order (firstCall b f + labelOf b f k) 0 ≡ k
 
@@ -70,7 +70,7 @@ pub record Placing (b starts labels firsts : List ℕ) : Type 0 where
 -- its node k, where the calls before it are in order
 pub record PlaceAt (b starts labels firsts order : List ℕ) (k : ℕ) : Type 0 where
   pub tables : Placing b starts labels firsts
-  pub ordered : Order b order k
+  pub ordered : CallOrder b order k
   pub below : k < nodes b
   pub narrow : k < mostNodes
 
@@ -78,7 +78,7 @@ pub record PlaceAt (b starts labels firsts order : List ℕ) (k : ℕ) : Type 0 
 pub record OrderedCalls (b starts firsts order : List ℕ) : Type 0 where
   pub file : Opened Sheet b starts
   pub first : Sums (functions b) (callCount b) firsts
-  pub ordered : Order b order (nodes b)
+  pub ordered : CallOrder b order (nodes b)
 
 -- function f of such a sheet, and a position
 pub record FormalAt (b starts firsts order : List ℕ) (f i : ℕ) : Type 0 where
@@ -90,7 +90,7 @@ pub record FormalAt (b starts firsts order : List ℕ) (f i : ℕ) : Type 0 wher
 -- an accepted sheet with the tables of its reader
 pub record ReadTables (b starts ends owners : List ℕ) : Type 0 where
   pub sheet : AcceptedSheet b starts
-  pub runs : RunEnds Sheet b ends
+  pub runs : RunEndTable Sheet b ends
   pub owned : Owners b owners
 
 -- and with the labels and first formals
@@ -103,7 +103,7 @@ pub record NodeTables (b starts ends owners labels formals : List ℕ) : Type 0 
 pub record Tables (b starts ends owners labels firsts order formals : List ℕ) : Type 0 where
   pub node : NodeTables b starts ends owners labels formals
   pub first : Sums (functions b) (callCount b) firsts
-  pub ordered : Order b order (nodes b)
+  pub ordered : CallOrder b order (nodes b)
 
 -- node k of an accepted sheet with the tables for nodes, and its record
 pub record NodeRead (b starts ends owners labels formals rec : List ℕ) (k : ℕ) : Type 0 where

@@ -7,20 +7,20 @@ ghost use Rattle.definitions.specs.Layouts.{functions, nodes};
 ghost use Rattle.definitions.specs.Shape.{fileShape};
 ghost use Rattle.definitions.specs.declared.Layout.the-variants.{Sheet};
 ghost use Rattle.definitions.specs.declared.Verdict.the-variants.{Accepted};
-ghost use Rattle.translator.specs.Tables.{callCount, Sums, AcceptedSheet, Labels, Counts, LabelledOne, LabelAt, Order, Placing, PlaceAt};
+ghost use Rattle.translator.specs.Tables.{callCount, Sums, AcceptedSheet, Labels, Counts, LabelledOne, LabelAt, CallOrder, Placing, PlaceAt};
 use crate::tables::OfFunctions;
 use crate::tables::OfNodes;
 use crate::tables::Sums;
+use definitions::sheet_kinds;
 use definitions::sizes::MOST_FUNCTIONS;
 use definitions::sizes::Starts;
 use file_layout::layout::first_node;
 use file_layout::layout::functions;
 use file_layout::layout::nodes;
-use file_layout::sheet_kinds;
 use file_records::records::field;
 use file_records::records::indexed;
 use file_records::records::kind;
-use file_records::records::wide;
+use widths::wide;
 
 // Labels node `k`, a call of function `f`, by the number of calls of that function before it.
 fn label_call(f: usize, k: usize, labels: &mut OfNodes, counts: &mut OfFunctions)
@@ -82,7 +82,7 @@ fn place_node(
     order: &mut OfNodes,
 )
     requires { ⌜ PlaceAt (now b) (now starts) (now labels) (now firsts) (now order) k ⌝ }
-    ensures { λ r. ⌜ Order (now (b .entry)) (now (order .exit)) (k + 1) ⌝ }
+    ensures { λ r. ⌜ CallOrder (now (b .entry)) (now (order .exit)) (k + 1) ⌝ }
 {
     let rec = indexed(b, starts, first_node(b) + k);
     if kind(rec) == sheet_kinds::CALL {
@@ -99,8 +99,8 @@ pub(crate) fn order_calls(
     firsts: &Sums,
     order: &mut OfNodes,
 )
-    requires { ⌜ Placing (now b) (now starts) (now labels) (now firsts) × Order (now b) (now order) 0 ⌝ }
-    ensures { λ r. ⌜ Order (now (b .entry)) (now (order .exit)) (nodes (now (b .entry))) ⌝ }
+    requires { ⌜ Placing (now b) (now starts) (now labels) (now firsts) × CallOrder (now b) (now order) 0 ⌝ }
+    ensures { λ r. ⌜ CallOrder (now (b .entry)) (now (order .exit)) (nodes (now (b .entry))) ⌝ }
 {
     let count = wide(nodes(b));
     let mut k: usize = 0;

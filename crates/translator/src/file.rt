@@ -10,7 +10,7 @@ ghost use Rattle.definitions.specs.Translate.{headWords, functionWords, transla
 ghost use Rattle.definitions.specs.declared.Layout.the-variants.{Sheet};
 ghost use Rattle.definitions.specs.declared.Verdict.the-variants.{Accepted};
 ghost use Rattle.file_records.specs.Index.{Opened};
-ghost use Rattle.translator.specs.Writing.{Wrote};
+ghost use Rattle.translation_words.specs.Writing.{WroteWords};
 ghost use Rattle.translator.specs.Tables.{Sums, Tables};
 use crate::formals::put_formals;
 use crate::kinds::FUNCTION;
@@ -18,9 +18,6 @@ use crate::kinds::HEAD;
 use crate::nodes::put_nodes;
 use crate::tables::OfNodes;
 use crate::tables::Sums;
-use crate::words::put;
-use crate::words::put_one;
-use crate::words::put_start;
 use definitions::Layout;
 use definitions::sizes::Ends;
 use definitions::sizes::Owners;
@@ -32,12 +29,15 @@ use file_layout::layout::nodes;
 use file_layout::layout::readings;
 use file_records::records::field;
 use file_records::records::indexed;
-use file_records::records::wide;
+use translation_words::put;
+use translation_words::put_one;
+use translation_words::put_start;
+use widths::wide;
 
 // Writes the head.
 fn put_head(b: &[u8], formals: &Sums, out: &mut [u8], at: usize) -> usize
     requires { ⌜ (fileShape Sheet (now b) ≡ Accepted) × Sums (functions (now b)) (parameters (now b)) (now formals) ⌝ }
-    ensures { λ r. ⌜ Wrote (now (out .entry)) at (headWords (now (b .entry))) r (now (out .exit)) ⌝ }
+    ensures { λ r. ⌜ WroteWords (now (out .entry)) at (headWords (now (b .entry))) r (now (out .exit)) ⌝ }
 {
     let count = wide(functions(b));
     let first = put_start(out, at, HEAD, 4);
@@ -50,7 +50,7 @@ fn put_head(b: &[u8], formals: &Sums, out: &mut [u8], at: usize) -> usize
 // Writes the record of every function.
 fn put_functions(b: &[u8], starts: &Starts, out: &mut [u8], at: usize) -> usize
     requires { ⌜ Opened Sheet (now b) (now starts) ⌝ }
-    ensures { λ r. ⌜ Wrote (now (out .entry)) at (joined (functions (now (b .entry))) (functionWords (now (b .entry)))) r (now (out .exit)) ⌝ }
+    ensures { λ r. ⌜ WroteWords (now (out .entry)) at (joined (functions (now (b .entry))) (functionWords (now (b .entry)))) r (now (out .exit)) ⌝ }
 {
     let first = first_function(Layout::Sheet, b);
     let count = wide(functions(b));
@@ -81,7 +81,7 @@ pub(crate) fn put_file(
     out: &mut [u8],
 ) -> usize
     requires { ⌜ Tables (now b) (now starts) (now ends) (now owners) (now labels) (now firsts) (now order) (now formals) ⌝ }
-    ensures { λ r. ⌜ Wrote (now (out .entry)) 0 (translationWords (now (b .entry))) r (now (out .exit)) ⌝ }
+    ensures { λ r. ⌜ WroteWords (now (out .entry)) 0 (translationWords (now (b .entry))) r (now (out .exit)) ⌝ }
 {
     let first_function = put_head(b, formals, out, 0);
     let first_formal = put_functions(b, starts, out, first_function);

@@ -1,5 +1,5 @@
 // The kinds of a translation's records that are written by name, as words.
-use file_layout::translation_kinds;
+use definitions::translation_kinds;
 
 pub const HEAD: usize = translation_kinds::HEAD as usize;
 

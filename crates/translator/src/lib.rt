@@ -8,7 +8,6 @@ mod formals;
 mod kinds;
 mod nodes;
 mod tables;
-mod words;
 
 use crate::calls::first_calls;
 use crate::calls::label_nodes;

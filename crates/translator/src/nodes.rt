@@ -5,7 +5,7 @@ ghost use Rattle.definitions.specs.Lists.{joined};
 ghost use Rattle.definitions.specs.Layouts.{nodes, ownerOf};
 ghost use Rattle.definitions.specs.Translate.{formalOf, scrutineeOf, nodeWords};
 ghost use Rattle.definitions.specs.declared.Layout.the-variants.{Sheet};
-ghost use Rattle.translator.specs.Writing.{Wrote};
+ghost use Rattle.translation_words.specs.Writing.{WroteWords};
 ghost use Rattle.translator.specs.Tables.{NodeTables, NodeRead, ReadTables, OwnerFormals};
 use crate::kinds::CALL;
 use crate::kinds::FORMAL;
@@ -13,20 +13,20 @@ use crate::kinds::NUMBER;
 use crate::kinds::SELECT;
 use crate::tables::OfNodes;
 use crate::tables::Sums;
-use crate::words::put_copy;
-use crate::words::put_one;
-use crate::words::put_two;
+use definitions::sheet_kinds;
 use definitions::sizes::Ends;
 use definitions::sizes::Owners;
 use definitions::sizes::Starts;
 use file_layout::layout::first_node;
 use file_layout::layout::nodes;
-use file_layout::sheet_kinds;
 use file_records::records::field;
 use file_records::records::indexed;
 use file_records::records::kind;
-use file_records::records::wide;
-use file_records::records::wide8;
+use translation_words::put_copy;
+use translation_words::put_one;
+use translation_words::put_two;
+use widths::wide;
+use widths::wide8;
 
 // The scrutinee of the case that is the body of node `k`'s function.
 fn scrutinee(b: &[u8], starts: &Starts, ends: &Ends, owners: &Owners, k: usize) -> u16
@@ -59,7 +59,7 @@ fn put_read(
     at: usize,
 ) -> usize
     requires { ⌜ NodeRead (now b) (now starts) (now ends) (now owners) (now labels) (now formals) (now rec) k ⌝ }
-    ensures { λ r. ⌜ Wrote (now (out .entry)) at (nodeWords (now (b .entry)) k) r (now (out .exit)) ⌝ }
+    ensures { λ r. ⌜ WroteWords (now (out .entry)) at (nodeWords (now (b .entry)) k) r (now (out .exit)) ⌝ }
 {
     let node_kind = kind(rec);
     let value = field(rec, 0);
@@ -97,7 +97,7 @@ fn put_node(
     at: usize,
 ) -> usize
     requires { ⌜ NodeTables (now b) (now starts) (now ends) (now owners) (now labels) (now formals) × (k < nodes (now b)) ⌝ }
-    ensures { λ r. ⌜ Wrote (now (out .entry)) at (nodeWords (now (b .entry)) k) r (now (out .exit)) ⌝ }
+    ensures { λ r. ⌜ WroteWords (now (out .entry)) at (nodeWords (now (b .entry)) k) r (now (out .exit)) ⌝ }
 {
     put_read(
         b,
@@ -125,7 +125,7 @@ pub(crate) fn put_nodes(
     at: usize,
 ) -> usize
     requires { ⌜ NodeTables (now b) (now starts) (now ends) (now owners) (now labels) (now formals) ⌝ }
-    ensures { λ r. ⌜ Wrote (now (out .entry)) at (joined (nodes (now (b .entry))) (nodeWords (now (b .entry)))) r (now (out .exit)) ⌝ }
+    ensures { λ r. ⌜ WroteWords (now (out .entry)) at (joined (nodes (now (b .entry))) (nodeWords (now (b .entry)))) r (now (out .exit)) ⌝ }
 {
     let count = wide(nodes(b));
     let mut next = at;

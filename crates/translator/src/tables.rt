@@ -9,7 +9,7 @@ use definitions::sizes::MOST_NODES;
 use definitions::sizes::Starts;
 use file_layout::layout::functions;
 use file_records::declared_counts::parameters;
-use file_records::records::wide;
+use widths::wide;
 
 // A number for each node.
 pub(crate) type OfNodes = [u16; MOST_NODES];

@@ -1,5 +1,6 @@
 // Files written and changed as the text of the trials says, outputs, and readings.
 ghost use Prim.Native.Nat.{_≤_};
+use crate::shown::show_misfit;
 use crate::text::COMMA;
 use crate::text::after;
 use crate::text::number;
@@ -13,16 +14,20 @@ use file_writer::Space;
 use file_writer::change;
 use file_writer::put;
 
-// How many readings of an entry are taken: some more than a sheet can have.
+// More readings than an entry lists: some more than a sheet can have.
 pub(crate) const READINGS_ROOM: usize = MOST_READINGS + 8;
 
 pub(crate) type Readings = [i32; READINGS_ROOM];
 
-// A size, or the greatest where it is above that.
-pub(crate) fn within(size: usize, most: usize) -> usize
-    ensures { λ r. ⌜ r ≤ most ⌝ }
+// A size that fits; of one that does not the trial's line says so, and the trial goes on with the greatest.
+pub(crate) fn within(size: usize, greatest: usize) -> usize
+    ensures { λ r. ⌜ r ≤ greatest ⌝ }
 {
-    if size < most { size } else { most }
+    if size <= greatest {
+        return size;
+    }
+    show_misfit();
+    greatest
 }
 
 // What a file and an output hold before anything is written: no two places near each other have the same byte.
@@ -46,6 +51,15 @@ fn at_turn(word: u16, step: u16, turn: u16) -> u16 {
     ((word as u64 + (step as u64) * (turn as u64) % 65536) % 65536) as u16
 }
 
+// Writes a word that fits, and answers the place after it.
+fn put_word(file: &mut Space, at: usize, word: u16) -> usize {
+    let next = put(file, at, word);
+    if next == at {
+        show_misfit();
+    }
+    next
+}
+
 // Writes one turn of an entry's words, and answers the place after them.
 fn put_turn(text: &[u8], from: usize, turn: u16, file: &mut Space, at: usize) -> usize {
     let end = until(text, from, COMMA);
@@ -54,7 +68,7 @@ fn put_turn(text: &[u8], from: usize, turn: u16, file: &mut Space, at: usize) ->
     while i < end {
         if number_starts(text, i) {
             let grown = at_turn(word(text, i), word(text, after(text, i, b'+')), turn);
-            next = put(file, next, grown);
+            next = put_word(file, next, grown);
         }
         i += 1;
     }
@@ -116,7 +130,7 @@ pub(crate) fn change_words(text: &[u8], from: usize, file: &mut Space) {
     }
 }
 
-// Puts the readings that an entry lists after a bar, and answers how many they are.
+// Puts the readings that an entry lists after a bar, and answers how many they are; a reading past the room has no place.
 pub(crate) fn put_readings(text: &[u8], from: usize, readings: &mut Readings) -> usize {
     let end = until(text, from, COMMA);
     let mut count: usize = 0;

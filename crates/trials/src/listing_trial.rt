@@ -11,15 +11,15 @@ use crate::translator_trial::agree;
 use cells::listing::Listed;
 use cells::listing::list_context;
 use file_fields::bytes::word;
-use file_records::records::wide;
 use file_writer::SPACE_BYTES;
 use file_writer::Space;
+use widths::wide;
 
 // Lists the context of cell `c` of the first `lent` bytes of cells into the first `room` bytes of an output.
 fn listed(cells: &[u8], lent: usize, c: usize, out: &mut [u8], room: usize) -> Listed {
     let bytes = within(lent, cells.len());
-    let tray = within(room, out.len());
-    list_context(&cells[0..bytes], c, &mut out[0..tray])
+    let out_bytes = within(room, out.len());
+    list_context(&cells[0..bytes], c, &mut out[0..out_bytes])
 }
 
 // The same with whole spaces.

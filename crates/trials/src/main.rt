@@ -17,7 +17,8 @@
 // A run shows its answer's record of kind 64. As many cells as it made are to be those of `c`, and all bytes past them, and those
 // of the output past the translation, are to be as they were before; where the run is refused, all bytes of both are.
 // Words after `xN` are written N times, and a word `w+k` grows by k from turn to turn. A reading has a minus before it where it
-// is negative. What follows a comma says what a trial is. Any other line is a comment. At most 65,536 bytes of `stdin` are read.
+// is negative. What follows a comma says what a trial is. Any other line is a comment. `stdin` has less than 65,536 bytes. What does
+// not fit its space, a number too large or a file too long, is shown as `DOES NOT FIT`, which `stdout` never has.
 // The interpreter with which `rt try` begins ends at its limit of steps, and the compiled runs go through.
 mod files;
 mod listing_trial;
@@ -33,6 +34,7 @@ use crate::listing_trial::try_listing;
 use crate::reader_trial::try_reader;
 use crate::run_trial::try_joined;
 use crate::run_trial::try_run;
+use crate::shown::show_misfit;
 use crate::shown::show_named;
 use crate::text::line_starts;
 use crate::text::numbered;
@@ -154,6 +156,9 @@ fn entry(
 fn main() {
     let mut text = io::large_buffer();
     let size = io::read_full(0, &mut text);
+    if size == text.len() {
+        show_misfit();
+    }
     let mut sheet = [0u8; SPACE_BYTES];
     let mut translation = [0u8; SPACE_BYTES];
     let mut cells = [0u8; SPACE_BYTES];

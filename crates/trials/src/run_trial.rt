@@ -7,30 +7,31 @@ use crate::files::copy;
 use crate::files::filled;
 use crate::files::put_readings;
 use crate::files::within;
+use crate::shown::show_misfit;
 use crate::shown::show_named;
 use crate::shown::show_record;
 use crate::shown::show_whether;
 use crate::text::numbered;
 use crate::translator_trial::agree;
 use crate::translator_trial::translated_in;
-use cells::answer::Answer;
-use cells::answer::Outcome;
-use cells::answer::refused;
-use cells::answer::write_answer;
+use answer::Answer;
+use answer::Outcome;
+use answer::refused;
+use answer::write_answer;
 use definitions::sizes::CELL_BYTES;
-use file_records::records::wide;
 use file_writer::SPACE_BYTES;
 use file_writer::Space;
 use join::translate_and_run;
 use run::run;
 use translator::Translated;
+use widths::wide;
 
 // What a run is given beside its file: the allowances, how many bytes are lent for cells, how many bytes the sheet and the
 // output have, and how many readings there are.
 struct Given {
     steps: u32,
     nesting: u32,
-    most: u32,
+    cells_allowed: u32,
     lent: usize,
     size: usize,
     room: usize,
@@ -39,10 +40,13 @@ struct Given {
 
 // The first numbers of an entry, with a count of readings.
 fn read_given(text: &[u8], from: usize, count: usize) -> Given {
+    if READINGS_ROOM <= count {
+        show_misfit();
+    }
     Given {
         steps: numbered(text, from, 0),
         nesting: numbered(text, from, 1),
-        most: numbered(text, from, 2),
+        cells_allowed: numbered(text, from, 2),
         lent: numbered(text, from, 3) as usize,
         size: numbered(text, from, 4) as usize,
         room: numbered(text, from, 5) as usize,
@@ -68,7 +72,7 @@ fn ran(file: &[u8], size: usize, readings: &[i32], g: Given) -> Answered {
         &readings[0..values],
         g.steps,
         g.nesting,
-        g.most,
+        g.cells_allowed,
         &mut lent,
     );
     Answered { answer, cells }
@@ -82,18 +86,18 @@ fn ran_in(file: &Space, size: usize, readings: &Readings, g: Given) -> Answered 
 // Translates and runs a sheet in one call, with new cells.
 fn joined(sheet: &[u8], out: &mut [u8], readings: &[i32], g: Given) -> Answered {
     let bytes = within(g.size, sheet.len());
-    let tray = within(g.room, out.len());
+    let out_bytes = within(g.room, out.len());
     let values = within(g.count, readings.len());
     let lent_bytes = within(g.lent, SPACE_BYTES);
     let mut cells = filled();
     let mut lent: &mut [u8] = &mut cells[0..lent_bytes];
     let answer = translate_and_run(
         &sheet[0..bytes],
-        &mut out[0..tray],
+        &mut out[0..out_bytes],
         &readings[0..values],
         g.steps,
         g.nesting,
-        g.most,
+        g.cells_allowed,
         &mut lent,
     );
     Answered { answer, cells }
@@ -136,6 +140,26 @@ fn cells_right(answer: Answer, cells: &Space, expected: &Space) -> bool {
     agree(cells, &right)
 }
 
+// An answer's record, as it is written.
+fn recorded(answer: Answer) -> Space {
+    let mut record = [0u8; SPACE_BYTES];
+    write_answer(answer, &mut record);
+    record
+}
+
+// Shows the fields of an answer's record.
+fn show_answer(answer: Answer) {
+    let record = recorded(answer);
+    show_record(&record);
+}
+
+// Whether two answers have the same record.
+fn same_record(one: Answer, other: Answer) -> bool {
+    let first = recorded(one);
+    let second = recorded(other);
+    agree(&first, &second)
+}
+
 // A trial of a run of a sheet, in one call and in two. The entry has the allowances, the bytes lent for cells, the sheet's
 // bytes, the output's bytes, the changes, and the readings.
 pub(crate) fn try_joined(text: &[u8], from: usize, base: &Space, expected: &Space) {
@@ -150,12 +174,8 @@ pub(crate) fn try_joined(text: &[u8], from: usize, base: &Space, expected: &Spac
     let answer = ran.answer;
     let mut alone = filled();
     let second = in_two_calls(&sheet, &mut alone, &readings, g);
-    let mut record = [0u8; SPACE_BYTES];
-    write_answer(answer, &mut record);
-    let mut other = [0u8; SPACE_BYTES];
-    write_answer(second.answer, &mut other);
     show_named(b"  ", text, from, b": ");
-    show_record(&record);
+    show_answer(answer);
     show_whether(
         cells_right(answer, &ran.cells, expected),
         b", cells",
@@ -167,7 +187,7 @@ pub(crate) fn try_joined(text: &[u8], from: usize, base: &Space, expected: &Spac
         b", OUTPUT WRONG",
     );
     show_whether(
-        agree(&record, &other) && agree(&ran.cells, &second.cells),
+        same_record(answer, second.answer) && agree(&ran.cells, &second.cells),
         b", the same in two calls\n",
         b", NOT THE SAME IN TWO CALLS\n",
     );
@@ -184,10 +204,8 @@ pub(crate) fn try_run(text: &[u8], from: usize, base: &Space, expected: &Space) 
     let g = read_given(text, from, count);
     let ran = ran_in(&translation, g.size, &readings, g);
     let answer = ran.answer;
-    let mut record = [0u8; SPACE_BYTES];
-    write_answer(answer, &mut record);
     show_named(b"  ", text, from, b": ");
-    show_record(&record);
+    show_answer(answer);
     show_whether(
         cells_right(answer, &ran.cells, expected),
         b", cells right\n",

@@ -1,5 +1,6 @@
 // The text of the trials: entries, and the numbers in them. An entry begins at the start of a line with its letter, and goes
 // on over the lines that begin with a blank.
+use crate::shown::show_misfit;
 use operators::bits::number_of;
 use std::num::wrapping_sub_u32;
 
@@ -79,9 +80,13 @@ pub(crate) fn number_starts(text: &[u8], at: usize) -> bool {
     false
 }
 
-// A number with one digit more; what is above 32 bits is dropped. The lower half of a digit's byte is its value.
+// A number with one digit more, where it fits into 32 bits. The lower half of a digit's byte is its value.
 fn with_digit(number: u32, byte: u8) -> u32 {
-    ((10 * (number as u64) + (byte % 16) as u64) % 0x1_0000_0000) as u32
+    let longer = 10 * (number as u64) + (byte % 16) as u64;
+    if 0x1_0000_0000 <= longer {
+        show_misfit();
+    }
+    (longer % 0x1_0000_0000) as u32
 }
 
 // The place after the digits that start at a place.
@@ -121,9 +126,13 @@ pub(crate) fn after(text: &[u8], from: usize, byte: u8) -> usize {
     text.len()
 }
 
-// The word whose digits start at a place; what is above 16 bits is dropped.
+// The word whose digits start at a place, where it fits into 16 bits.
 pub(crate) fn word(text: &[u8], from: usize) -> u16 {
-    (number(text, from) % 65536) as u16
+    let value = number(text, from);
+    if 65536 <= value {
+        show_misfit();
+    }
+    (value % 65536) as u16
 }
 
 // Where number `k` of an entry starts, from 0; the end of the text where it has not as many.

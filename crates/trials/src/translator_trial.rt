@@ -18,8 +18,8 @@ pub(crate) fn agree(one: &Space, other: &Space) -> bool {
 // Translates the first `size` bytes of a sheet's file into the first `room` bytes of an output.
 fn translated(sheet: &[u8], size: usize, out: &mut [u8], room: usize) -> Translated {
     let bytes = within(size, sheet.len());
-    let tray = within(room, out.len());
-    translate(&sheet[0..bytes], &mut out[0..tray])
+    let out_bytes = within(room, out.len());
+    translate(&sheet[0..bytes], &mut out[0..out_bytes])
 }
 
 // The same with whole spaces.

@@ -8,14 +8,14 @@ use lib.ListN.{length, take, drop, length-append}
 use lib.Seq.{take-at}
 use Rattle.definitions.specs.Sizes.{translationBytes, cellSize}
 use Rattle.definitions.specs.Run as Run
-use Rattle.cells.specs.declared.answer.Answer.{Answer}
-use Rattle.cells.specs.Answers.{answerOf}
+use Rattle.answer.specs.declared.Answer.{Answer}
+use Rattle.answer.specs.Answers.{answerOf}
 use Rattle.join.specs.Promise.{Joins}
 use Rattle.report.specs.Lines.{line}
 use Rattle.report.specs.Promise.{WritesLine}
 use Rattle.zifnora.specs.Program.{programAnswer, ShowsAnswer}
 
-module _ (sheet buffer : List ℕ) (rs : List ℤ) (cells : List ℕ) (r : Answer) (buffer′ cells′ out : List ℕ) (n : ℕ) (out′ : List ℕ) where
+module _ {sheet buffer : List ℕ} {rs : List ℤ} {cells : List ℕ} {r : Answer} {buffer′ cells′ : List ℕ} (out : List ℕ) (n : ℕ) (out′ : List ℕ) where
   program-answer : Joins sheet buffer rs 1000 100 100 cells r buffer′ cells′
       → length buffer ≡ translationBytes → rs ≡ [] → length cells ≡ cellSize * 100 → answerOf r ≡ programAnswer sheet
   unfolding programAnswer
@@ -31,7 +31,7 @@ module _ (sheet buffer : List ℕ) (rs : List ℤ) (cells : List ℕ) (r : Answe
       }
 
 -- the bytes that are printed
-module _ (sheet out : List ℕ) (n : ℕ) (out′ : List ℕ) (s : ShowsAnswer sheet out n out′) where
+module _ {sheet out : List ℕ} {n : ℕ} {out′ : List ℕ} (s : ShowsAnswer sheet out n out′) where
   pub line-within : n ≤ length out′
   line-within = rw (s .output, length-append) (omega (arith, s .answer))
 

@@ -8,7 +8,7 @@ mod codes;
 use crate::codes::listed_code;
 use crate::codes::record_code;
 use crate::codes::translated_code;
-use cells::answer::write_answer;
+use answer::write_answer;
 use cells::listing::list_context;
 use join::translate_and_run;
 use run::run;
@@ -29,18 +29,18 @@ pub extern "C" fn zifnora_run_slice(
     readings: &[i32],
     steps: u32,
     nesting: u32,
-    most: u32,
+    cells_allowed: u32,
     cells: &mut &mut [u8],
     rec: &mut [u8],
 ) -> u64
-    ensures { λ r. ⌜ RunsC (now (file .entry)) (now (readings .entry)) steps nesting most (now (now (cells .entry))) (now (rec .entry)) r (now (now (cells .exit))) (now (rec .exit))
+    ensures { λ r. ⌜ RunsC (now (file .entry)) (now (readings .entry)) steps nesting «cells_allowed» (now (now (cells .entry))) (now (rec .entry)) r (now (now (cells .exit))) (now (rec .exit))
         × (now (cells .exit) .ptr ≡ now (cells .entry) .ptr) ⌝ }
 {
     let short = record_code(rec);
     if short != 0 {
         return short;
     }
-    let answer = run(file, readings, steps, nesting, most, cells);
+    let answer = run(file, readings, steps, nesting, cells_allowed, cells);
     write_answer(answer, rec);
     short
 }
@@ -53,11 +53,11 @@ pub extern "C" fn zifnora_translate_and_run_slice(
     readings: &[i32],
     steps: u32,
     nesting: u32,
-    most: u32,
+    cells_allowed: u32,
     cells: &mut &mut [u8],
     rec: &mut [u8],
 ) -> u64
-    ensures { λ r. ⌜ JoinsC (now (sheet .entry)) (now (out .entry)) (now (readings .entry)) steps nesting most (now (now (cells .entry))) (now (rec .entry)) r
+    ensures { λ r. ⌜ JoinsC (now (sheet .entry)) (now (out .entry)) (now (readings .entry)) steps nesting «cells_allowed» (now (now (cells .entry))) (now (rec .entry)) r
         (now (out .exit)) (now (now (cells .exit))) (now (rec .exit))
         × (now (cells .exit) .ptr ≡ now (cells .entry) .ptr) ⌝ }
 {
@@ -65,7 +65,7 @@ pub extern "C" fn zifnora_translate_and_run_slice(
     if short != 0 {
         return short;
     }
-    let answer = translate_and_run(sheet, out, readings, steps, nesting, most, cells);
+    let answer = translate_and_run(sheet, out, readings, steps, nesting, cells_allowed, cells);
     write_answer(answer, rec);
     short
 }

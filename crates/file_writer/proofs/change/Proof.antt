@@ -17,7 +17,9 @@ put-requires : tie.Need-put-requires
 put-requires c κs = search needs
 
 returns : tie.Need-returns
-returns c = word-changed _ _ _ _ _ _ _ (c .before .before .start .ensures .0) (c .put .ensures)
+returns c =
+    let start = c .before .before .start in
+    word-changed _ _ _ (start .ensures .0) (c .put .ensures)
 
 pub change-spec : {M : Type 1} → statement M
 change-spec = tie.close (tie.spec start-requires mul-at add-at put-requires returns)

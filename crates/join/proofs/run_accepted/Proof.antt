@@ -8,9 +8,9 @@ use Rattle.join.proofs.run_accepted.Tie as tie
 use Rattle.join.proofs.run_accepted.Reads as reads
 use Rattle.join.proofs.run_accepted.Lts as lts
 use Rattle.allowances.proofs.allowed.Reads as allowed-reads
-use Rattle.cells.proofs.answer.refused.Reads as refused-reads
+use Rattle.answer.proofs.refused.Reads as refused-reads
 use Rattle.file_layout.proofs.layout.readings.Reads as readings-reads
-use Rattle.file_records.proofs.records.wide.Reads as wide-reads
+use Rattle.widths.proofs.wide.Reads as wide-reads
 use Rattle.run.proofs.run.Reads as run-reads
 use Rattle.translator.proofs.translate.Reads as translate-reads
 
@@ -20,7 +20,7 @@ refused-requires c κs = search needs
 returns : tie.Need-returns
 returns c =
     let pre = c .before .before .before .before .pre in
-    (join-short _ _ _ _ _ _ _ _ (pre .0) _ (pre .1) (c .before .if1 .taken) (c .refused .ensures), refl)
+    (join-short _ _ _ _ _ _ _ _ (pre .0) (pre .1) (c .before .if1 .taken) (c .refused .ensures), refl)
 
 readings-requires : tie.Need-readings-requires
 readings-requires c κs = search needs
@@ -37,7 +37,7 @@ returns-2 c =
     let if1 = c .before .before .before .before .if1 in
     let readings = c .before .before .before .readings in
     let wide = c .before .before .wide in
-    (join-readings _ _ _ _ _ _ _ _ (pre .0) _ (pre .1) (if1 .left) _ _ (readings .ensures) (wide .ensures .0) (c .before .if2 .taken) (c .refused2 .ensures), refl)
+    (join-readings _ _ _ _ _ _ _ _ (pre .0) (pre .1) (if1 .left) (readings .ensures) (wide .ensures .0) (c .before .if2 .taken) (c .refused2 .ensures), refl)
 
 allowed-requires : tie.Need-allowed-requires
 allowed-requires c κs = search needs
@@ -54,7 +54,7 @@ returns-3 c =
     let wide = c .before .before .before .before .wide in
     let if2 = c .before .before .before .if2 in
     let allowed = c .before .before .allowed in (
-      join-allowance _ _ _ _ (args .nesting) (args .most) _ _ (pre .0) _ (pre .1) (if1 .left) _ _ (readings .ensures) (wide .ensures .0) _ (if2 .left) (allowed .ensures)
+      join-allowance _ _ _ _ (args .nesting) (args .cells-allowed) _ _ (pre .0) (pre .1) (if1 .left) (readings .ensures) (wide .ensures .0) (if2 .left) (allowed .ensures)
           (not-true _ (c .before .if3 .taken)) (c .refused3 .ensures),
       refl,
     )
@@ -90,8 +90,8 @@ returns-4 c =
     let if3 = c .before .before .before .before .before .before .before .if3 in
     let translate = c .before .before .before .before .before .translate in
     let run = c .run in (
-      join-answered _ _ _ _ (args .nesting) (args .most) _ _ (pre .0) _ (pre .1) (if1 .left) _ _ (readings .ensures) (wide .ensures .0) _ _ (translate .ensures) _
-          (run .ensures .0) _ (if2 .left) (allowed .ensures) (not-false _ (if3 .left)),
+      join-answered _ _ _ _ (args .nesting) (args .cells-allowed) _ _ (pre .0) (pre .1) (if1 .left) (readings .ensures) (wide .ensures .0) (translate .ensures)
+          (run .ensures .0) (if2 .left) (allowed .ensures) (not-false _ (if3 .left)),
       run .ensures .1,
     )
 

@@ -9,7 +9,7 @@ use Rattle.join.proofs.translate_and_run.Statement.{statement}
 use Rattle.join.proofs.translate_and_run.Tie as tie
 use Rattle.join.proofs.translate_and_run.Reads as reads
 use Rattle.join.proofs.translate_and_run.Lts as lts
-use Rattle.cells.proofs.answer.refused.Reads as refused-reads
+use Rattle.answer.proofs.refused.Reads as refused-reads
 use Rattle.join.proofs.run_accepted.Reads as run-accepted-reads
 use Rattle.translator.proofs.translate.Reads as translate-reads
 
@@ -32,13 +32,13 @@ run-accepted-requires : tie.Need-run-accepted-requires
 run-accepted-requires c κs =
     let translate = c .before .before .before .before .before .before .translate in
     let translated2 = c .before .before .before .translated2 in
-    let s : _ = sized _ _ _ _ (translate .ensures) (length-replicate {A = ℕ} translationBytes 0) (translated2 .given .1) in (s .accepted, s .is)
+    let s : _ = sized (translate .ensures) (length-replicate {A = ℕ} translationBytes 0) (translated2 .given .1) in (s .accepted, s .is)
 
 returns : tie.Need-returns
 returns c =
     let translate = c .before .before .before .before .before .translate in
     let translated = c .before .before .translated in
-    (join-sheet-refused _ _ _ _ _ _ _ _ _ _ (sheet-refused _ _ _ _ (translate .ensures) (length-replicate {A = ℕ} translationBytes 0) (translated .given .1)) (c .refused .ensures), refl)
+    (join-sheet-refused _ _ _ _ _ _ _ _ _ _ (sheet-refused (translate .ensures) (length-replicate {A = ℕ} translationBytes 0) (translated .given .1)) (c .refused .ensures), refl)
 
 same-length : tie.Need-same-length
 same-length c = search needs

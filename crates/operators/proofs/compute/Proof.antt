@@ -1,5 +1,5 @@
 -- `operators::compute` meets its contract: each code's operator has its own.
-use Rattle.operators.proofs.Answers.{number-answer, read-both, code-add, code-subtract, code-multiply, code-divide, code-less, code-equal}
+use Rattle.operators.proofs.Answers.{number-answer, read-both, code-add, code-subtract, code-multiply, code-divide, code-less, code-equal, code-none}
 use Rattle.operators.specs.Results.{computedOf}
 use Rattle.definitions.specs.Operators.{reduced, truth, equal, quotient}
 use lib.Signed.{ltZ}
@@ -15,7 +15,10 @@ add-requires c κs = search needs
 
 returns : tie.Need-returns
 unfolding computedOf
-returns c = number-answer w32 _ _ _ (λ a b. reduced w32 (a +ℤ b)) (c .before .before .fits .x) (c .before .before .fits .y) (c .add .ok) (c .add .ensures) ∙ code-add _ _
+returns c =
+    let fits = c .before .before .fits in
+    let add = c .add in
+    number-answer w32 (λ a b. reduced w32 (a +ℤ b)) (fits .x) (fits .y) (add .ok) (add .ensures) ∙ code-add _ _
     _ (c .before .if1 .taken)
 
 subtract-requires : tie.Need-subtract-requires
@@ -23,22 +26,30 @@ subtract-requires c κs = search needs
 
 returns-2 : tie.Need-returns-2
 unfolding computedOf
-returns-2 c = number-answer w32 _ _ _ (λ a b. reduced w32 (a -ℤ b)) (c .before .before .before .fits .x) (c .before .before .before .fits .y) (c .subtract .ok)
-    (c .subtract .ensures) ∙ code-subtract _ _ _ (c .before .if2 .taken)
+returns-2 c =
+    let fits = c .before .before .before .fits in
+    let subtract = c .subtract in
+    number-answer w32 (λ a b. reduced w32 (a -ℤ b)) (fits .x) (fits .y) (subtract .ok)
+    (subtract .ensures) ∙ code-subtract _ _ _ (c .before .if2 .taken)
 
 multiply-requires : tie.Need-multiply-requires
 multiply-requires c κs = search needs
 
 returns-3 : tie.Need-returns-3
 unfolding computedOf
-returns-3 c = number-answer w32 _ _ _ (λ a b. reduced w32 (a *ℤ b)) (c .before .before .before .before .fits .x) (c .before .before .before .before .fits .y)
-    (c .multiply .ok) (c .multiply .ensures) ∙ code-multiply _ _ _ (c .before .if3 .taken)
+returns-3 c =
+    let fits = c .before .before .before .before .fits in
+    let multiply = c .multiply in
+    number-answer w32 (λ a b. reduced w32 (a *ℤ b)) (fits .x) (fits .y)
+    (multiply .ok) (multiply .ensures) ∙ code-multiply _ _ _ (c .before .if3 .taken)
 
 divide-requires : tie.Need-divide-requires
 divide-requires c κs = search needs
 
 returns-4 : tie.Need-returns-4
-returns-4 c = c .divide .ensures ∙ read-both w32 _ _ (c .before .before .before .before .before .fits .x) (c .before .before .before .before .before .fits .y) (quotient w32)
+returns-4 c =
+    let fits = c .before .before .before .before .before .fits in
+    c .divide .ensures ∙ read-both w32 _ _ (fits .x) (fits .y) (quotient w32)
     ∙ code-divide _ _ _ (c .before .if4 .taken)
 
 less-requires : tie.Need-less-requires
@@ -46,17 +57,31 @@ less-requires c κs = search needs
 
 returns-5 : tie.Need-returns-5
 unfolding computedOf
-returns-5 c = number-answer w32 _ _ _ (λ a b. truth (ltZ a b)) (c .before .before .before .before .before .before .fits .x)
-    (c .before .before .before .before .before .before .fits .y) (c .less .ok) (c .less .ensures) ∙ code-less _ _ _ (c .before .if5 .taken)
+returns-5 c =
+    let fits = c .before .before .before .before .before .before .fits in
+    let less = c .less in
+    number-answer w32 (λ a b. truth (ltZ a b)) (fits .x)
+    (fits .y) (less .ok) (less .ensures) ∙ code-less _ _ _ (c .before .if5 .taken)
 
 equal-requires : tie.Need-equal-requires
 equal-requires c κs = search needs
 
 returns-6 : tie.Need-returns-6
 unfolding computedOf
-returns-6 c = number-answer w32 _ _ _ (λ a b. truth (equal a b)) (c .before .before .before .before .before .before .fits .x)
-    (c .before .before .before .before .before .before .fits .y) (c .equal .ok) (c .equal .ensures) ∙ code-equal _ _ _ (c .before .before .before .before .before .if1 .left)
-    (c .before .before .before .before .if2 .left) (c .before .before .before .if3 .left) (c .before .before .if4 .left) (c .before .if5 .left)
+returns-6 c =
+    let fits = c .before .before .before .before .before .before .before .fits in
+    let equal′ = c .equal in
+    number-answer w32 (λ a b. truth (equal a b)) (fits .x)
+    (fits .y) (equal′ .ok) (equal′ .ensures) ∙ code-equal _ _ _ (c .before .if6 .taken)
+
+returns-7 : tie.Need-returns-7
+unfolding computedOf
+returns-7 c =
+    let if1 = c .before .before .before .before .before .if1 in
+    let if2 = c .before .before .before .before .if2 in
+    let if3 = c .before .before .before .if3 in
+    let if4 = c .before .before .if4 in
+    code-none _ _ _ (if1 .left) (if2 .left) (if3 .left) (if4 .left) (c .before .if5 .left) (c .if6 .left)
 
 pub compute-spec : {M : Type 1} → statement M
 compute-spec =
@@ -73,4 +98,5 @@ compute-spec =
     less-requires
     returns-5
     equal-requires
-    returns-6)
+    returns-6
+    returns-7)

@@ -1,6 +1,6 @@
 -- `report::put_counts` meets its contract: three words with two numbers between them.
 use Rattle.report.specs.Lines.{counts, stepsWord, cellsWord, lineEnd}
-use Rattle.report.proofs.Writing.{wrote-then}
+use Rattle.report.proofs.Writing.{wrote-five}
 use borrow.Author.Needs.{needs}
 use Rattle.report.proofs.put_counts.Statement.{statement}
 use Rattle.report.proofs.put_counts.Tie as tie
@@ -35,12 +35,13 @@ same-length c = search needs
 returns : tie.Need-returns
 unfolding counts stepsWord cellsWord lineEnd
 returns c =
-    let put-word = c .before .before .before .before .before .before .before .before .before .before .before .before .before .before .before .before .before .before .before .before .put-word in
-    let put-decimal = c .before .before .before .before .before .before .before .before .before .before .before .before .before .before .before .before .put-decimal in
-    let put-word2 = c .before .before .before .before .before .before .before .before .before .before .before .put-word2 in
-    let put-decimal2 = c .before .before .before .before .before .before .before .put-decimal2 in
-    let put-word3 = c .before .before .put-word3 in
-    wrote-then (wrote-then (wrote-then (wrote-then (put-word .ensures) (put-decimal .ensures)) (put-word2 .ensures)) (put-decimal2 .ensures)) (put-word3 .ensures)
+    let at-word3 = c .before .before in
+    let at-second = at-word3 .before .before .before .before .before in
+    let at-word2 = at-second .before .before .before .before in
+    let at-first = at-word2 .before .before .before .before .before in
+    let at-word = at-first .before .before .before .before in
+    wrote-five (at-word .put-word .ensures) (at-first .put-decimal .ensures) (at-word2 .put-word2 .ensures) (at-second .put-decimal2 .ensures)
+    (at-word3 .put-word3 .ensures)
 
 pub put-counts-spec : {M : Type 1} → statement M
 put-counts-spec =

@@ -8,7 +8,7 @@ put-line-requires : tie.Need-put-line-requires
 put-line-requires c κs = search needs
 
 returns : tie.Need-returns
-returns c = line-written _ _ _ _ (search needs) (c .put-line .ensures)
+returns c = line-written (search needs) (c .put-line .ensures)
 
 pub write-line-spec : {M : Type 1} → statement M
 write-line-spec = tie.close (tie.spec put-line-requires returns)

@@ -20,18 +20,26 @@ enum-told-2 c = search needs
 
 returns : tie.Need-returns
 returns c =
-    read-refused _ (c .before .before .before .before .before .before .args .table .now) _ _ _ _ _ (c .before .before .fill-translation .ensures) (c .enum-told2 .given .1)
-    (c .before .before .before .before .before .before .pre)
+    let args = c .before .before .before .before .before .before .args in
+    let pre = c .before .before .before .before .before .before .pre in
+    let fill-translation = c .before .before .fill-translation in
+    read-refused _ (args .table .now) _ _ _ _ _ (fill-translation .ensures) (c .enum-told2 .given .1)
+    (pre)
 
 fill-nodes-requires : tie.Need-fill-nodes-requires
-fill-nodes-requires c κs = (
-  ready-by _ _ _ _ (c .before .before .before .before .before .fill-translation .ensures) (c .before .before .before .enum-told .given .1),
-  c .before .before .before .before .before .before .before .before .before .pre,
-)
+fill-nodes-requires c κs =
+    let pre = c .before .before .before .before .before .before .before .before .before .pre in
+    let fill-translation = c .before .before .before .before .before .fill-translation in
+    let enum-told = c .before .before .before .enum-told in (
+      ready-by _ _ _ _ (fill-translation .ensures) (enum-told .given .1),
+      pre,
+    )
 
 returns-2 : tie.Need-returns-2
 returns-2 c =
-    read-accepted _ _ _ _ _ (c .before .before .before .before .before .before .fill-translation .ensures) (c .before .before .before .before .enum-told .given .1) (c .fill-nodes .ensures)
+    let fill-translation = c .before .before .before .before .before .before .fill-translation in
+    let enum-told = c .before .before .before .before .enum-told in
+    read-accepted _ _ _ _ _ (fill-translation .ensures) (enum-told .given .1) (c .fill-nodes .ensures)
 
 pub read-file-spec : {M : Type 1} → statement M
 read-file-spec =

@@ -6,7 +6,7 @@ use Rattle.run.proofs.run.Statement.{statement}
 use Rattle.run.proofs.run.Tie as tie
 use Rattle.run.proofs.run.Reads as reads
 use Rattle.run.proofs.run.Lts as lts
-use Rattle.cells.proofs.answer.refused.Reads as refused-reads
+use Rattle.answer.proofs.refused.Reads as refused-reads
 use Rattle.run.proofs.read_file.Reads as read-file-reads
 use Rattle.run.proofs.run_table.Reads as run-table-reads
 

@@ -16,9 +16,9 @@ use Rattle.run.proofs.run_table.Tie as tie
 use Rattle.run.proofs.run_table.Reads as reads
 use Rattle.run.proofs.run_table.Lts as lts
 use Rattle.allowances.proofs.allowed.Reads as allowed-reads
-use Rattle.cells.proofs.answer.refused.Reads as refused-reads
+use Rattle.answer.proofs.refused.Reads as refused-reads
 use Rattle.file_layout.proofs.layout.readings.Reads as readings-reads
-use Rattle.file_records.proofs.records.wide.Reads as wide-reads
+use Rattle.widths.proofs.wide.Reads as wide-reads
 use Rattle.run.proofs.answers.answered.Reads as answered-reads
 use Rattle.run.proofs.look_up.first_body.Reads as first-body-reads
 use Rattle.run.proofs.node_table.set_readings.Reads as set-readings-reads
@@ -37,7 +37,9 @@ refused-requires c κs = search needs
 returns : tie.Need-returns
 returns c =
     let pre = c .before .before .before .before .before .pre in
-    (readings-refused _ _ _ _ _ _ _ (pre .accepted) _ _ (c .before .before .before .readings .ensures) (c .before .before .wide .ensures .0) (c .before .if1 .taken) (c .refused .ensures), refl)
+    let readings = c .before .before .before .readings in
+    let wide = c .before .before .wide in
+    (readings-refused _ _ _ _ _ _ _ (pre .accepted) _ _ (readings .ensures) (wide .ensures .0) (c .before .if1 .taken) (c .refused .ensures), refl)
 
 allowed-requires : tie.Need-allowed-requires
 allowed-requires c κs = search needs
@@ -48,9 +50,12 @@ refused-requires-2 c κs = search needs
 returns-2 : tie.Need-returns-2
 returns-2 c =
     let pre = c .before .before .before .before .before .before .before .pre in
-    let readings = c .before .before .before .before .before .readings in (
-      allowance-refused _ _ _ _ _ _ _ (pre .accepted) _ _ (readings .ensures) (c .before .before .before .before .wide .ensures .0) _ (c .before .before .before .if1 .left)
-          (c .before .before .allowed .ensures) (not-true _ (c .before .if2 .taken)) (c .refused2 .ensures),
+    let readings = c .before .before .before .before .before .readings in
+    let wide = c .before .before .before .before .wide in
+    let if1 = c .before .before .before .if1 in
+    let allowed = c .before .before .allowed in (
+      allowance-refused _ _ _ _ _ _ _ (pre .accepted) _ _ (readings .ensures) (wide .ensures .0) _ (if1 .left)
+          (allowed .ensures) (not-true _ (c .before .if2 .taken)) (c .refused2 .ensures),
       refl,
     )
 
@@ -59,17 +64,23 @@ set-readings-requires c κs =
     let pre = c .before .before .before .before .before .before .before .pre in
     let args = c .before .before .before .before .before .before .before .args in
     let readings = c .before .before .before .before .before .readings in
-    (pre .room, readings-room _ (args .readings .now) (pre .accepted) (c .before .before .before .if1 .left ∙ c .before .before .before .before .wide .ensures .0 ∙ readings .ensures))
+    let wide = c .before .before .before .before .wide in
+    let if1 = c .before .before .before .if1 in
+    (pre .room, readings-room _ (args .readings .now) (pre .accepted) (if1 .left ∙ wide .ensures .0 ∙ readings .ensures))
 
 mul-limits : tie.Need-mul-limits
 mul-limits c =
     let args = c .before .before .before .before .before .before .before .before .args in
-    record { fits = omega (arith, fitting (args .nesting) (args .most) _ _ (c .before .before .before .allowed .ensures) (not-false _ (c .before .before .if2 .left)) .made) }
+    let allowed = c .before .before .before .allowed in
+    let if2 = c .before .before .if2 in
+    record { fits = omega (arith, fitting (args .nesting) (args .cells-allowed) _ _ (allowed .ensures) (not-false _ (if2 .left)) .made) }
 
 add-limits : tie.Need-add-limits
 add-limits c =
     let args = c .before .before .before .before .before .before .before .before .args in
-    let fit = fitting (args .nesting) (args .most) _ _ (c .before .before .before .allowed .ensures) (not-false _ (c .before .before .if2 .left)) in
+    let allowed = c .before .before .before .allowed in
+    let if2 = c .before .before .if2 in
+    let fit = fitting (args .nesting) (args .cells-allowed) _ _ (allowed .ensures) (not-false _ (if2 .left)) in
     record { fits = omega (arith, fit .nested, fit .made) }
 
 first-body-requires : tie.Need-first-body-requires
@@ -87,9 +98,10 @@ visit-requires c κs =
     let wide = c .before .before .before .before .before .before .before .before .before .before .wide in
     let if1 = c .before .before .before .before .before .before .before .before .before .if1 in
     let set-readings = c .before .before .before .before .before .set-readings in
+    let first-body = c .before .before .before .before .first-body in
     record {
       equipped = equips _ _ _ _ pre (set-readings .ensures) (if1 .left ∙ wide .ensures .0 ∙ readings .ensures);
-      there = first-there _ _ (nodes-limit Translation _ (translation-shape _ (pre .accepted))) (first-below _ _ (pre .accepted) (c .before .before .before .before .first-body .ensures));
+      there = first-there _ _ (nodes-limit Translation _ (translation-shape _ (pre .accepted))) (first-below _ _ (pre .accepted) (first-body .ensures));
       size = refl;
     }
 
@@ -114,10 +126,11 @@ answered-requires c κs =
     let if2 = c .before .before .before .before .before .before .before .before .before .before .if2 in
     let set-readings = c .before .before .before .before .before .before .before .before .set-readings in
     let first-body = c .before .before .before .before .before .before .before .first-body in
-    let fit = fitting (args .nesting) (args .most) _ _ (allowed .ensures) (not-false _ (if2 .left)) in
+    let visit = c .before .before .visit in
+    let fit = fitting (args .nesting) (args .cells-allowed) _ _ (allowed .ensures) (not-false _ (if2 .left)) in
     let reached = reached-opened _ _ _ _ _ _ (c .opened .ensures)
-    (first-visit _ _ (args .nesting) (args .most) _ _ _ _ (fit .nested) (nodes-limit Translation _ (translation-shape _ (pre .accepted))) (first-below _ _ (pre .accepted)
-    (first-body .ensures)) (c .before .before .visit .ensures .same _ (readings-held _ (args .readings .now) _ _ (set-readings .ensures) (if1 .left ∙ wide .ensures .0 ∙
+    (first-visit _ _ (args .nesting) (args .cells-allowed) _ _ _ _ (fit .nested) (nodes-limit Translation _ (translation-shape _ (pre .accepted))) (first-below _ _ (pre .accepted)
+    (first-body .ensures)) (visit .ensures .same _ (readings-held _ (args .readings .now) _ _ (set-readings .ensures) (if1 .left ∙ wide .ensures .0 ∙
     readings .ensures)))) in
     let ends = end-in-table _ _ _ _ _ _ _ _ _ (pre .accepted) (first-body .ensures) reached in
     (ends .0, ends .1, end-made _ _ _ _ _ _ _ _ _ (record { below = λ i. omega (arith, shared-slice-known .given i) }) (fit .made) (fit .lends) (first-body .ensures) reached)
@@ -135,11 +148,11 @@ returns-3 c =
     let set-readings = c .before .before .before .before .before .before .before .before .before .set-readings in
     let first-body = c .before .before .before .before .before .before .before .before .first-body in
     let visit = c .before .before .before .visit in
-    let fit = fitting (args .nesting) (args .most) _ _ (allowed .ensures) (not-false _ (if2 .left)) in
+    let fit = fitting (args .nesting) (args .cells-allowed) _ _ (allowed .ensures) (not-false _ (if2 .left)) in
     let reached = reached-opened _ _ _ _ _ _ (c .before .opened .ensures)
-    (first-visit _ _ (args .nesting) (args .most) _ _ _ _ (fit .nested) (nodes-limit Translation _ (translation-shape _ (pre .accepted))) (first-below _ _ (pre .accepted)
+    (first-visit _ _ (args .nesting) (args .cells-allowed) _ _ _ _ (fit .nested) (nodes-limit Translation _ (translation-shape _ (pre .accepted))) (first-below _ _ (pre .accepted)
     (first-body .ensures)) (visit .ensures .same _ (readings-held _ (args .readings .now) _ _ (set-readings .ensures) (if1 .left ∙ wide .ensures .0 ∙ readings .ensures)))) in (
-      run-answered _ _ _ (args .nesting) (args .most) _ _ (pre .accepted) _ _ (readings .ensures) (wide .ensures .0) _ _ _ _
+      run-answered _ _ _ (args .nesting) (args .cells-allowed) _ _ (pre .accepted) _ _ (readings .ensures) (wide .ensures .0) _ _ _ _
           (record { below = λ i. omega (arith, shared-slice-known .given i) }) (if1 .left) (allowed .ensures) (not-false _ (if2 .left)) (first-body .ensures) reached
           (c .answered .ensures .answer _ (nodes-kept _ _ _ _ pre (set-readings .ensures)) (end-node _ _ _ _ _ _ _ _ _ (pre .accepted) (first-body .ensures) reached)),
       visit .ensures .stays,

@@ -17,10 +17,12 @@ translate-accepted-requires : tie.Need-translate-accepted-requires
 translate-accepted-requires c κs =
     let at-enum-told = c .before .before .before .before .before in
     let at-read-sheet = at-enum-told .before .before in
-    reader-accepts _ _ _ _ _ (at-read-sheet .read-sheet .ensures) (at-enum-told .enum-told .given .1)
+    reader-accepts (at-read-sheet .read-sheet .ensures) (at-enum-told .enum-told .given .1)
 
 returns : tie.Need-returns
-returns c = reader-refuses _ _ _ _ _ _ _ _ (c .before .before .before .read-sheet .ensures) (c .before .verdict .given .1)
+returns c =
+    let read-sheet = c .before .before .before .read-sheet in
+    reader-refuses (read-sheet .ensures) (c .before .verdict .given .1)
 
 same-length : tie.Need-same-length
 same-length c = search needs

@@ -19,10 +19,12 @@ returns c =
     let at-test = at-put-file .before .before in
     let at-fits2 = at-test .before in
     let pre = at-fits2 .before .before .before .pre in
-    output-written _ (pre .node .read .sheet .accepted) _ _ _ _ (at-fits2 .fits2 .ensures) (at-test .if1 .taken) (at-put-file .put-file .ensures)
+    output-written _ (pre .node .read .sheet .accepted) (at-fits2 .fits2 .ensures) (at-test .if1 .taken) (at-put-file .put-file .ensures)
 
 returns-2 : tie.Need-returns-2
-returns-2 c = output-short _ (c .before .before .before .before .pre .node .read .sheet .accepted) _ _ (c .before .fits2 .ensures) (c .if1 .left)
+returns-2 c =
+    let pre = c .before .before .before .before .pre in
+    output-short _ (pre .node .read .sheet .accepted) _ _ (c .before .fits2 .ensures) (c .if1 .left)
 
 pub write-spec : {M : Type 1} → statement M
 write-spec = tie.close (tie.spec fits-requires put-file-requires same-length returns returns-2)

@@ -19,6 +19,9 @@ slice-aggregate-read-full c = search needs
 read-full-requires : tie.Need-read-full-requires Inv-loop μ-loop
 read-full-requires c κs = search needs
 
+show-misfit-requires : tie.Need-show-misfit-requires Inv-loop μ-loop
+show-misfit-requires c κs = search needs
+
 loop-holds : tie.Need-loop-holds Inv-loop μ-loop
 loop-holds c = search needs
 
@@ -55,6 +58,7 @@ main-spec =
     large-buffer-requires
     slice-aggregate-read-full
     read-full-requires
+    show-misfit-requires
     loop-holds
     slice-aggregate-line-starts
     line-starts-requires

@@ -20,10 +20,10 @@ show-answer-requires : tie.Need-show-answer-requires
 show-answer-requires c κs = search needs
 
 array-share-prefix-line : tie.Need-array-share-prefix-line
-array-share-prefix-line c = line-within _ _ _ _ (c .show-answer .ensures)
+array-share-prefix-line c = line-within (c .show-answer .ensures)
 
 slice-aggregate-write-all : tie.Need-slice-aggregate-write-all
-slice-aggregate-write-all c = line-counted _ _ _ _ (c .before .show-answer .ensures)
+slice-aggregate-write-all c = line-counted (c .before .show-answer .ensures)
 
 write-all-requires : tie.Need-write-all-requires
 write-all-requires c κs = search needs

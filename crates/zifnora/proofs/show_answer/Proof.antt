@@ -23,7 +23,7 @@ write-line-requires c κs = search needs
 returns : tie.Need-returns
 returns c =
     let run = c .before .before .before .before .translate-and-run in
-    answer-shown _ _ _ _ _ _ _ _ _ _ (run .ensures .0) (c .write-line .ensures) (search needs) refl (search needs)
+    answer-shown _ _ _ (run .ensures .0) (c .write-line .ensures) (search needs) refl (search needs)
 
 pub show-answer-spec : {M : Type 1} → statement M
 show-answer-spec =

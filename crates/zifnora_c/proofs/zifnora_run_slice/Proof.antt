@@ -6,7 +6,7 @@ use Rattle.zifnora_c.proofs.zifnora_run_slice.Statement.{statement}
 use Rattle.zifnora_c.proofs.zifnora_run_slice.Tie as tie
 use Rattle.zifnora_c.proofs.zifnora_run_slice.Reads as reads
 use Rattle.zifnora_c.proofs.zifnora_run_slice.Lts as lts
-use Rattle.cells.proofs.answer.write_answer.Reads as write-answer-reads
+use Rattle.answer.proofs.write_answer.Reads as write-answer-reads
 use Rattle.run.proofs.run.Reads as run-reads
 use Rattle.zifnora_c.proofs.codes.record_code.Reads as record-code-reads
 
@@ -17,7 +17,7 @@ same-length : tie.Need-same-length
 same-length c = search needs
 
 returns : tie.Need-returns
-returns c = (run-short _ _ (c .before .record-code .ensures) _ _ _ _ _ _ (c .if1 .taken), refl)
+returns c = (run-short _ _ (c .before .record-code .ensures) (c .if1 .taken), refl)
 
 run-requires : tie.Need-run-requires
 run-requires c κs = search needs
@@ -30,9 +30,12 @@ same-length-2 c = search needs
 
 returns-2 : tie.Need-returns-2
 returns-2 c =
-    let run = c .before .before .before .before .run .ensures in (
-      run-written _ _ (c .before .before .before .before .before .before .before .record-code .ensures) _ _ _ _ _ _ _ _ _ _
-          (c .before .before .before .before .before .before .if1 .left) (run .0) (c .before .before .write-answer .ensures),
+    let run = c .before .before .before .before .run .ensures in
+    let record-code = c .before .before .before .before .before .before .before .record-code in
+    let if1 = c .before .before .before .before .before .before .if1 in
+    let write-answer = c .before .before .write-answer in (
+      run-written _ _ (record-code .ensures)
+          (if1 .left) (run .0) (write-answer .ensures),
       run .1,
     )
 

@@ -1,11 +1,11 @@
 -- `cells::cell::add_cell` meets its contract: label and previous number, where the cell fits.
-use Rattle.cells.proofs.Writing.{cell-written, cell-past}
+use Rattle.cells.proofs.Places.{cell-written, cell-past}
 use borrow.Author.Needs.{needs}
 use Rattle.cells.proofs.cell.add_cell.Statement.{statement}
 use Rattle.cells.proofs.cell.add_cell.Tie as tie
 use Rattle.cells.proofs.cell.add_cell.Reads as reads
 use Rattle.cells.proofs.cell.add_cell.Lts as lts
-use Rattle.cells.proofs.bytes.set_word.Reads as set-word-reads
+use Rattle.cells.proofs.cell.set_word.Reads as set-word-reads
 
 mul-set-word : tie.Need-mul-set-word
 mul-set-word c = search needs
@@ -27,8 +27,11 @@ same-length c = search needs
 
 returns : tie.Need-returns
 returns c =
-    cell-written _ _ _ _ _ _ (c .before .before .before .before .before .before .before .before .if1 .taken)
-    (c .before .before .before .before .before .before .set-word .ensures) (c .before .before .set-word2 .ensures)
+    let if1 = c .before .before .before .before .before .before .before .before .if1 in
+    let set-word = c .before .before .before .before .before .before .set-word in
+    let set-word2 = c .before .before .set-word2 in
+    cell-written _ _ _ (if1 .taken)
+    (set-word .ensures) (set-word2 .ensures)
 
 returns-2 : tie.Need-returns-2
 returns-2 c = cell-past _ _ _ _ (c .if1 .left)

@@ -48,7 +48,7 @@ returns c =
     let wide = c .before .before .before .before .before .before .before .before .before .wide in
     let if1 = c .before .before .before .before .before .before .before .before .if1 in
     let field-of = c .before .before .before .before .field-of in
-    cell-by-bytes _ _ _ _ _ _ (wide .ensures .0) (if1 .taken) (field-of .ensures) (c .before .field-of2 .ensures) (c .pair-of .ensures)
+    cell-by-bytes _ _ (wide .ensures .0) (if1 .taken) (field-of .ensures) (c .before .field-of2 .ensures) (c .pair-of .ensures)
 
 wide-requires-2 : tie.Need-wide-requires-2
 wide-requires-2 c κs = search needs
@@ -70,7 +70,7 @@ returns-2 c =
     let wide2 = c .before .before .before .before .wide2 in
     let label-at = c .before .before .before .label-at in
     let wide3 = c .before .before .wide3 in
-    cell-by-fields _ _ _ _ _ _ _ (wide2 .ensures .0) (wide3 .ensures .0) (label-at .ensures) (c .before .previous-at .ensures) (c .pair-of2 .ensures)
+    cell-by-fields _ _ (wide2 .ensures .0) (wide3 .ensures .0) (label-at .ensures) (c .before .previous-at .ensures) (c .pair-of2 .ensures)
 
 pub cell-at-spec : {M : Type 1} → statement M
 cell-at-spec =

@@ -1,4 +1,5 @@
--- `cells::listing::count_labels` meets its contract. The invariant: the labels counted and those of the walk from `at` are all; the measure is the cell's number, since each previous number is smaller.
+-- `cells::listing::count_labels` meets its contract. The invariant: the labels counted and those of the walk
+-- from `at` are all; the measure is the cell's number, since each previous number is smaller.
 use borrow.Author.Needs.{needs}
 use Rattle.cells.proofs.Walks.{CountedSo, count-none, counted-beyond, counted-back, count-more, counted-all}
 use Rattle.cells.proofs.listing.count_labels.Statement.{statement}
@@ -16,7 +17,7 @@ loop-holds c = count-none _ _
 returns : tie.Need-returns Inv-loop μ-loop
 returns c =
     let loop = c .before .before .loop in
-    counted-beyond _ _ _ _ _ (loop .inv) (c .before .loop-test .taken) (c .if1 .taken)
+    counted-beyond (loop .inv) (c .before .loop-test .taken) (c .if1 .taken)
 
 previous-at-requires : tie.Need-previous-at-requires Inv-loop μ-loop
 previous-at-requires c κs = search needs
@@ -29,7 +30,7 @@ returns-2 c =
     let loop = c .before .before .before .before .before .loop in
     let loop-test = c .before .before .before .before .loop-test in
     let previous-at = c .before .before .previous-at in
-    counted-back _ _ _ _ _ (loop .inv) _ _ (loop-test .taken) (previous-at .ensures) (c .before .wide .ensures .0) (c .if2 .taken)
+    counted-back (loop .inv) (loop-test .taken) (previous-at .ensures) (c .before .wide .ensures .0) (c .if2 .taken)
 
 add-n : tie.Need-add-n Inv-loop μ-loop
 add-n c = search needs
@@ -43,10 +44,10 @@ loop-again c =
     let loop-test = c .before .before .before .before .loop-test in
     let if1 = c .before .before .before .if1 in
     let previous-at = c .before .before .previous-at in
-    count-more _ _ _ _ _ (loop .inv) _ _ (loop-test .taken) (if1 .left) (previous-at .ensures) (c .before .wide .ensures .0) (c .if2 .left)
+    count-more (loop .inv) (loop-test .taken) (if1 .left) (previous-at .ensures) (c .before .wide .ensures .0) (c .if2 .left)
 
 returns-3 : tie.Need-returns-3 Inv-loop μ-loop
-returns-3 c = counted-all _ _ _ _ _ (c .before .loop .inv) (c .loop-test .left)
+returns-3 c = counted-all (c .before .loop .inv) (c .loop-test .left)
 
 pub count-labels-spec : {M : Type 1} → statement M
 count-labels-spec =

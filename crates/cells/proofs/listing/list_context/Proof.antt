@@ -16,19 +16,19 @@ enum-told c = search needs
 returns : tie.Need-returns
 returns c =
     let count-labels = c .before .before .count-labels in
-    walk-refused _ _ _ _ _ _ (count-labels .ensures) (c .enum-told .given .1)
+    walk-refused (count-labels .ensures) (c .enum-told .given .1)
 
 returns-2 : tie.Need-returns-2
 returns-2 c =
     let count-labels = c .before .before .before .before .count-labels in
     let counted = c .before .before .counted in
-    output-short _ _ _ _ _ (count-labels .ensures) (counted .given .1) (c .if1 .taken)
+    output-short (count-labels .ensures) (counted .given .1) (c .if1 .taken)
 
 write-labels-requires : tie.Need-write-labels-requires
 write-labels-requires c κs =
     let count-labels = c .before .before .before .before .before .count-labels in
     let counted = c .before .before .before .counted in
-    listable _ _ _ _ _ (count-labels .ensures) (counted .given .1) (c .before .if1 .left)
+    listable (count-labels .ensures) (counted .given .1) (c .before .if1 .left)
 
 same-length : tie.Need-same-length
 same-length c = search needs
@@ -39,7 +39,7 @@ returns-3 c =
     let counted = c .before .before .before .before .before .before .counted in
     let if1 = c .before .before .before .before .if1 in
     let write-labels = c .before .before .write-labels in
-    listed-whole _ _ _ _ _ _ (count-labels .ensures) (counted .given .1) (if1 .left) (write-labels .ensures)
+    listed-whole (count-labels .ensures) (counted .given .1) (if1 .left) (write-labels .ensures)
 
 pub list-context-spec : {M : Type 1} → statement M
 list-context-spec =

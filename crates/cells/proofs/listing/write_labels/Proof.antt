@@ -14,7 +14,7 @@ abbrev μ-loop : tie.MeasureT-loop
 loop-holds : tie.Need-loop-holds Inv-loop μ-loop
 loop-holds c =
     let pre = c .before .before .pre in
-    write-none _ _ _ _ _ (pre)
+    write-none (pre)
 
 mul-put-word : tie.Need-mul-put-word Inv-loop μ-loop
 mul-put-word c = search needs
@@ -43,13 +43,13 @@ loop-again c =
     let loop-test = c .before .before .before .before .before .before .before .loop-test in
     let label-at = c .before .before .before .before .before .label-at in
     let put-word = c .before .before .before .before .put-word in
-    write-more _ _ _ _ _ _ _ (loop .inv) _ _ _ _ (loop-test .taken) (label-at .ensures) (c .before .previous-at .ensures) (c .wide .ensures .0) (put-word .ensures)
+    write-more (loop .inv) (loop-test .taken) (label-at .ensures) (c .before .previous-at .ensures) (c .wide .ensures .0) (put-word .ensures)
 
 same-length : tie.Need-same-length Inv-loop μ-loop
 same-length c = search needs
 
 returns : tie.Need-returns Inv-loop μ-loop
-returns c = written-all _ _ _ _ _ _ _ (c .before .loop .inv) (c .loop-test .left)
+returns c = written-all (c .before .loop .inv) (c .loop-test .left)
 
 pub write-labels-spec : {M : Type 1} → statement M
 write-labels-spec =

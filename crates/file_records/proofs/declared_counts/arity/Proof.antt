@@ -16,7 +16,7 @@ field-requires c κs = search needs
 returns : tie.Need-returns
 returns c =
     let first-item = c .before .before .first-item in
-    shown-field _ _ _ _ _ _ _ (first-item .ensures .0) (c .before .indexed-from .ensures) (c .field .ensures)
+    shown-field _ _ _ (first-item .ensures .0) (c .before .indexed-from .ensures) (c .field .ensures)
 
 pub arity-spec : {M : Type 1} → statement M
 arity-spec = tie.close (tie.spec first-item-requires indexed-from-requires field-requires returns)

@@ -16,7 +16,7 @@ field-requires c κs = search needs
 returns : tie.Need-returns
 returns c =
     let first-function = c .before .before .first-function in
-    shown-field _ _ _ _ _ _ _ (first-function .ensures .0) (c .before .indexed-from .ensures) (c .field .ensures)
+    shown-field _ _ _ (first-function .ensures .0) (c .before .indexed-from .ensures) (c .field .ensures)
 
 pub parameters-spec : {M : Type 1} → statement M
 parameters-spec =

@@ -12,12 +12,12 @@ every-other-requires c κs = search needs
 mul-field-inside : tie.Need-mul-field-inside
 mul-field-inside c =
     let pre = c .before .before .before .pre in
-    omega (arith, field-room _ _ (room-other _ _ _ (pre .0) (pre .1) _ (c .before .every-other .ensures) (c .if1 .taken)))
+    omega (arith, field-room _ _ (room-other _ (pre .0) (pre .1) (c .before .every-other .ensures) (c .if1 .taken)))
 
 field-inside-requires : tie.Need-field-inside-requires
 field-inside-requires c κs =
     let pre = c .before .before .before .pre in
-    omega (arith, room-other _ _ _ (pre .0) (pre .1) _ (c .before .every-other .ensures) (c .if1 .taken))
+    omega (arith, room-other _ (pre .0) (pre .1) (c .before .every-other .ensures) (c .if1 .taken))
 
 returns : tie.Need-returns
 returns c =
@@ -33,7 +33,7 @@ field-inside-requires-2 c κs =
     let pre = c .before .before .before .before .before .pre in
     let every-other = c .before .before .before .every-other in
     let if1 = c .before .before .if1 in
-    room-first _ _ _ (pre .0) (pre .1) _ (every-other .ensures) (if1 .left) _ (c .before .from-first .ensures) (c .if2 .taken)
+    room-first _ (pre .0) (pre .1) (every-other .ensures) (if1 .left) (c .before .from-first .ensures) (c .if2 .taken)
 
 returns-2 : tie.Need-returns-2
 returns-2 c =
@@ -48,14 +48,14 @@ add-field-inside c =
     let pre = c .before .before .before .before .before .pre in
     let every-other = c .before .before .before .every-other in
     let if1 = c .before .before .if1 in
-    omega (arith, field-room _ _ (room-second _ _ _ (pre .0) (pre .1) _ (every-other .ensures) (if1 .left) _ (c .before .from-first .ensures) (c .if2 .left)))
+    omega (arith, field-room _ _ (room-second _ (pre .0) (pre .1) (every-other .ensures) (if1 .left) (c .before .from-first .ensures) (c .if2 .left)))
 
 field-inside-requires-3 : tie.Need-field-inside-requires-3
 field-inside-requires-3 c κs =
     let pre = c .before .before .before .before .before .pre in
     let every-other = c .before .before .before .every-other in
     let if1 = c .before .before .if1 in
-    omega (arith, room-second _ _ _ (pre .0) (pre .1) _ (every-other .ensures) (if1 .left) _ (c .before .from-first .ensures) (c .if2 .left))
+    omega (arith, room-second _ (pre .0) (pre .1) (every-other .ensures) (if1 .left) (c .before .from-first .ensures) (c .if2 .left))
 
 returns-3 : tie.Need-returns-3
 returns-3 c =

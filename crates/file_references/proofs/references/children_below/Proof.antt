@@ -18,7 +18,7 @@ returns : tie.Need-returns
 returns c =
     let kind = c .before .before .before .kind in
     let every-other = c .before .before .every-other in
-    below-other _ _ _ (kind .ensures) _ _ (every-other .ensures) (c .before .if1 .taken) (c .other-fields-below .ensures)
+    below-other _ _ (kind .ensures) _ (every-other .ensures) (c .before .if1 .taken) (c .other-fields-below .ensures)
 
 from-first-requires : tie.Need-from-first-requires
 from-first-requires c κs = search needs
@@ -32,7 +32,7 @@ returns-2 c =
     let every-other = c .before .before .before .before .every-other in
     let if1 = c .before .before .before .if1 in
     let from-first = c .before .before .from-first in
-    below-first _ _ _ (kind .ensures) _ _ (every-other .ensures) (if1 .left) _ (from-first .ensures) (c .before .if2 .taken) (c .fields-below .ensures)
+    below-first _ _ (kind .ensures) _ (every-other .ensures) (if1 .left) (from-first .ensures) (c .before .if2 .taken) (c .fields-below .ensures)
 
 from-second-requires : tie.Need-from-second-requires
 from-second-requires c κs = search needs
@@ -48,7 +48,7 @@ returns-3 c =
     let from-first = c .before .before .before .before .from-first in
     let if2 = c .before .before .before .if2 in
     let from-second = c .before .before .from-second in
-    below-second _ _ _ (kind .ensures) _ _ (every-other .ensures) (if1 .left) _ (from-first .ensures) (if2 .left) _ (from-second .ensures)
+    below-second _ _ (kind .ensures) _ (every-other .ensures) (if1 .left) (from-first .ensures) (if2 .left) (from-second .ensures)
     (c .before .if3 .taken) (c .fields-below2 .ensures)
 
 returns-4 : tie.Need-returns-4
@@ -58,7 +58,7 @@ returns-4 c =
     let if1 = c .before .before .before .before .if1 in
     let from-first = c .before .before .before .from-first in
     let if2 = c .before .before .if2 in
-    below-none _ _ _ (kind .ensures) true _ (every-other .ensures) (if1 .left) _ (from-first .ensures) (if2 .left) _ (c .before .from-second .ensures) (c .if3 .left)
+    below-none _ _ (kind .ensures) true (every-other .ensures) (if1 .left) (from-first .ensures) (if2 .left) (c .before .from-second .ensures) (c .if3 .left)
 
 pub children-below-spec : {M : Type 1} → statement M
 children-below-spec =

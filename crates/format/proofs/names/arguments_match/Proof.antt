@@ -43,7 +43,7 @@ returns-2 c =
     let argument-count = c .before .before .before .before .argument-count in
     let field2 = c .before .before .before .field2 in
     let wide = c .before .before .wide in
-    match-call _ _ _ _ (first-function .ensures .0) (if1 .left) _ (kind .ensures) _ _ _ (if2 .taken) (argument-count .ensures)
+    match-call _ _ _ _ (first-function .ensures .0) (if1 .left) _ (kind .ensures) (if2 .taken) (argument-count .ensures)
     (wide .ensures .0 ∙ field2 .ensures)
     (c .wide2 .ensures .0 ∙ opened-parameters _ _ _ _ (pre .0)
     (callee-below _ _ _ _ _ (kind .ensures) (wide .ensures .0 ∙ field2 .ensures) (pre .1) (if2 .taken)) (c .before .parameters .ensures))
@@ -73,9 +73,9 @@ returns-3 c =
     let argument-count2 = c .before .before .before .before .argument-count2 in
     let field3 = c .before .before .before .field3 in
     let wide3 = c .before .before .wide3 in
-    match-build _ _ _ _ (first-function .ensures .0) (if1 .left) _ (kind .ensures) _ _ _ (if3 .taken) (argument-count2 .ensures)
+    match-build _ _ _ _ (first-function .ensures .0) (if1 .left) _ (kind .ensures) (if3 .taken) (argument-count2 .ensures)
     (wide3 .ensures .0 ∙ field3 .ensures)
-    (c .wide4 .ensures .0 ∙ opened-arity _ _ _ _ (pre .0)
+    (c .wide4 .ensures .0 ∙ opened-arity (pre .0)
     (constructor-below _ _ _ _ _ (kind .ensures) (wide3 .ensures .0 ∙ field3 .ensures) (pre .1) (if3 .taken)) (c .before .arity .ensures))
 
 returns-4 : tie.Need-returns-4

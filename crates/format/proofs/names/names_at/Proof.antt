@@ -26,8 +26,8 @@ returns c =
     let indexed = c .before .before .before .before .indexed in
     let nodes = c .before .before .before .nodes in
     let wide = c .before .before .wide in
-    out-of-range _ _ (children-out _ _ _ _ (opened-record _ _ _ _ _ (pre .file) (pre .below) (indexed .ensures))
-    (wide .ensures .0 ∙ nodes .ensures) _ (c .before .children-below .ensures) (not-true _ (c .if1 .taken)))
+    out-of-range _ _ (children-out _ _ (opened-record _ _ _ _ _ (pre .file) (pre .below) (indexed .ensures))
+    (wide .ensures .0 ∙ nodes .ensures) (c .before .children-below .ensures) (not-true _ (c .if1 .taken)))
 
 names-in-range-requires : tie.Need-names-in-range-requires
 names-in-range-requires c κs =
@@ -43,8 +43,8 @@ returns-2 c =
     let wide = c .before .before .before .before .wide in
     let children-below = c .before .before .before .children-below in
     let if1 = c .before .before .if1 in
-    out-of-range _ _ (names-out _ _ _ _ (opened-record _ _ _ _ _ (pre .file) (pre .below) (indexed .ensures)) (wide .ensures .0 ∙ nodes .ensures) _
-    (children-below .ensures) (not-false _ (if1 .left)) _ (c .before .names-in-range .ensures) (not-true _ (c .if2 .taken)))
+    out-of-range _ _ (names-out _ _ (opened-record _ _ _ _ _ (pre .file) (pre .below) (indexed .ensures)) (wide .ensures .0 ∙ nodes .ensures)
+    (children-below .ensures) (not-false _ (if1 .left)) (c .before .names-in-range .ensures) (not-true _ (c .if2 .taken)))
 
 arguments-match-requires : tie.Need-arguments-match-requires
 arguments-match-requires c κs =
@@ -63,8 +63,8 @@ returns-3 c =
     let if2 = c .before .before .if2 in
     let own = opened-record _ _ _ _ _ (pre .file) (pre .below) (indexed .ensures) in
     mismatched _ _ _ own
-    (all-in _ _ _ _ own (wide .ensures .0 ∙ nodes .ensures) _
-    (children-below .ensures) (not-false _ (if1 .left)) _ (names-in-range .ensures) (not-false _ (if2 .left))) _
+    (all-in _ _ own (wide .ensures .0 ∙ nodes .ensures)
+    (children-below .ensures) (not-false _ (if1 .left)) (names-in-range .ensures) (not-false _ (if2 .left))) _
     (c .before .arguments-match .ensures) (not-true _ (c .if3 .taken))
 
 returns-4 : tie.Need-returns-4
@@ -79,8 +79,8 @@ returns-4 c =
     let if2 = c .before .before .if2 in
     let own = opened-record _ _ _ _ _ (pre .file) (pre .below) (indexed .ensures) in
     matched _ _ _ own
-    (all-in _ _ _ _ own (wide .ensures .0 ∙ nodes .ensures) _
-    (children-below .ensures) (not-false _ (if1 .left)) _ (names-in-range .ensures) (not-false _ (if2 .left))) _
+    (all-in _ _ own (wide .ensures .0 ∙ nodes .ensures)
+    (children-below .ensures) (not-false _ (if1 .left)) (names-in-range .ensures) (not-false _ (if2 .left))) _
     (c .before .arguments-match .ensures) (not-false _ (c .if3 .left))
 
 pub names-at-spec : {M : Type 1} → statement M

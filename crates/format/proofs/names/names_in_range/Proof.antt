@@ -59,7 +59,7 @@ returns-6 c =
     let if1 = c .before .before .before .before .if1 in
     let if2 = c .before .before .before .if2 in
     let if3 = c .before .before .if3 in
-    names-sheet-none _ _ _ _ (kind .ensures) (numbered-sheet-kind _ _ _ _ (pre .0 .file) (pre .0 .below) (pre .1)) (if1 .left) (if2 .left)
+    names-sheet-none _ _ _ _ (kind .ensures) (numbered-sheet-kind (pre .0 .file) (pre .0 .below) (pre .1)) (if1 .left) (if2 .left)
     (if3 .left) (c .before .if4 .left) (c .if5 .left)
 
 pub names-in-range-spec : {M : Type 1} → statement M

@@ -20,7 +20,7 @@ parameters-requires c κs = search needs
 element-copy-out-wide8-2 : tie.Need-element-copy-out-wide8-2
 element-copy-out-wide8-2 c =
     let pre = c .before .before .before .pre in
-    node-narrow _ _ _ _ (pre) _ (c .before .first-node .ensures .0)
+    node-narrow (pre) (c .before .first-node .ensures .0)
 
 wide8-requires-2 : tie.Need-wide8-requires-2
 wide8-requires-2 c κs = search needs
@@ -31,12 +31,12 @@ parameters-requires-2 c κs = search needs
 returns : tie.Need-returns
 returns c =
     let pre = c .before .before .before .before .before .before .pre in
-    owner-parameters _ _ _ _ (pre) 0 _ (omega arith) (c .before .wide8 .ensures .0) _ (c .parameters .ensures)
+    owner-parameters (pre) 0 (omega arith) (c .before .wide8 .ensures .0) (c .parameters .ensures)
 
 returns-2 : tie.Need-returns-2
 returns-2 c =
     let pre = c .before .before .before .before .before .before .pre in
-    owner-parameters _ _ _ _ (pre) _ _ (omega arith) (c .before .wide82 .ensures .0) _ (c .parameters2 .ensures)
+    owner-parameters (pre) _ (omega arith) (c .before .wide82 .ensures .0) (c .parameters2 .ensures)
 
 pub owner-parameters-spec : {M : Type 1} → statement M
 owner-parameters-spec =

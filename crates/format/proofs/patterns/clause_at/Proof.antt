@@ -11,7 +11,7 @@ is-body-requires c κs = c .before .pre .0
 returns : tie.Need-returns
 returns c =
     let pre = c .before .before .before .pre in
-    body-entry _ _ _ _ _ _ (pre .0) (pre .1) (pre .2) _ (c .before .is-body .ensures) (c .if1 .taken)
+    body-entry (pre .0) (pre .1) (pre .2) (c .before .is-body .ensures) (c .if1 .taken)
 
 mul-wide : tie.Need-mul-wide
 mul-wide c = search needs
@@ -19,7 +19,7 @@ mul-wide c = search needs
 element-copy-out-wide : tie.Need-element-copy-out-wide
 element-copy-out-wide c =
     let pre = c .before .before .before .pre in
-    node-in-table _ _ _ _ _ (pre .0)
+    node-in-table (pre .0)
 
 wide-requires : tie.Need-wide-requires
 wide-requires c κs = search needs
@@ -48,8 +48,8 @@ returns-2 c =
     let first-node = c .before .before .before .before .first-node in
     let indexed = c .before .before .before .indexed in
     let kind = c .before .before .kind in
-    clause-entry _ _ _ _ _ _ (pre .0) (pre .1) (pre .2) _ (is-body .ensures) (if1 .left) _ (wide .ensures .0) _ (first-node .ensures .0) _
-    (indexed .ensures) _ (kind .ensures) _ (c .before .if2 .taken) (c .clause-of .ensures)
+    clause-entry (pre .0) (pre .1) (pre .2) (is-body .ensures) (if1 .left) (wide .ensures .0) (first-node .ensures .0)
+    (indexed .ensures) (kind .ensures) (c .before .if2 .taken) (c .clause-of .ensures)
 
 mul-result : tie.Need-mul-result
 mul-result c = search needs
@@ -60,7 +60,7 @@ element-copy-out-result c =
     let is-body = c .before .before .before .before .before .before .before .is-body in
     let if1 = c .before .before .before .before .before .before .if1 in
     let wide = c .before .before .before .before .wide in
-    parent-in-table _ _ _ _ _ _ (pre .0) (pre .1) (pre .2) _ (is-body .ensures) (if1 .left) _ (wide .ensures .0)
+    parent-in-table (pre .0) (pre .1) (pre .2) (is-body .ensures) (if1 .left) (wide .ensures .0)
 
 returns-3 : tie.Need-returns-3
 returns-3 c =
@@ -71,8 +71,8 @@ returns-3 c =
     let first-node = c .before .before .before .before .first-node in
     let indexed = c .before .before .before .indexed in
     let kind = c .before .before .kind in
-    parent-entry _ _ _ _ _ _ (pre .0) (pre .1) (pre .2) _ (is-body .ensures) (if1 .left) _ (wide .ensures .0) _ (first-node .ensures .0) _
-    (indexed .ensures) _ (kind .ensures) _ (pre .3) (c .before .if2 .left)
+    parent-entry (pre .0) (pre .1) (pre .2) (is-body .ensures) (if1 .left) (wide .ensures .0) (first-node .ensures .0)
+    (indexed .ensures) (kind .ensures) (pre .3) (c .before .if2 .left)
 
 pub clause-at-spec : {M : Type 1} → statement M
 clause-at-spec =

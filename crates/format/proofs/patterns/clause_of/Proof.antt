@@ -16,7 +16,7 @@ clauses-requires : tie.Need-clauses-requires Inv-loop μ-loop
 clauses-requires c κs = search needs
 
 loop-holds : tie.Need-loop-holds Inv-loop μ-loop
-loop-holds c = clause-left-all _ _ _ (c .clauses .ensures)
+loop-holds c = clause-left-all (c .clauses .ensures)
 
 child-requires : tie.Need-child-requires Inv-loop μ-loop
 child-requires c κs = search needs
@@ -42,7 +42,7 @@ returns c =
     let loop-test = c .before .before .before .before .loop-test in
     let child = c .before .before .before .child in
     let wide = c .before .before .wide in
-    clause-found _ _ _ _ _ (loop .inv) (loop-test .taken) (wide .ensures .0 ∙ child .ensures) (c .before .if1 .taken) (c .clause-constructor .ensures)
+    clause-found (loop .inv) (loop-test .taken) (wide .ensures .0 ∙ child .ensures) (c .before .if1 .taken) (c .clause-constructor .ensures)
 
 sub-j : tie.Need-sub-j Inv-loop μ-loop
 sub-j c = search needs
@@ -55,10 +55,10 @@ loop-again c =
     let loop = c .before .before .before .before .loop in
     let loop-test = c .before .before .before .loop-test in
     let child = c .before .before .child in
-    clause-left-fewer _ _ _ _ (loop .inv) (loop-test .taken) (c .before .wide .ensures .0 ∙ child .ensures) (c .if1 .left)
+    clause-left-fewer (loop .inv) (loop-test .taken) (c .before .wide .ensures .0 ∙ child .ensures) (c .if1 .left)
 
 returns-2 : tie.Need-returns-2 Inv-loop μ-loop
-returns-2 c = clause-not-found _ _ _ (c .before .loop .inv) (c .loop-test .left)
+returns-2 c = clause-not-found (c .before .loop .inv) (c .loop-test .left)
 
 pub clause-of-spec : {M : Type 1} → statement M
 clause-of-spec =

@@ -1,5 +1,5 @@
 -- `format::patterns::fill_clauses` meets its contract. The loop's invariant: the entries from node k on are right.
-use Rattle.format.proofs.PatternSteps.{Filling, filling-begins, filling-node, filling-from, filling-goes-on, filling-done}
+use Rattle.format.proofs.PatternSteps.{FillingClauses, filling-begins, filling-node, filling-from, filling-goes-on, filling-done}
 use native.Mathlib.Omega.{arith}
 use mathlib.Core.Path.{_∙_}
 use borrow.Author.Needs.{needs}
@@ -7,7 +7,7 @@ use Rattle.format.proofs.patterns.fill_clauses.Statement.{statement}
 use Rattle.format.proofs.patterns.fill_clauses.Tie as tie
 
 abbrev Inv-loop : tie.InvT-loop
-Inv-loop b starts ends owners parents held₀ k₀ held k = Filling b starts ends owners parents held k
+Inv-loop b starts ends owners parents held₀ k₀ held k = FillingClauses b starts ends owners parents held k
 
 abbrev μ-loop : tie.MeasureT-loop
 μ-loop b starts ends owners parents held₀ k₀ held k = k
@@ -21,7 +21,7 @@ wide-requires c κs = search needs
 loop-holds : tie.Need-loop-holds Inv-loop μ-loop
 loop-holds c =
     let pre = c .before .before .before .pre in
-    filling-begins _ _ _ _ _ _ _ (pre .0) (pre .1) (c .wide .ensures .0 ∙ c .before .nodes .ensures)
+    filling-begins (pre .0) (pre .1) (c .wide .ensures .0 ∙ c .before .nodes .ensures)
 
 sub-k : tie.Need-sub-k Inv-loop μ-loop
 sub-k c = search needs
@@ -30,10 +30,10 @@ clause-at-requires : tie.Need-clause-at-requires Inv-loop μ-loop
 clause-at-requires c κs =
     let loop = c .before .before .loop in
     let loop-test = c .before .loop-test in (
-      filling-node _ _ _ _ _ _ _ (loop .inv) (loop-test .taken),
+      filling-node (loop .inv) (loop-test .taken),
       loop .inv .ruled .parentsRight,
       loop .inv .ruled .checks,
-      filling-from _ _ _ _ _ _ _
+      filling-from
           (loop .inv) (loop-test .taken),
     )
 
@@ -55,10 +55,10 @@ loop-again : tie.Need-loop-again Inv-loop μ-loop
 loop-again c =
     let loop = c .before .before .before .loop in
     let loop-test = c .before .before .loop-test in
-    filling-goes-on _ _ _ _ _ _ _ (loop .inv) (loop-test .taken) _ (c .clause-at .ensures)
+    filling-goes-on (loop .inv) (loop-test .taken) (c .clause-at .ensures)
 
 returns : tie.Need-returns Inv-loop μ-loop
-returns c = filling-done _ _ _ _ _ _ _ (c .before .loop .inv) (c .loop-test .left)
+returns c = filling-done (c .before .loop .inv) (c .loop-test .left)
 
 pub fill-clauses-spec : {M : Type 1} → statement M
 fill-clauses-spec =

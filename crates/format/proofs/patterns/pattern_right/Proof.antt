@@ -24,7 +24,7 @@ returns c =
     let pre = c .before .before .before .before .before .pre in
     let first-node = c .before .before .before .first-node in
     let indexed = c .before .before .indexed in
-    pattern-other _ _ _ _ (pre .0) (pre .1) (pre .2) (pre .3) _ (first-node .ensures .0) _ (indexed .ensures) _ (c .before .kind .ensures) (c .if1 .taken)
+    pattern-other (pre .0) (pre .1) (pre .2) (pre .3) (first-node .ensures .0) (indexed .ensures) (c .before .kind .ensures) (c .if1 .taken)
 
 mul-h : tie.Need-mul-h
 mul-h c = search needs
@@ -32,7 +32,7 @@ mul-h c = search needs
 element-copy-out-h : tie.Need-element-copy-out-h
 element-copy-out-h c =
     let pre = c .before .before .before .before .before .pre in
-    entry-in-table _ _ _ _ (pre .0) (pre .1) (pre .2) (pre .3)
+    entry-in-table (pre .0) (pre .1) (pre .2) (pre .3)
 
 returns-2 : tie.Need-returns-2
 returns-2 c =
@@ -41,7 +41,7 @@ returns-2 c =
     let indexed = c .before .before .before .before .indexed in
     let kind = c .before .before .before .kind in
     let if1 = c .before .before .if1 in
-    pattern-outside _ _ _ _ (pre .0) (pre .1) (pre .2) (pre .3) _ (first-node .ensures .0) _ (indexed .ensures) _ (kind .ensures) (if1 .left) _ refl (c .if2 .taken)
+    pattern-outside (pre .0) (pre .1) (pre .2) (pre .3) (first-node .ensures .0) (indexed .ensures) (kind .ensures) (if1 .left) refl (c .if2 .taken)
 
 field-requires : tie.Need-field-requires
 field-requires c κs = search needs
@@ -72,10 +72,10 @@ returns-3 c =
     let field = c .before .before .before .before .field in
     let wide = c .before .before .before .wide in
     let wide32 = c .before .before .wide32 in
-    pattern-held _ _ _ _ (pre .0) (pre .1) (pre .2) (pre .3) _ (first-node .ensures .0) _ (indexed .ensures) _ (kind .ensures) (if1 .left) _
-    (wide32 .ensures .0) _ _ (omega (arith, wide32 .ensures .0, if2 .left)) (wide .ensures .0 ∙ field .ensures)
-    (c .wide2 .ensures .0 ∙ opened-arity _ _ _ _ (pre .0)
-    (constructor-there _ _ _ _ (pre .0) (pre .1) (pre .2) (pre .3) _ (wide32 .ensures .0) (omega (arith, wide32 .ensures .0, if2 .left)))
+    pattern-held (pre .0) (pre .1) (pre .2) (pre .3) (first-node .ensures .0) (indexed .ensures) (kind .ensures) (if1 .left)
+    (wide32 .ensures .0) (omega (arith, wide32 .ensures .0, if2 .left)) (wide .ensures .0 ∙ field .ensures)
+    (c .wide2 .ensures .0 ∙ opened-arity (pre .0)
+    (constructor-there (pre .0) (pre .1) (pre .2) (pre .3) _ (wide32 .ensures .0) (omega (arith, wide32 .ensures .0, if2 .left)))
     (c .before .arity .ensures))
 
 pub pattern-right-spec : {M : Type 1} → statement M

@@ -64,7 +64,7 @@ returns : tie.Need-returns Inv-loop μ-loop
 returns c =
     let loop = c .before .before .before .before .loop in
     let loop-test = c .before .before .before .loop-test in
-    ruling-refused _ _ _ _ _ _ _ _ (loop .inv .0) _ _ (loop-test .taken)
+    ruling-refused (loop .inv .0) (loop-test .taken)
     (pattern-refused _ _ _ _ (loop .inv .0 .start) (c .before .pattern-right .ensures) (not-true _ (c .if1 .taken)))
 
 add-k : tie.Need-add-k Inv-loop μ-loop
@@ -77,14 +77,14 @@ loop-again : tie.Need-loop-again Inv-loop μ-loop
 loop-again c =
     let loop = c .before .before .before .before .loop in
     let loop-test = c .before .before .before .loop-test in (
-      ruling-more _ _ _ _ _ _ _ _ (loop .inv .0) _ (loop-test .taken)
+      ruling-more (loop .inv .0) (loop-test .taken)
           (pattern-accepted _ _ _ (c .before .pattern-right .ensures) (not-false _ (c .if1 .left))) refl,
       loop .inv .1,
       loop .inv .2,
     )
 
 returns-2 : tie.Need-returns-2 Inv-loop μ-loop
-returns-2 c = ruling-done _ _ _ _ _ _ _ _ (c .before .loop .inv .0) (c .loop-test .left)
+returns-2 c = ruling-done (c .before .loop .inv .0) (c .loop-test .left)
 
 pub patterns-spec : {M : Type 1} → statement M
 patterns-spec =

@@ -20,7 +20,7 @@ returns : tie.Need-returns
 returns c = owner-next _ _ _ _ (c .before .wide .ensures .0) (c .if1 .taken)
 
 returns-2 : tie.Need-returns-2
-returns-2 c = owner-same _ _ _ _ (c .before .wide .ensures .0) (c .if1 .left)
+returns-2 c = owner-same _ (c .before .wide .ensures .0) (c .if1 .left)
 
 pub owner-after-spec : {M : Type 1} → statement M
 owner-after-spec =

@@ -1,5 +1,5 @@
 -- `format::runs::run_ends` meets its contract. The loop's invariant: the ends of the runs passed are in the table, and the total is the last of them.
-use Rattle.format.proofs.RunTables.{Ending, ending-begins, next-fits, ending-goes-on, ending-done}
+use Rattle.format.proofs.RunTables.{FillingEnds, ending-begins, next-fits, ending-goes-on, ending-done}
 use Rattle.file_records.proofs.Indices.{indexed-field}
 use native.Mathlib.Omega.{arith}
 use mathlib.Core.Path.{_∙_}
@@ -9,7 +9,7 @@ use Rattle.format.proofs.runs.run_ends.Statement.{statement}
 use Rattle.format.proofs.runs.run_ends.Tie as tie
 
 abbrev Inv-loop : tie.InvT-loop
-Inv-loop b starts ends₀ first count j total₀ f₀ ends total f = Ending b starts first count j ends total f
+Inv-loop b starts ends₀ first count j total₀ f₀ ends total f = FillingEnds b starts first count j ends total f
 
 abbrev μ-loop : tie.MeasureT-loop
 μ-loop b starts ends₀ first count j total₀ f₀ ends total f = count - f
@@ -30,7 +30,7 @@ loop-holds : tie.Need-loop-holds Inv-loop μ-loop
 loop-holds c =
     let pre = c .before .before .before .before .pre in
     let first-function = c .before .before .first-function in
-    ending-begins _ _ _ _ _ _ _ (pre .0) (first-function .ensures .0) (c .before .functions .ensures) (c .count-field .ensures) (pre .1)
+    ending-begins (pre .0) (first-function .ensures .0) (c .before .functions .ensures) (c .count-field .ensures) (pre .1)
 
 add-indexed : tie.Need-add-indexed Inv-loop μ-loop
 add-indexed c = search needs
@@ -56,7 +56,7 @@ cast-ends c =
     record {
       fits = omega (
         arith,
-        next-fits _ _ _ _ _ _ _ _ (loop .inv) (wide .result) (loop-test .taken)
+        next-fits (loop .inv) (wide .result) (loop-test .taken)
             (wide .ensures .0 ∙ indexed-field _ _ _ _ _ _ _ (loop .inv .index) (omega arith) (indexed .ensures) (c .before .field .ensures)),
       );
     }
@@ -79,7 +79,7 @@ loop-again c =
     let loop-test = c .before .before .before .loop-test in
     let indexed = c .before .before .indexed in
     let wide = c .wide in
-    ending-goes-on _ _ _ _ _ _ _ _ (loop .inv) (wide .result) (loop-test .taken)
+    ending-goes-on (loop .inv) (wide .result) (loop-test .taken)
     (wide .ensures .0 ∙ indexed-field _ _ _ _ _ _ _ (loop .inv .index) (omega arith) (indexed .ensures) (c .before .field .ensures))
 
 returns : tie.Need-returns Inv-loop μ-loop
@@ -87,7 +87,7 @@ returns c =
     let first-function = c .before .before .before .before .first-function in
     let functions = c .before .before .before .functions in
     let count-field = c .before .before .count-field in
-    ending-done _ _ _ _ _ _ _ _ (c .before .loop .inv) _ (first-function .ensures .0) (functions .ensures) (count-field .ensures) (c .loop-test .left)
+    ending-done (c .before .loop .inv) (first-function .ensures .0) (functions .ensures) (count-field .ensures) (c .loop-test .left)
 
 pub run-ends-spec : {M : Type 1} → statement M
 run-ends-spec =

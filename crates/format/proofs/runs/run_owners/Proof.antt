@@ -21,7 +21,7 @@ cast-count c = search needs
 loop-holds : tie.Need-loop-holds Inv-loop μ-loop
 loop-holds c =
     let pre = c .before .before .pre in
-    owning-begins _ _ _ _ (pre .0) (pre .1) (c .nodes .ensures) (pre .2)
+    owning-begins (pre .0) (pre .1) (c .nodes .ensures) (pre .2)
 
 owner-after-requires : tie.Need-owner-after-requires Inv-loop μ-loop
 owner-after-requires c κs = search needs
@@ -30,7 +30,7 @@ cast-owners : tie.Need-cast-owners Inv-loop μ-loop
 cast-owners c =
     let loop = c .before .before .loop in
     let owner-after = c .owner-after in
-    record { fits = omega (arith, owner-small _ _ _ _ _ _ (loop .inv) (owner-after .result) (c .before .loop-test .taken) (owner-after .ensures)) }
+    record { fits = omega (arith, owner-small (loop .inv) (owner-after .result) (c .before .loop-test .taken) (owner-after .ensures)) }
 
 element-write-owners : tie.Need-element-write-owners Inv-loop μ-loop
 element-write-owners c = search needs
@@ -45,10 +45,10 @@ loop-again : tie.Need-loop-again Inv-loop μ-loop
 loop-again c =
     let loop = c .before .before .loop in
     let owner-after = c .owner-after in
-    owning-goes-on _ _ _ _ _ _ (loop .inv) (owner-after .result) (c .before .loop-test .taken) (owner-after .ensures)
+    owning-goes-on (loop .inv) (owner-after .result) (c .before .loop-test .taken) (owner-after .ensures)
 
 returns : tie.Need-returns Inv-loop μ-loop
-returns c = owning-done _ _ _ _ _ _ (c .before .loop .inv) (c .loop-test .left)
+returns c = owning-done (c .before .loop .inv) (c .loop-test .left)
 
 pub run-owners-spec : {M : Type 1} → statement M
 run-owners-spec =

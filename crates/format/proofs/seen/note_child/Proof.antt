@@ -8,10 +8,10 @@ note-requires : tie.Need-note-requires
 note-requires c κs = search needs
 
 returns : tie.Need-returns
-returns c = noted-inside _ _ _ _ _ _ (search needs) (c .note .ensures .0) (c .note .ensures .1)
+returns c = noted-inside (search needs) (c .note .ensures .0) (c .note .ensures .1)
 
 returns-2 : tie.Need-returns-2
-returns-2 c = noted-outside _ _ _ _ (c .if1 .left)
+returns-2 c = noted-outside (c .if1 .left)
 
 pub note-child-spec : {M : Type 1} → statement M
 note-child-spec = tie.close (tie.spec note-requires returns returns-2)

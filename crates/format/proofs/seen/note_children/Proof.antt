@@ -22,7 +22,7 @@ children-requires : tie.Need-children-requires Inv-loop μ-loop
 children-requires c κs = search needs
 
 loop-holds : tie.Need-loop-holds Inv-loop μ-loop
-loop-holds c = (search needs, c .children .ensures, noted-none _ _ _ _ (c .before .before .before .pre))
+loop-holds c = (search needs, c .children .ensures, noted-none (c .before .before .before .pre))
 
 child-inside-requires : tie.Need-child-inside-requires Inv-loop μ-loop
 child-inside-requires c κs =
@@ -46,12 +46,12 @@ loop-again c =
     let loop = c .before .before .before .before .before .before .loop in
     let child-inside = c .before .before .before .before .child-inside in
     let wide = c .before .before .before .wide in
-    (omega arith, loop .inv .1, noted-more _ _ _ _ _ _ _ (loop .inv .2) _ _ _ (wide .ensures .0 ∙ child-inside .ensures) (c .note-child .ensures))
+    (omega arith, loop .inv .1, noted-more (loop .inv .2) (wide .ensures .0 ∙ child-inside .ensures) (c .note-child .ensures))
 
 returns : tie.Need-returns Inv-loop μ-loop
 returns c =
     let loop = c .before .loop in
-    noted-all _ _ _ _ _ _ _ _ _ (loop .inv .1) (loop .inv .0) (c .loop-test .left) (loop .inv .2)
+    noted-all (loop .inv .1) (loop .inv .0) (c .loop-test .left) (loop .inv .2)
 
 pub note-children-spec : {M : Type 1} → statement M
 note-children-spec =

@@ -58,10 +58,10 @@ loop-again c =
     let loop-test = c .before .before .before .before .before .loop-test in
     let wide = c .before .before .before .before .wide in
     let indexed = c .before .before .before .indexed in
-    seeing-goes-on _ _ _ _ _ _ _ _ _ _ _ (loop .inv) (loop-test .taken) (wide .ensures .0) (indexed .ensures) (c .note-children .ensures)
+    seeing-goes-on (loop .inv) (loop-test .taken) (wide .ensures .0) (indexed .ensures) (c .note-children .ensures)
 
 returns : tie.Need-returns Inv-loop μ-loop
-returns c = seeing-done _ _ _ _ _ _ _ (c .before .loop .inv) (c .loop-test .left)
+returns c = seeing-done (c .before .loop .inv) (c .loop-test .left)
 
 pub note-sheet-spec : {M : Type 1} → statement M
 note-sheet-spec =

@@ -21,17 +21,17 @@ returns : tie.Need-returns
 returns c =
     let pre = c .before .before .before .before .pre in
     let names = c .before .before .names in
-    names-refused _ _ (pre .0) _ (names .ensures) _ _ (c .enum-told2 .given .1)
+    names-refused (pre .0) (names .ensures) (c .enum-told2 .given .1)
 
 note-sheet-requires : tie.Need-note-sheet-requires
 note-sheet-requires c κs =
     let pre = c .before .before .before .before .before .before .pre in
-    (pre .0, seen-none _ _ _ refl refl (λ k h. getD-replicate mostNodes k 0 0 h) (λ k h. getD-replicate mostNodes k 0 0 h))
+    (pre .0, seen-none refl refl (λ k h. getD-replicate mostNodes k 0 0 h) (λ k h. getD-replicate mostNodes k 0 0 h))
 
 trees-requires : tie.Need-trees-requires
 trees-requires c κs =
     let pre = c .before .before .before .before .before .before .before .before .pre in
-    (pre .0, pre .1, pre .2, times-seen _ _ _ _ (pre .0) (c .before .note-sheet .ensures))
+    (pre .0, pre .1, pre .2, times-seen (pre .0) (c .before .note-sheet .ensures))
 
 enum-told-3 : tie.Need-enum-told-3
 enum-told-3 c = c .match2 .keys1
@@ -45,7 +45,7 @@ returns-2 c =
     let names = c .before .before .before .before .before .before .before .before .before .names in
     let enum-told = c .before .before .before .before .before .before .before .enum-told in
     let trees = c .before .before .trees in
-    trees-refused _ _ (pre .0) _ (names .ensures) (enum-told .given .1) _ (trees .ensures) _ _ (c .enum-told4 .given .1)
+    trees-refused (pre .0) (names .ensures) (enum-told .given .1) (trees .ensures) (c .enum-told4 .given .1)
 
 patterns-requires : tie.Need-patterns-requires
 patterns-requires c κs =
@@ -58,8 +58,8 @@ patterns-requires c κs =
       file = pre .0;
       runs = pre .1;
       owned = pre .2;
-      parentsRight = parents-seen _ _ _ _ (pre .0) (note-sheet .ensures);
-      checks = trees-accepted _ _ (pre .0) _ (names .ensures) (enum-told .given .1) _ (trees .ensures) (c .before .enum-told3 .given .1);
+      parentsRight = parents-seen (pre .0) (note-sheet .ensures);
+      checks = trees-accepted (pre .0) (names .ensures) (enum-told .given .1) (trees .ensures) (c .before .enum-told3 .given .1);
     }
 
 returns-3 : tie.Need-returns-3
@@ -69,7 +69,7 @@ returns-3 c =
     let enum-told = c .before .before .before .before .before .before .before .before .before .enum-told in
     let trees = c .before .before .before .before .trees in
     let enum-told3 = c .before .before .enum-told3 in
-    patterns-last _ _ (pre .0) _ (names .ensures) (enum-told .given .1) _ (trees .ensures) _ (enum-told3 .given .1) (c .patterns .ensures)
+    patterns-last (pre .0) (names .ensures) (enum-told .given .1) (trees .ensures) (enum-told3 .given .1) (c .patterns .ensures)
 
 pub checks-spec : {M : Type 1} → statement M
 checks-spec =

@@ -16,14 +16,14 @@ enum-told-2 c = c .match .keys2
 returns : tie.Need-returns
 returns c =
     let file-shape = c .before .before .file-shape in
-    sheet-refused _ _ _ _ _ _ _ (file-shape .ensures) (c .enum-told2 .given .1)
+    sheet-refused (file-shape .ensures) (c .enum-told2 .given .1)
 
 run-ends-requires : tie.Need-run-ends-requires
 run-ends-requires c κs =
     let pre = c .before .before .before .before .before .before .before .pre in
     let file-shape = c .before .before .before .before .file-shape in
     let enum-told = c .before .before .enum-told in
-    (opened _ _ _ _ (file-shape .ensures) (enum-told .given .1), pre .tables .endsLength)
+    (opened (file-shape .ensures) (enum-told .given .1), pre .tables .endsLength)
 
 run-owners-requires : tie.Need-run-owners-requires
 run-owners-requires c κs =
@@ -31,7 +31,7 @@ run-owners-requires c κs =
     let file-shape = c .before .before .before .before .before .before .before .file-shape in
     let enum-told = c .before .before .before .before .before .enum-told in
     let run-ends = c .before .before .run-ends in
-    (opened _ _ _ _ (file-shape .ensures) (enum-told .given .1) .accepted, run-ends .ensures, pre .ownersLength)
+    (opened (file-shape .ensures) (enum-told .given .1) .accepted, run-ends .ensures, pre .ownersLength)
 
 checks-requires : tie.Need-checks-requires
 checks-requires c κs =
@@ -39,7 +39,7 @@ checks-requires c κs =
     let enum-told = c .before .before .before .before .before .before .before .before .before .enum-told in
     let run-ends = c .before .before .before .before .before .before .run-ends in
     let run-owners = c .before .before .before .run-owners in
-    (opened _ _ _ _ (file-shape .ensures) (enum-told .given .1), run-ends .ensures, run-owners .ensures)
+    (opened (file-shape .ensures) (enum-told .given .1), run-ends .ensures, run-owners .ensures)
 
 returns-2 : tie.Need-returns-2
 returns-2 c =
@@ -47,7 +47,7 @@ returns-2 c =
     let enum-told = c .before .before .before .before .before .before .before .before .before .before .enum-told in
     let run-ends = c .before .before .before .before .before .before .before .run-ends in
     let run-owners = c .before .before .before .before .run-owners in
-    sheet-read _ _ _ _ _ (opened _ _ _ _ (file-shape .ensures) (enum-told .given .1)) (run-ends .ensures) (run-owners .ensures) (c .checks .ensures)
+    sheet-read (opened (file-shape .ensures) (enum-told .given .1)) (run-ends .ensures) (run-owners .ensures) (c .checks .ensures)
 
 pub fill-sheet-spec : {M : Type 1} → statement M
 fill-sheet-spec =

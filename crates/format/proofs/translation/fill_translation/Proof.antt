@@ -16,27 +16,27 @@ enum-told-2 c = search needs
 returns : tie.Need-returns
 returns c =
     let file-shape = c .before .before .file-shape in
-    translation-refused _ _ _ _ _ _ (file-shape .ensures) (c .enum-told2 .given .1)
+    translation-refused (file-shape .ensures) (c .enum-told2 .given .1)
 
 run-ends-requires : tie.Need-run-ends-requires
 run-ends-requires c κs =
     let pre = c .before .before .before .before .before .before .before .pre in
     let file-shape = c .before .before .before .before .file-shape in
     let enum-told = c .before .before .enum-told in
-    (opened _ _ _ _ (file-shape .ensures) (enum-told .given .1), pre .endsLength)
+    (opened (file-shape .ensures) (enum-told .given .1), pre .endsLength)
 
 references-requires : tie.Need-references-requires
 references-requires c κs =
     let file-shape = c .before .before .before .before .before .before .file-shape in
     let enum-told = c .before .before .before .before .enum-told in
-    opened _ _ _ _ (file-shape .ensures) (enum-told .given .1)
+    opened (file-shape .ensures) (enum-told .given .1)
 
 returns-2 : tie.Need-returns-2
 returns-2 c =
     let file-shape = c .before .before .before .before .before .before .before .file-shape in
     let enum-told = c .before .before .before .before .before .enum-told in
     let run-ends = c .before .before .run-ends in
-    translation-read _ _ _ _ (opened _ _ _ _ (file-shape .ensures) (enum-told .given .1)) (run-ends .ensures) (c .references .ensures)
+    translation-read (opened (file-shape .ensures) (enum-told .given .1)) (run-ends .ensures) (c .references .ensures)
 
 pub fill-translation-spec : {M : Type 1} → statement M
 fill-translation-spec =

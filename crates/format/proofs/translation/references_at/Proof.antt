@@ -23,14 +23,14 @@ returns c =
     let pre = c .before .before .before .before .before .pre in
     let indexed = c .before .before .before .indexed in
     let nodes = c .before .before .nodes in
-    children-out _ _ _ _ (opened-record _ _ _ _ _ (pre .0) (pre .1) (indexed .ensures)) (nodes .ensures) _ (c .before .children-below .ensures)
+    children-out _ _ (opened-record _ _ _ _ _ (pre .0) (pre .1) (indexed .ensures)) (nodes .ensures) (c .before .children-below .ensures)
     (not-true _ (c .if1 .taken))
 
 names-in-range-requires : tie.Need-names-in-range-requires
 names-in-range-requires c κs =
     let pre = c .before .before .before .before .before .pre in
     let indexed = c .before .before .before .indexed in
-    opened-translation-kind _ _ _ _ (pre .0) (pre .1) (indexed .ensures)
+    opened-translation-kind (pre .0) (pre .1) (indexed .ensures)
 
 returns-2 : tie.Need-returns-2
 returns-2 c =
@@ -39,8 +39,8 @@ returns-2 c =
     let nodes = c .before .before .before .before .nodes in
     let children-below = c .before .before .before .children-below in
     let if1 = c .before .before .if1 in
-    names-out _ _ _ _ (opened-record _ _ _ _ _ (pre .0) (pre .1) (indexed .ensures)) (nodes .ensures) _ (children-below .ensures)
-    (not-false _ (if1 .left)) _ (c .before .names-in-range .ensures) (not-true _ (c .if2 .taken))
+    names-out _ _ (opened-record _ _ _ _ _ (pre .0) (pre .1) (indexed .ensures)) (nodes .ensures) (children-below .ensures)
+    (not-false _ (if1 .left)) (c .before .names-in-range .ensures) (not-true _ (c .if2 .taken))
 
 returns-3 : tie.Need-returns-3
 returns-3 c =
@@ -49,8 +49,8 @@ returns-3 c =
     let nodes = c .before .before .before .before .nodes in
     let children-below = c .before .before .before .children-below in
     let if1 = c .before .before .if1 in
-    all-in _ _ _ _ (opened-record _ _ _ _ _ (pre .0) (pre .1) (indexed .ensures)) (nodes .ensures) _ (children-below .ensures)
-    (not-false _ (if1 .left)) _ (c .before .names-in-range .ensures) (not-false _ (c .if2 .left))
+    all-in _ _ (opened-record _ _ _ _ _ (pre .0) (pre .1) (indexed .ensures)) (nodes .ensures) (children-below .ensures)
+    (not-false _ (if1 .left)) (c .before .names-in-range .ensures) (not-false _ (c .if2 .left))
 
 pub references-at-spec : {M : Type 1} → statement M
 references-at-spec =

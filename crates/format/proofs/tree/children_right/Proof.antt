@@ -1,17 +1,17 @@
 -- `format::tree::children_right` meets its contract. The loop's invariant: the nodes named so far are right.
 use Rattle.format.proofs.TreeSteps.{child-not-smaller, child-elsewhere, child-right}
 use Rattle.format.specs.Readers.{childRight}
-use Rattle.laws.proofs.Tests.{Each, each-none, each-more, each-fails, each-all}
+use Rattle.laws.proofs.Tests.{Testing, tests-begin, tests-go-on, tests-fail, tests-end}
 use Rattle.definitions.specs.References.{children}
 use native.Mathlib.Omega.{arith}
-use mathlib.Core.Path.{_≡_, _∙_}
-use Prim.Native.Nat.{_≤_, _-_}
+use mathlib.Core.Path.{_∙_}
+use Prim.Native.Nat.{_-_}
 use borrow.Author.Needs.{needs}
 use Rattle.format.proofs.tree.children_right.Statement.{statement}
 use Rattle.format.proofs.tree.children_right.Tie as tie
 
 abbrev Inv-loop : tie.InvT-loop
-Inv-loop b owners k rec kind count j₀ j = (j ≤ count) × (count ≡ children rec) × Each j (λ i. childRight b rec k i)
+Inv-loop b owners k rec kind count j₀ j = Testing (λ i. childRight b rec k i) (children rec) count j
 
 abbrev μ-loop : tie.MeasureT-loop
 μ-loop b owners k rec kind count j₀ j = count - j
@@ -23,12 +23,12 @@ children-requires : tie.Need-children-requires Inv-loop μ-loop
 children-requires c κs = search needs
 
 loop-holds : tie.Need-loop-holds Inv-loop μ-loop
-loop-holds c = (search needs, c .children .ensures, each-none _)
+loop-holds c = tests-begin (c .children .ensures)
 
 child-inside-requires : tie.Need-child-inside-requires Inv-loop μ-loop
 child-inside-requires c κs =
     let kind = c .before .before .before .kind in
-    (omega (arith, c .before .loop .inv .1, c .loop-test .taken), kind .ensures)
+    (omega (arith, c .before .loop .inv .count, c .loop-test .taken), kind .ensures)
 
 wide-requires : tie.Need-wide-requires Inv-loop μ-loop
 wide-requires c κs = search needs
@@ -38,7 +38,7 @@ returns c =
     let loop = c .before .before .before .before .loop in
     let loop-test = c .before .before .before .loop-test in
     let child-inside = c .before .before .child-inside in
-    each-fails _ _ _ _ (loop .inv .1) (loop-test .taken) (child-not-smaller _ _ _ _ _ (c .before .wide .ensures .0 ∙ child-inside .ensures) (c .if1 .taken))
+    tests-fail (loop .inv) (loop-test .taken) (child-not-smaller _ _ _ (c .before .wide .ensures .0 ∙ child-inside .ensures) (c .if1 .taken))
 
 element-copy-out-if2 : tie.Need-element-copy-out-if2 Inv-loop μ-loop
 element-copy-out-if2 c =
@@ -58,8 +58,8 @@ returns-2 c =
     let child-inside = c .before .before .before .before .before .child-inside in
     let wide = c .before .before .before .before .wide in
     let if1 = c .before .before .before .if1 in
-    each-fails _ _ _ _ (loop .inv .1) (loop-test .taken)
-    (child-elsewhere _ _ _ _ _ (wide .ensures .0 ∙ child-inside .ensures) _ (pre .0) (pre .1) (if1 .left) (c .if2 .taken))
+    tests-fail (loop .inv) (loop-test .taken)
+    (child-elsewhere _ _ _ (wide .ensures .0 ∙ child-inside .ensures) (pre .0) (pre .1) (if1 .left) (c .if2 .taken))
 
 add-j : tie.Need-add-j Inv-loop μ-loop
 add-j c = search needs
@@ -71,19 +71,15 @@ loop-again : tie.Need-loop-again Inv-loop μ-loop
 loop-again c =
     let pre = c .before .before .before .before .before .before .before .before .before .before .before .before .pre in
     let loop = c .before .before .before .before .before .before .before .loop in
+    let loop-test = c .before .before .before .before .before .before .loop-test in
     let child-inside = c .before .before .before .before .before .child-inside in
     let wide = c .before .before .before .before .wide in
-    let if1 = c .before .before .before .if1 in (
-      omega arith,
-      loop .inv .1,
-      each-more _ _ (loop .inv .2)
-          (child-right _ _ _ _ _ (wide .ensures .0 ∙ child-inside .ensures) _ (pre .0) (pre .1) (if1 .left) (c .if2 .left)),
-    )
+    let if1 = c .before .before .before .if1 in
+    tests-go-on (loop .inv) (loop-test .taken)
+    (child-right _ _ _ (wide .ensures .0 ∙ child-inside .ensures) (pre .0) (pre .1) (if1 .left) (c .if2 .left))
 
 returns-3 : tie.Need-returns-3 Inv-loop μ-loop
-returns-3 c =
-    let loop = c .before .loop in
-    each-all _ _ _ _ (loop .inv .1) (loop .inv .0) (c .loop-test .left) (loop .inv .2)
+returns-3 c = tests-end (c .before .loop .inv) (c .loop-test .left)
 
 pub children-right-spec : {M : Type 1} → statement M
 children-right-spec =

@@ -1,17 +1,17 @@
 -- `format::tree::clauses_rise` meets its contract. The loop's invariant: the clauses so far rise.
-use Rattle.format.proofs.TreeSteps.{clauses-fall, clauses-rise-here, rise-fails, rise-all}
-use Rattle.laws.proofs.Tests.{Each, each-none, each-more}
+use Rattle.format.proofs.TreeSteps.{clauses-fall, clauses-rise-here}
+use Rattle.laws.proofs.Tests.{Testing, tests-begin, tests-go-on, tests-fail, tests-end}
+use Rattle.definitions.specs.Checks.{clausesRise}
 use Rattle.definitions.specs.References.{clauses, clauseConstructor}
 use lib.Dec.{ltb}
-use mathlib.Core.Path.{_≡_}
-use Prim.Native.Nat.{_≤_, _-_, suc}
+use Prim.Native.Nat.{_-_, suc}
 use native.Mathlib.Omega.{arith}
 use borrow.Author.Needs.{needs}
 use Rattle.format.proofs.tree.clauses_rise.Statement.{statement}
 use Rattle.format.proofs.tree.clauses_rise.Tie as tie
 
 abbrev Inv-loop : tie.InvT-loop
-Inv-loop rec count j₀ j = (j ≤ count - 1) × (count ≡ clauses rec) × Each j (λ i. ltb (clauseConstructor rec i) (clauseConstructor rec (suc i)))
+Inv-loop rec count j₀ j = Testing (λ i. ltb (clauseConstructor rec i) (clauseConstructor rec (suc i))) (clauses rec - 1) (count - 1) j
 
 abbrev μ-loop : tie.MeasureT-loop
 μ-loop rec count j₀ j = count - j
@@ -20,7 +20,7 @@ clauses-requires : tie.Need-clauses-requires Inv-loop μ-loop
 clauses-requires c κs = search needs
 
 loop-holds : tie.Need-loop-holds Inv-loop μ-loop
-loop-holds c = (search needs, c .clauses .ensures, each-none _)
+loop-holds c = tests-begin (omega (arith, c .clauses .ensures))
 
 add-loop : tie.Need-add-loop Inv-loop μ-loop
 add-loop c = search needs
@@ -35,11 +35,13 @@ clause-constructor-requires-2 : tie.Need-clause-constructor-requires-2 Inv-loop 
 clause-constructor-requires-2 c κs = search needs
 
 returns : tie.Need-returns Inv-loop μ-loop
+unfolding clausesRise
 returns c =
     let loop = c .before .before .before .before .loop in
     let loop-test = c .before .before .before .loop-test in
     let clause-constructor = c .before .before .clause-constructor in
-    rise-fails _ _ _ (loop .inv .1) (loop-test .taken) (clauses-fall _ _ _ _ (clause-constructor .ensures) (c .before .clause-constructor2 .ensures) (c .if1 .taken))
+    tests-fail (loop .inv) (omega (arith, loop-test .taken))
+    (clauses-fall _ _ _ _ (clause-constructor .ensures) (c .before .clause-constructor2 .ensures) (c .if1 .taken))
 
 add-j : tie.Need-add-j Inv-loop μ-loop
 add-j c = search needs
@@ -50,17 +52,14 @@ loop-less c = search needs
 loop-again : tie.Need-loop-again Inv-loop μ-loop
 loop-again c =
     let loop = c .before .before .before .before .loop in
-    let clause-constructor = c .before .before .clause-constructor in (
-      omega arith,
-      loop .inv .1,
-      each-more _ _ (loop .inv .2)
-          (clauses-rise-here _ _ _ _ (clause-constructor .ensures) (c .before .clause-constructor2 .ensures) (c .if1 .left)),
-    )
+    let loop-test = c .before .before .before .loop-test in
+    let clause-constructor = c .before .before .clause-constructor in
+    tests-go-on (loop .inv) (omega (arith, loop-test .taken))
+    (clauses-rise-here _ _ _ _ (clause-constructor .ensures) (c .before .clause-constructor2 .ensures) (c .if1 .left))
 
 returns-2 : tie.Need-returns-2 Inv-loop μ-loop
-returns-2 c =
-    let loop = c .before .loop in
-    rise-all _ _ _ (loop .inv .1) (loop .inv .0) (c .loop-test .left) (loop .inv .2)
+unfolding clausesRise
+returns-2 c = tests-end (c .before .loop .inv) (omega (arith, c .loop-test .left))
 
 pub clauses-rise-spec : {M : Type 1} → statement M
 clauses-rise-spec =

@@ -8,7 +8,7 @@ add-result : tie.Need-add-result
 add-result c = search needs
 
 element-copy-out-wide8 : tie.Need-element-copy-out-wide8
-element-copy-out-wide8 c = node-in-table _ _ _ _ _ (c .before .pre)
+element-copy-out-wide8 c = node-in-table (c .before .pre)
 
 wide8-requires : tie.Need-wide8-requires
 wide8-requires c κs = search needs
@@ -19,7 +19,7 @@ mul-wide c = search needs
 element-copy-out-wide : tie.Need-element-copy-out-wide
 element-copy-out-wide c =
     let pre = c .before .before .before .pre in
-    owner-in-table _ _ _ _ _ (pre) _ (c .wide8 .ensures .0)
+    owner-in-table (pre) (c .wide8 .ensures .0)
 
 wide-requires : tie.Need-wide-requires
 wide-requires c κs = search needs
@@ -28,7 +28,7 @@ returns : tie.Need-returns
 returns c =
     let pre = c .before .before .before .before .before .pre in
     let wide8 = c .before .before .wide8 in
-    body-test _ _ _ _ _ (pre) _ _ (wide8 .ensures .0) (c .wide .ensures .0)
+    body-test (pre) (wide8 .ensures .0) (c .wide .ensures .0)
 
 pub is-body-spec : {M : Type 1} → statement M
 is-body-spec =

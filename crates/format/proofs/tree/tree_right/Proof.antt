@@ -17,14 +17,14 @@ indexed-requires c κs = search needs
 children-right-requires : tie.Need-children-right-requires
 children-right-requires c κs =
     let pre = c .before .before .before .pre in
-    (pre .0 .owned, pre .0 .below, node-in-table _ _ _ _ _ (pre .0))
+    (pre .0 .owned, pre .0 .below, node-in-table (pre .0))
 
 returns : tie.Need-returns
 returns c =
     let pre = c .before .before .before .before .before .pre in
     let first-node = c .before .before .before .first-node in
     let indexed = c .before .before .indexed in
-    tree-child-wrong _ _ _ (node-record _ _ _ _ _ (pre .0) _ _ (first-node .ensures .0) (indexed .ensures)) _ (c .before .children-right .ensures)
+    tree-child-wrong _ _ (node-record (pre .0) (first-node .ensures .0) (indexed .ensures)) (c .before .children-right .ensures)
     (not-true _ (c .if1 .taken))
 
 is-body-requires : tie.Need-is-body-requires
@@ -46,8 +46,8 @@ returns-2 c =
     let is-body = c .before .before .before .before .is-body in
     let if2 = c .before .before .before .if2 in
     let kind = c .before .before .kind in
-    tree-case-body _ _ _ (node-record _ _ _ _ _ (pre .0) _ _ (first-node .ensures .0) (indexed .ensures)) _ (children-right .ensures)
-    (not-false _ (if1 .left)) _ (is-body .ensures) _ _ (if2 .taken) (kind .ensures) (c .before .if3 .taken) (c .clauses-rise .ensures)
+    tree-case-body _ _ (node-record (pre .0) (first-node .ensures .0) (indexed .ensures)) (children-right .ensures)
+    (not-false _ (if1 .left)) (is-body .ensures) (if2 .taken) (kind .ensures) (c .before .if3 .taken) (c .clauses-rise .ensures)
 
 returns-3 : tie.Need-returns-3
 returns-3 c =
@@ -58,13 +58,13 @@ returns-3 c =
     let if1 = c .before .before .before .before .if1 in
     let is-body = c .before .before .before .is-body in
     let if2 = c .before .before .if2 in
-    tree-body _ _ _ (node-record _ _ _ _ _ (pre .0) _ _ (first-node .ensures .0) (indexed .ensures)) _ (children-right .ensures)
-    (not-false _ (if1 .left)) _ (is-body .ensures) _ (if2 .taken) (c .before .kind .ensures) (c .if3 .left)
+    tree-body _ _ (node-record (pre .0) (first-node .ensures .0) (indexed .ensures)) (children-right .ensures)
+    (not-false _ (if1 .left)) (is-body .ensures) (if2 .taken) (c .before .kind .ensures) (c .if3 .left)
 
 element-copy-out-wide8 : tie.Need-element-copy-out-wide8
 element-copy-out-wide8 c =
     let pre = c .before .before .before .before .before .before .before .pre in
-    node-in-table _ _ _ _ _ (pre .0)
+    node-in-table (pre .0)
 
 wide8-requires : tie.Need-wide8-requires
 wide8-requires c κs = search needs
@@ -78,8 +78,8 @@ returns-4 c =
     let if1 = c .before .before .before .before .before .if1 in
     let is-body = c .before .before .before .before .is-body in
     let if2 = c .before .before .before .if2 in
-    tree-times-wrong _ _ _ (node-record _ _ _ _ _ (pre .0) _ _ (first-node .ensures .0) (indexed .ensures)) _ (children-right .ensures)
-    (not-false _ (if1 .left)) _ (is-body .ensures) _ (pre .1) (pre .0 .below) _ (c .before .wide8 .ensures .0) (if2 .left) (c .if4 .taken)
+    tree-times-wrong _ _ (node-record (pre .0) (first-node .ensures .0) (indexed .ensures)) (children-right .ensures)
+    (not-false _ (if1 .left)) (is-body .ensures) (pre .1) (pre .0 .below) (c .before .wide8 .ensures .0) (if2 .left) (c .if4 .taken)
 
 kind-requires-2 : tie.Need-kind-requires-2
 kind-requires-2 c κs = search needs
@@ -94,8 +94,8 @@ returns-5 c =
     let is-body = c .before .before .before .before .before .is-body in
     let if2 = c .before .before .before .before .if2 in
     let wide8 = c .before .before .wide8 in
-    tree-inner _ _ _ (node-record _ _ _ _ _ (pre .0) _ _ (first-node .ensures .0) (indexed .ensures)) _ (children-right .ensures)
-    (not-false _ (if1 .left)) _ (is-body .ensures) _ (pre .1) (pre .0 .below) _ (wide8 .ensures .0) _ (if2 .left) (c .before .if4 .left)
+    tree-inner _ _ (node-record (pre .0) (first-node .ensures .0) (indexed .ensures)) (children-right .ensures)
+    (not-false _ (if1 .left)) (is-body .ensures) (pre .1) (pre .0 .below) (wide8 .ensures .0) (if2 .left) (c .before .if4 .left)
     (c .kind2 .ensures)
 
 pub tree-right-spec : {M : Type 1} → statement M

@@ -48,7 +48,7 @@ loop-holds c =
 tree-right-requires : tie.Need-tree-right-requires Inv-loop μ-loop
 tree-right-requires c κs =
     let loop = c .before .loop in
-    (ruling-node _ _ _ _ _ _ _ _ (loop .inv .0) (c .loop-test .taken), loop .inv .1)
+    (ruling-node (loop .inv .0) (c .loop-test .taken), loop .inv .1)
 
 add-t12 : tie.Need-add-t12 Inv-loop μ-loop
 add-t12 c = search needs
@@ -57,7 +57,7 @@ returns : tie.Need-returns Inv-loop μ-loop
 returns c =
     let loop = c .before .before .before .loop in
     let loop-test = c .before .before .loop-test in
-    ruling-refused _ _ _ _ _ _ _ _ (loop .inv .0) _ _ (loop-test .taken)
+    ruling-refused (loop .inv .0) (loop-test .taken)
     (tree-refused _ _ _ _ (loop .inv .0 .start) (c .before .tree-right .ensures) (not-true _ (c .if1 .taken)))
 
 add-k : tie.Need-add-k Inv-loop μ-loop
@@ -70,13 +70,13 @@ loop-again : tie.Need-loop-again Inv-loop μ-loop
 loop-again c =
     let loop = c .before .before .before .loop in
     let loop-test = c .before .before .loop-test in (
-      ruling-more _ _ _ _ _ _ _ _ (loop .inv .0) _ (loop-test .taken)
+      ruling-more (loop .inv .0) (loop-test .taken)
           (tree-accepted _ _ _ (c .before .tree-right .ensures) (not-false _ (c .if1 .left))) refl,
       loop .inv .1,
     )
 
 returns-2 : tie.Need-returns-2 Inv-loop μ-loop
-returns-2 c = ruling-done _ _ _ _ _ _ _ _ (c .before .loop .inv .0) (c .loop-test .left)
+returns-2 c = ruling-done (c .before .loop .inv .0) (c .loop-test .left)
 
 pub trees-spec : {M : Type 1} → statement M
 trees-spec =

@@ -18,7 +18,7 @@ number-of-requires : tie.Need-number-of-requires
 number-of-requires c κs = search needs
 
 returns : tie.Need-returns
-returns c = difference-number w32 _ _ _ _ _ _ (c .before .before .before .before .fits .x) (c .before .before .before .before .fits .y)
+returns c = difference-number w32 (c .before .before .before .before .fits .x) (c .before .before .before .before .fits .y)
     (c .before .before .before .bits-of .ensures) (c .before .before .bits-of2 .ensures) (search needs) (c .before .wrapping-sub-u32 .ensures) (c .number-of .ensures)
 
 pub subtract-spec : {M : Type 1} → statement M

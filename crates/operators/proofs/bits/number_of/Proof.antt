@@ -1,6 +1,6 @@
 -- `operators::bits::number_of` meets its contract: from 2 ^ 31 on the number is 2 ^ 32 less.
 use Rattle.operators.proofs.Conversions.{high-cast, high-number}
-use Rattle.laws.proofs.Bytes.{wide-fits}
+use Rattle.operators.proofs.Conversions.{wide-fits}
 use borrow.Author.Needs.{needs}
 use Rattle.operators.proofs.bits.number_of.Statement.{statement}
 use Rattle.operators.proofs.bits.number_of.Tie as tie

@@ -30,14 +30,14 @@ put-decimal-returns : (t : ℕ) → put-decimal-lts.Need-returns (put-decimal-cl
 put-decimal-returns t c =
     let if1 = c .before .before .before .before .if1 in
     let put-byte = c .before .before .put-byte in
-    wrote-digit _ _ _ _ _ (if1 .taken) (put-byte .ensures)
+    wrote-digit (if1 .taken) (put-byte .ensures)
 
 put-decimal-returns-2 : (t : ℕ) → put-decimal-lts.Need-returns-2 (put-decimal-claims t) (put-decimal-at t) put-decimal.Post
 put-decimal-returns-2 t c =
     let if1 = c .before .before .before .before .before .before .before .before .if1 in
     let put-decimal = c .before .before .before .before .before .before .put-decimal in
     let put-byte2 = c .before .before .put-byte2 in
-    wrote-last _ _ _ _ _ _ _ (if1 .left) (put-decimal .ensures) (put-byte2 .ensures)
+    wrote-last (if1 .left) (put-decimal .ensures) (put-byte2 .ensures)
 
 pub +put-decimal-spec : {M : Type 1} → statement M
 +put-decimal-spec = close μ-put-decimal λ t. put-decimal-lts.spec (put-decimal-claims t)

@@ -18,7 +18,7 @@ returns c =
     let if1 = c .before .before .before .before .before .before .before .before .if1 in
     let put-byte = c .before .before .before .before .before .before .put-byte in
     let put-decimal = c .before .before .put-decimal in
-    wrote-minus _ _ _ _ _ _ _ _ (if1 .taken) (put-byte .ensures) (put-decimal .ensures)
+    wrote-minus _ (if1 .taken) (put-byte .ensures) (put-decimal .ensures)
 
 put-decimal-requires-2 : tie.Need-put-decimal-requires-2
 put-decimal-requires-2 c κs = search needs
@@ -30,7 +30,7 @@ returns-2 : tie.Need-returns-2
 returns-2 c =
     let if1 = c .before .before .before .before .if1 in
     let put-decimal2 = c .before .before .put-decimal2 in
-    wrote-plain _ _ _ _ _ _ (if1 .left) (put-decimal2 .ensures)
+    wrote-plain _ (if1 .left) (put-decimal2 .ensures)
 
 pub put-signed-spec : {M : Type 1} → statement M
 put-signed-spec =

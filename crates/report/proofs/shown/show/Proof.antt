@@ -23,16 +23,16 @@ enum-known-o-4 : tie.Need-enum-known-o-4
 enum-known-o-4 c = search needs
 
 returns : tie.Need-returns
-returns c = shows-number _ _ _ (record { sfits = search needs }) (c .before .before .o .given .1) (c .magnitude .ensures)
+returns c = shows-number (record { sfits = search needs }) (c .before .before .o .given .1) (c .magnitude .ensures)
 
 returns-2 : tie.Need-returns-2
-returns-2 c = shows-constructor _ _ _ _ (c .before .o2 .given .1)
+returns-2 c = shows-constructor (c .before .o2 .given .1)
 
 returns-3 : tie.Need-returns-3
 returns-3 c = shows-end _ _ (c .before .o3 .given .1)
 
 returns-4 : tie.Need-returns-4
-returns-4 c = shows-refusal _ _ _ (c .before .o4 .given .1)
+returns-4 c = shows-refusal (c .before .o4 .given .1)
 
 pub show-spec : {M : Type 1} → statement M
 show-spec =

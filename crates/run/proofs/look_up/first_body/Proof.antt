@@ -20,11 +20,15 @@ field-requires c κs = search needs
 
 sub-result : tie.Need-sub-result
 sub-result c =
-    first-count-least _ _ _ _ (c .before .before .before .before .pre) (c .before .before .first-function .ensures .0) (c .before .record .ensures) (c .field .ensures)
+    let pre = c .before .before .before .before .pre in
+    let first-function = c .before .before .first-function in
+    first-count-least _ _ _ _ (pre) (first-function .ensures .0) (c .before .record .ensures) (c .field .ensures)
 
 returns : tie.Need-returns
 returns c =
-    first-body-reached _ _ _ _ (c .before .before .before .before .pre) (c .before .before .first-function .ensures .0) (c .before .record .ensures) (c .field .ensures)
+    let pre = c .before .before .before .before .pre in
+    let first-function = c .before .before .first-function in
+    first-body-reached _ _ _ _ (pre) (first-function .ensures .0) (c .before .record .ensures) (c .field .ensures)
 
 pub first-body-spec : {M : Type 1} → statement M
 first-body-spec =

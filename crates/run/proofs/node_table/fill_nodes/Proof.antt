@@ -1,12 +1,12 @@
 -- `run::node_table::fill_nodes` meets its contract: the entries of the nodes passed are right.
-use Rattle.run.proofs.Entries.{Filling, filling-begins, filling-below, filling-room, filling-goes-on, filled}
+use Rattle.run.proofs.Entries.{FillingEntries, filling-begins, filling-below, filling-room, filling-goes-on, filled}
 use Prim.Native.Nat.{_-_}
 use borrow.Author.Needs.{needs}
 use Rattle.run.proofs.node_table.fill_nodes.Statement.{statement}
 use Rattle.run.proofs.node_table.fill_nodes.Tie as tie
 
 abbrev Inv-loop : tie.InvT-loop
-Inv-loop tab₀ b index ends count k₀ tab k = Filling b tab count k
+Inv-loop tab₀ b index ends count k₀ tab k = FillingEntries b tab count k
 
 abbrev μ-loop : tie.MeasureT-loop
 μ-loop tab₀ b index ends count k₀ tab k = count - k

@@ -5,7 +5,7 @@ use mir.Syntax.{w32}
 use mir.ValLaws.{toZ-ofZ}
 use lib.ListN.{length}
 use borrow.Author.Needs.{needs}
-use Rattle.run.proofs.ReadingEntries.{Setting, setting-begins, setting-room, setting-goes-on, setting-ends}
+use Rattle.run.proofs.ReadingEntries.{SettingReadings, setting-begins, setting-room, setting-goes-on, setting-ends}
 use Rattle.run.proofs.node_table.set_readings.Statement.{statement}
 use Rattle.run.proofs.node_table.set_readings.Tie as tie
 use Rattle.run.proofs.node_table.set_readings.Reads as reads
@@ -13,7 +13,7 @@ use Rattle.run.proofs.node_table.set_readings.Lts as lts
 use Rattle.operators.proofs.bits.bits_of.Reads as bits-of-reads
 
 abbrev Inv-loop : tie.InvT-loop
-Inv-loop tab₀ readings i₀ tab i = Setting tab₀ readings tab i
+Inv-loop tab₀ readings i₀ tab i = SettingReadings tab₀ readings tab i
 
 abbrev μ-loop : tie.MeasureT-loop
 μ-loop tab₀ readings i₀ tab i = length readings - i

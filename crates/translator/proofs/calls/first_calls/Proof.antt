@@ -26,7 +26,7 @@ wide-requires c κs = search needs
 loop-holds : tie.Need-loop-holds Inv-loop μ-loop
 loop-holds c =
     let pre = c .before .before .before .pre in
-    summing-begins _ _ _ (omega (arith, c .wide .ensures .0, c .before .functions .ensures, functions-limit Sheet _ (pre .0))) refl refl
+    summing-begins (omega (arith, c .wide .ensures .0, c .before .functions .ensures, functions-limit Sheet _ (pre .0))) refl refl
 
 mul-total : tie.Need-mul-total Inv-loop μ-loop
 mul-total c = search needs
@@ -41,7 +41,7 @@ add-total c =
     let at-functions = at-wide .before in
     let pre = at-functions .before .before .pre in
     let count = at-wide .wide .ensures .0 ∙ at-functions .functions .ensures in
-    omega (arith, total-few _ _ (pre .1) (pre .0) _ _ (c .before .loop-test .taken) count _ (at-loop .loop .inv .summed))
+    omega (arith, total-few _ (pre .1) (pre .0) (c .before .loop-test .taken) count (at-loop .loop .inv .summed))
 
 add-f : tie.Need-add-f Inv-loop μ-loop
 add-f c = search needs
@@ -63,13 +63,13 @@ loop-again c =
     let pre = at-functions .before .before .pre in
     let taken = c .before .loop-test .taken in
     let count = at-wide .wide .ensures .0 ∙ at-functions .functions .ensures in
-    summing-goes-on _ _ _ _ _ _ (at-loop .loop .inv) taken (count-is _ _ (pre .1) (pre .0) _ _ taken count)
+    summing-goes-on (at-loop .loop .inv) taken (count-is _ (pre .1) (pre .0) taken count)
 
 returns : tie.Need-returns Inv-loop μ-loop
 returns c =
     let at-wide = c .before .before in
     let at-functions = at-wide .before in
-    summing-done _ _ _ _ _ _ (c .before .loop .inv) (c .loop-test .left) (at-wide .wide .ensures .0 ∙ at-functions .functions .ensures)
+    summing-done (c .before .loop .inv) (c .loop-test .left) (at-wide .wide .ensures .0 ∙ at-functions .functions .ensures)
 
 pub first-calls-spec : {M : Type 1} → statement M
 first-calls-spec =

@@ -32,24 +32,25 @@ label-call-requires c κs =
     let at-indexed = at-kind .before in
     let at-first-node = at-indexed .before in
     let pre = at-first-node .before .before .pre in
-    let call = call-read _ _ _ _ _ _ (pre .sheet) (pre .below) (at-first-node .first-node .ensures .0) (at-indexed .indexed .ensures)
-    (at-kind .kind .ensures) _ _ (at-test .if1 .taken) (at-field .field .ensures) (at-wide .wide .ensures .0) in
-    (omega (arith, call .function, call .few), call .narrow, count-small _ _ _ _ _ (pre .labelled) (pre .counted) call)
+    let call = call-read (pre .sheet) (pre .below) (at-first-node .first-node .ensures .0) (at-indexed .indexed .ensures)
+    (at-kind .kind .ensures) (at-test .if1 .taken) (at-field .field .ensures) (at-wide .wide .ensures .0) in
+    (omega (arith, call .function, call .few), call .narrow, count-small (pre .labelled) (pre .counted) call)
 
 returns : tie.Need-returns
 returns c =
     let at-wide = c .before .before .before in
+    let label-call = c .label-call in
     let at-field = at-wide .before in
     let at-test = at-field .before in
     let at-kind = at-test .before in
     let at-indexed = at-kind .before in
     let at-first-node = at-indexed .before in
     let pre = at-first-node .before .before .pre in
-    let call = call-read _ _ _ _ _ _ (pre .sheet) (pre .below) (at-first-node .first-node .ensures .0) (at-indexed .indexed .ensures)
-    (at-kind .kind .ensures) _ _ (at-test .if1 .taken) (at-field .field .ensures) (at-wide .wide .ensures .0) in (
-      rw (c .label-call .ensures .label) (call-labelled _ _ _ _ _ (pre .labelled) (pre .counted) call),
-      rw (c .label-call .ensures .count)
-          (call-counted _ _ _ _ _ (pre .labelled) (pre .counted) call),
+    let call = call-read (pre .sheet) (pre .below) (at-first-node .first-node .ensures .0) (at-indexed .indexed .ensures)
+    (at-kind .kind .ensures) (at-test .if1 .taken) (at-field .field .ensures) (at-wide .wide .ensures .0) in (
+      rw (label-call .ensures .label) (call-labelled (pre .labelled) (pre .counted) call),
+      rw (label-call .ensures .count)
+          (call-counted (pre .labelled) (pre .counted) call),
     )
 
 returns-2 : tie.Need-returns-2
@@ -57,7 +58,7 @@ returns-2 c =
     let at-indexed = c .before .before in
     let at-first-node = at-indexed .before in
     let pre = at-first-node .before .before .pre in
-    let none = none-read _ _ _ _ _ _ (pre .sheet) (pre .below) (at-first-node .first-node .ensures .0) (at-indexed .indexed .ensures)
+    let none = none-read (pre .sheet) (pre .below) (at-first-node .first-node .ensures .0) (at-indexed .indexed .ensures)
     (c .before .kind .ensures) (c .if1 .left) in
     (other-labelled _ _ none _ (pre .labelled), other-counted _ _ none _ (pre .counted))
 

@@ -62,8 +62,11 @@ loop-again c = (search needs, c .label-node .ensures .0, c .label-node .ensures 
 returns : tie.Need-returns Inv-loop μ-loop
 returns c =
     let inv = c .before .loop .inv in
-    let count = c .before .before .wide .ensures .0 ∙ c .before .before .before .nodes .ensures in
-    (labels-all _ _ _ _ count (inv .0) (c .loop-test .left) (inv .1), counts-all _ _ _ _ count (inv .0) (c .loop-test .left) (inv .2))
+    let nodes = c .before .before .before .nodes in
+    let wide = c .before .before .wide in
+    let loop-test = c .loop-test in
+    let count = wide .ensures .0 ∙ nodes .ensures in
+    (labels-all _ _ _ _ count (inv .0) (loop-test .left) (inv .1), counts-all _ _ _ _ count (inv .0) (loop-test .left) (inv .2))
 
 pub label-nodes-spec : {M : Type 1} → statement M
 label-nodes-spec =

@@ -4,14 +4,14 @@ use mathlib.Core.Path.{_∙_}
 use native.Mathlib.Omega.{arith}
 use Rattle.definitions.specs.declared.Layout.the-variants.{Sheet}
 use Rattle.accepted.proofs.Head.{nodes-limit}
-use Rattle.translator.specs.Tables.{Order}
+use Rattle.translator.specs.Tables.{CallOrder}
 use Rattle.translator.proofs.CallOrder.{order-all}
 use borrow.Author.Needs.{needs}
 use Rattle.translator.proofs.calls.order_calls.Statement.{statement}
 use Rattle.translator.proofs.calls.order_calls.Tie as tie
 
 abbrev Inv-loop : tie.InvT-loop
-Inv-loop b starts labels firsts order₀ count k₀ order k = (k ≤ count) × Order b order k
+Inv-loop b starts labels firsts order₀ count k₀ order k = (k ≤ count) × CallOrder b order k
 
 abbrev μ-loop : tie.MeasureT-loop
 μ-loop b starts labels firsts order₀ count k₀ order k = count - k
@@ -57,7 +57,9 @@ loop-again c = (search needs, c .place-node .ensures)
 returns : tie.Need-returns Inv-loop μ-loop
 returns c =
     let inv = c .before .loop .inv in
-    order-all _ _ _ _ (c .before .before .wide .ensures .0 ∙ c .before .before .before .nodes .ensures) (inv .0) (c .loop-test .left) (inv .1)
+    let nodes = c .before .before .before .nodes in
+    let wide = c .before .before .wide in
+    order-all _ (wide .ensures .0 ∙ nodes .ensures) (inv .0) (c .loop-test .left) (inv .1)
 
 pub order-calls-spec : {M : Type 1} → statement M
 order-calls-spec =

@@ -39,8 +39,8 @@ element-copy-out-wide c =
     let at-indexed = at-kind .before in
     let at-first-node = at-indexed .before in
     let pre = at-first-node .before .before .pre in
-    let call = call-read _ _ _ _ _ _ (pre .tables .sheet) (pre .below) (at-first-node .first-node .ensures .0) (at-indexed .indexed .ensures)
-    (at-kind .kind .ensures) _ _ (at-test .if1 .taken) (c .before .field .ensures) (c .wide .ensures .0) in
+    let call = call-read (pre .tables .sheet) (pre .below) (at-first-node .first-node .ensures .0) (at-indexed .indexed .ensures)
+    (at-kind .kind .ensures) (at-test .if1 .taken) (c .before .field .ensures) (c .wide .ensures .0) in
     omega (arith, call .function, call .few)
 
 wide-requires-2 : tie.Need-wide-requires-2
@@ -71,10 +71,10 @@ element-write-order c =
     let at-indexed = at-kind .before in
     let at-first-node = at-indexed .before in
     let pre = at-first-node .before .before .pre in
-    let call = call-read _ _ _ _ _ _ (pre .tables .sheet) (pre .below) (at-first-node .first-node .ensures .0) (at-indexed .indexed .ensures)
-    (at-kind .kind .ensures) _ _ (at-test .if1 .taken) (at-field .field .ensures) (at-wide .wide .ensures .0) in
-    let place = place-read _ _ _ _ _ _ _ _ (pre .tables) call (at-wide2 .wide2 .ensures .0) (c .wide3 .ensures .0) in
-    omega (arith, place-narrow _ _ _ _ _ (pre .ordered) call place, nodes-limit Sheet _ (pre .tables .sheet .file .accepted))
+    let call = call-read (pre .tables .sheet) (pre .below) (at-first-node .first-node .ensures .0) (at-indexed .indexed .ensures)
+    (at-kind .kind .ensures) (at-test .if1 .taken) (at-field .field .ensures) (at-wide .wide .ensures .0) in
+    let place = place-read _ (pre .tables) call (at-wide2 .wide2 .ensures .0) (c .wide3 .ensures .0) in
+    omega (arith, place-narrow _ (pre .ordered) call place, nodes-limit Sheet _ (pre .tables .sheet .file .accepted))
 
 returns : tie.Need-returns
 returns c =
@@ -86,17 +86,17 @@ returns c =
     let at-indexed = at-kind .before in
     let at-first-node = at-indexed .before in
     let pre = at-first-node .before .before .pre in
-    let call = call-read _ _ _ _ _ _ (pre .tables .sheet) (pre .below) (at-first-node .first-node .ensures .0) (at-indexed .indexed .ensures)
-    (at-kind .kind .ensures) _ _ (at-test .if1 .taken) (at-field .field .ensures) (at-wide .wide .ensures .0) in
-    let place = place-read _ _ _ _ _ _ _ _ (pre .tables) call (at-wide2 .wide2 .ensures .0) (c .wide3 .ensures .0) in
-    call-ordered _ _ _ _ _ (pre .ordered) call place (nodes-limit Sheet _ (pre .tables .sheet .file .accepted))
+    let call = call-read (pre .tables .sheet) (pre .below) (at-first-node .first-node .ensures .0) (at-indexed .indexed .ensures)
+    (at-kind .kind .ensures) (at-test .if1 .taken) (at-field .field .ensures) (at-wide .wide .ensures .0) in
+    let place = place-read _ (pre .tables) call (at-wide2 .wide2 .ensures .0) (c .wide3 .ensures .0) in
+    call-ordered _ (pre .ordered) call place (nodes-limit Sheet _ (pre .tables .sheet .file .accepted))
 
 returns-2 : tie.Need-returns-2
 returns-2 c =
     let at-indexed = c .before .before in
     let at-first-node = at-indexed .before in
     let pre = at-first-node .before .before .pre in
-    other-ordered _ _ _ (none-read _ _ _ _ _ _ (pre .tables .sheet) (pre .below) (at-first-node .first-node .ensures .0) (at-indexed .indexed .ensures)
+    other-ordered _ _ _ (none-read (pre .tables .sheet) (pre .below) (at-first-node .first-node .ensures .0) (at-indexed .indexed .ensures)
     (c .before .kind .ensures) (c .if1 .left)) (pre .ordered)
 
 pub place-node-spec : {M : Type 1} → statement M

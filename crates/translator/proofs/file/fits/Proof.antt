@@ -5,7 +5,9 @@ use Rattle.translator.proofs.file.fits.Statement.{statement}
 use Rattle.translator.proofs.file.fits.Tie as tie
 
 returns : tie.Need-returns
-returns c = greatest-fits _ (c .before .before .pre .node .read .sheet .accepted) _ (c .if1 .taken)
+returns c =
+    let pre = c .before .before .pre in
+    greatest-fits _ (pre .node .read .sheet .accepted) _ (c .if1 .taken)
 
 slice-aggregate-put-file : tie.Need-slice-aggregate-put-file
 slice-aggregate-put-file c = search needs
@@ -16,7 +18,7 @@ put-file-requires c κs = search needs
 returns-2 : tie.Need-returns-2
 returns-2 c =
     let pre = c .before .before .before .before .before .pre in
-    length-fits _ (pre .node .read .sheet .accepted) _ _ _ _ (c .before .put-file .ensures)
+    length-fits _ (pre .node .read .sheet .accepted) _ (c .before .put-file .ensures)
 
 pub fits-spec : {M : Type 1} → statement M
 fits-spec = tie.close (tie.spec returns slice-aggregate-put-file put-file-requires returns-2)

@@ -1,6 +1,6 @@
 -- `translator::file::put_file` meets its contract: head, functions, formals and nodes, one after the other.
 use Rattle.definitions.specs.Translate.{translationWords}
-use Rattle.translator.proofs.Writing.{wrote-then}
+use Rattle.translation_words.proofs.Writing.{wrote-then}
 use borrow.Author.Needs.{needs}
 use Rattle.translator.proofs.file.put_file.Statement.{statement}
 use Rattle.translator.proofs.file.put_file.Tie as tie
@@ -27,8 +27,8 @@ returns c =
     let at-put-formals = at-put-nodes .before .before .before .before in
     let at-put-functions = at-put-formals .before .before .before .before in
     let at-put-head = at-put-functions .before .before .before .before in
-    let first = wrote-then _ _ _ _ _ _ _ _ (at-put-head .put-head .ensures) (at-put-functions .put-functions .ensures) in
-    wrote-then _ _ _ _ _ _ _ _ (wrote-then _ _ _ _ _ _ _ _ first (at-put-formals .put-formals .ensures)) (at-put-nodes .put-nodes .ensures)
+    let first = wrote-then (at-put-head .put-head .ensures) (at-put-functions .put-functions .ensures) in
+    wrote-then (wrote-then first (at-put-formals .put-formals .ensures)) (at-put-nodes .put-nodes .ensures)
 
 pub put-file-spec : {M : Type 1} → statement M
 put-file-spec =

@@ -1,18 +1,16 @@
 -- `translator::file::put_functions` meets its contract. The loop's invariant: the records of the functions passed are written.
 use native.Mathlib.Omega.{arith}
 use mathlib.Core.Path.{_∙_}
-use Rattle.translator.proofs.Writing.{wrote-none, wrote-more, wrote-as, wrote-all}
+use Rattle.translation_words.proofs.Writing.{PartsWritten, parts-begin, parts-go-on, wrote-as, parts-end}
 use Rattle.translator.proofs.FormalSteps.{function-words}
-use Rattle.translator.specs.Writing.{Wrote}
 use Rattle.definitions.specs.Translate.{functionWords}
-use Rattle.definitions.specs.Lists.{joined}
-use Prim.Native.Nat.{_≤_, _-_}
+use Prim.Native.Nat.{_-_}
 use borrow.Author.Needs.{needs}
 use Rattle.translator.proofs.file.put_functions.Statement.{statement}
 use Rattle.translator.proofs.file.put_functions.Tie as tie
 
 abbrev Inv-loop : tie.InvT-loop
-Inv-loop b starts out₀ at first count next₀ f₀ out next f = (f ≤ count) × Wrote out₀ at (joined f (functionWords b)) next out
+Inv-loop b starts out₀ at first count next₀ f₀ out next f = PartsWritten out₀ at (functionWords b) count f next out
 
 abbrev μ-loop : tie.MeasureT-loop
 μ-loop b starts out₀ at first count next₀ f₀ out next f = count - f
@@ -27,7 +25,7 @@ wide-requires : tie.Need-wide-requires Inv-loop μ-loop
 wide-requires c κs = search needs
 
 loop-holds : tie.Need-loop-holds Inv-loop μ-loop
-loop-holds c = (search needs, wrote-none _ _ _)
+loop-holds c = parts-begin
 
 add-indexed : tie.Need-add-indexed Inv-loop μ-loop
 add-indexed c = search needs
@@ -56,24 +54,23 @@ loop-again c =
     let at-wide2 = at-put-one .before in
     let at-field = at-wide2 .before in
     let at-indexed = at-field .before in
-    let at-loop = at-indexed .before .before .before in
+    let at-test = at-indexed .before .before in
+    let at-loop = at-test .before in
     let at-first-function = at-loop .before .before .before in
-    let pre = at-first-function .before .before .before .pre in (
-      search needs,
-      wrote-more _ _ _ _ _ _ _ _ (at-loop .loop .inv .1)
-          (wrote-as _ _ _ _ _ _ (function-words _ _ _ _ _ _ pre (omega arith) (at-first-function .first-function .ensures .0)
-          (at-indexed .indexed .ensures) (at-wide2 .wide2 .ensures .0 ∙ at-field .field .ensures)) (at-put-one .put-one .ensures)),
-    )
+    let pre = at-first-function .before .before .before .pre in
+    let words = function-words pre (omega arith) (at-first-function .first-function .ensures .0)
+    (at-indexed .indexed .ensures) (at-wide2 .wide2 .ensures .0 ∙ at-field .field .ensures) in
+    parts-go-on (at-loop .loop .inv) (at-test .loop-test .taken) (wrote-as words (at-put-one .put-one .ensures))
 
 same-length : tie.Need-same-length Inv-loop μ-loop
-same-length c = c .before .loop .inv .1 .kept
+same-length c = c .before .loop .inv .wrote .kept
 
 returns : tie.Need-returns Inv-loop μ-loop
 returns c =
     let inv = c .before .loop .inv in
     let at-wide = c .before .before in
     let at-functions = at-wide .before in
-    wrote-all _ _ _ _ _ _ _ _ (at-wide .wide .ensures .0 ∙ at-functions .functions .ensures) (inv .0) (c .loop-test .left) (inv .1)
+    parts-end inv (c .loop-test .left) (at-wide .wide .ensures .0 ∙ at-functions .functions .ensures)
 
 pub put-functions-spec : {M : Type 1} → statement M
 put-functions-spec =

@@ -74,9 +74,9 @@ returns c =
     let pre = at-functions .before .before .before .pre in
     let count = at-wide .wide .ensures .0 ∙ at-functions .functions .ensures in
     let readings = at-wide2 .wide2 .ensures .0 ∙ at-readings .readings .ensures in
-    let formals = formals-read _ _ _ _ (pre .1) count (at-wide3 .wide3 .ensures .0) in
+    let formals = formals-read _ (pre .1) count (at-wide3 .wide3 .ensures .0) in
     let nodes = at-wide4 .wide4 .ensures .0 ∙ at-nodes .nodes .ensures in
-    wrote-head _ _ _ _ _ _ _ _ _ _ _ _ _ _ _ _ _ (at-put-start .put-start .ensures) (at-put .put .ensures) (at-put2 .put2 .ensures)
+    wrote-head _ (at-put-start .put-start .ensures) (at-put .put .ensures) (at-put2 .put2 .ensures)
     (at-put3 .put3 .ensures) (at-put4 .put4 .ensures) readings formals count nodes
 
 pub put-head-spec : {M : Type 1} → statement M

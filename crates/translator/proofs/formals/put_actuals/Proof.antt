@@ -1,17 +1,15 @@
 -- `translator::formals::put_actuals` meets its contract. The loop's invariant: the arguments of the calls passed are written.
-use Prim.Native.Nat.{_+_, _≤_, _-_}
+use Prim.Native.Nat.{_+_, _-_}
 use mathlib.Core.Path.{refl}
 use native.Mathlib.Omega.{arith}
-use Rattle.definitions.specs.Lists.{joined}
-use Rattle.translator.specs.Writing.{Wrote}
-use Rattle.translator.proofs.Writing.{wrote-none, wrote-more, wrote-as, wrote-all}
+use Rattle.translation_words.proofs.Writing.{PartsWritten, parts-begin, parts-go-on, wrote-as, parts-end}
 use Rattle.translator.proofs.FormalSteps.{argumentOf, range-right, place-small, argument-read, actuals-are}
 use borrow.Author.Needs.{needs}
 use Rattle.translator.proofs.formals.put_actuals.Statement.{statement}
 use Rattle.translator.proofs.formals.put_actuals.Tie as tie
 
 abbrev Inv-loop : tie.InvT-loop
-Inv-loop b starts firsts order f i out₀ at node first count next₀ j₀ out next j = (j ≤ count) × Wrote out₀ at (joined j (λ n. argumentOf b order i (first + n))) next out
+Inv-loop b starts firsts order f i out₀ at node first count next₀ j₀ out next j = PartsWritten out₀ at (λ n. argumentOf b order i (first + n)) count j next out
 
 abbrev μ-loop : tie.MeasureT-loop
 μ-loop b starts firsts order f i out₀ at node first count next₀ j₀ out next j = count - j
@@ -44,10 +42,10 @@ sub-count : tie.Need-sub-count Inv-loop μ-loop
 sub-count c =
     let at-wide = c .before .before in
     let pre = at-wide .before .before .before .before .before .pre in
-    range-right _ _ _ _ _ _ _ _ pre (at-wide .wide .ensures .0) (c .wide2 .ensures .0)
+    range-right pre (at-wide .wide .ensures .0) (c .wide2 .ensures .0)
 
 loop-holds : tie.Need-loop-holds Inv-loop μ-loop
-loop-holds c = (search needs, wrote-none _ _ _)
+loop-holds c = parts-begin
 
 add-wide-2 : tie.Need-add-wide-2 Inv-loop μ-loop
 add-wide-2 c = search needs
@@ -60,7 +58,7 @@ element-copy-out-wide-3 c =
     let at-wide2 = c .before .before in
     let at-wide = at-wide2 .before .before in
     let pre = at-wide .before .before .before .before .before .pre in
-    place-small _ _ _ _ _ _ _ _ pre (at-wide .wide .ensures .0) (at-wide2 .wide2 .ensures .0) _ (c .loop-test .taken)
+    place-small pre (at-wide .wide .ensures .0) (at-wide2 .wide2 .ensures .0) (c .loop-test .taken)
 
 wide-requires-3 : tie.Need-wide-requires-3 Inv-loop μ-loop
 wide-requires-3 c κs = search needs
@@ -102,14 +100,13 @@ loop-again c =
     let at-wide = at-wide2 .before .before in
     let at-first-node = at-wide .before .before in
     let pre = at-first-node .before .before .before .pre in
-    let inv = at-loop .loop .inv in
-    let argument = argument-read _ _ _ _ _ _ _ _ pre (at-wide .wide .ensures .0) (at-wide2 .wide2 .ensures .0) _ _ _ _ _ _
+    let argument = argument-read pre (at-wide .wide .ensures .0) (at-wide2 .wide2 .ensures .0)
     (at-test .loop-test .taken) (at-first-node .first-node .ensures .0) (at-wide3 .wide3 .ensures .0) (at-indexed .indexed .ensures)
     (at-field .field .ensures) (at-wide4 .wide4 .ensures .0) in
-    (search needs, wrote-more _ _ _ _ _ _ _ _ (inv .1) (wrote-as _ _ _ _ _ _ argument (at-put .put .ensures)))
+    parts-go-on (at-loop .loop .inv) (at-test .loop-test .taken) (wrote-as argument (at-put .put .ensures))
 
 same-length : tie.Need-same-length Inv-loop μ-loop
-same-length c = c .before .loop .inv .1 .kept
+same-length c = c .before .loop .inv .wrote .kept
 
 returns : tie.Need-returns Inv-loop μ-loop
 returns c =
@@ -117,8 +114,8 @@ returns c =
     let at-wide = at-wide2 .before .before in
     let pre = at-wide .before .before .before .before .before .pre in
     let inv = c .before .loop .inv in
-    let actuals = actuals-are _ _ _ _ _ _ _ _ pre (at-wide .wide .ensures .0) (at-wide2 .wide2 .ensures .0) in
-    wrote-as _ _ _ _ _ _ actuals (wrote-all _ _ _ _ _ _ _ _ refl (inv .0) (c .loop-test .left) (inv .1))
+    let actuals = actuals-are pre (at-wide .wide .ensures .0) (at-wide2 .wide2 .ensures .0) in
+    wrote-as actuals (parts-end inv (c .loop-test .left) refl)
 
 pub put-actuals-spec : {M : Type 1} → statement M
 put-actuals-spec =

@@ -1,5 +1,5 @@
 -- `translator::formals::put_formal` meets its contract: the start of the record, then the actuals.
-use Rattle.translator.proofs.Writing.{wrote-record}
+use Rattle.translation_words.proofs.Writing.{wrote-record}
 use Rattle.translator.proofs.FormalSteps.{range-right, actuals-length}
 use borrow.Author.Needs.{needs}
 use Rattle.translator.proofs.formals.put_formal.Statement.{statement}
@@ -30,7 +30,7 @@ sub-count : tie.Need-sub-count
 sub-count c =
     let at-wide = c .before .before in
     let pre = at-wide .before .before .before .before .pre in
-    range-right _ _ _ _ _ _ _ _ pre (c .wide2 .ensures .0) (at-wide .wide .ensures .0)
+    range-right pre (c .wide2 .ensures .0) (at-wide .wide .ensures .0)
 
 put-start-requires : tie.Need-put-start-requires
 put-start-requires c κs = search needs
@@ -48,8 +48,8 @@ returns c =
     let at-wide2 = at-put-start .before .before in
     let at-wide = at-wide2 .before .before in
     let pre = at-wide .before .before .before .before .pre in
-    let length = actuals-length _ _ _ _ _ _ _ _ pre (at-wide2 .wide2 .ensures .0) (at-wide .wide .ensures .0) in
-    wrote-record _ _ _ _ _ _ _ _ _ (at-put-start .put-start .ensures) (at-put-actuals .put-actuals .ensures) length
+    let length = actuals-length pre (at-wide2 .wide2 .ensures .0) (at-wide .wide .ensures .0) in
+    wrote-record (at-put-start .put-start .ensures) (at-put-actuals .put-actuals .ensures) length
 
 pub put-formal-spec : {M : Type 1} → statement M
 put-formal-spec =

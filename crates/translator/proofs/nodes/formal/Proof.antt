@@ -6,7 +6,7 @@ use Rattle.translator.proofs.nodes.formal.Statement.{statement}
 use Rattle.translator.proofs.nodes.formal.Tie as tie
 
 element-copy-out-wide8 : tie.Need-element-copy-out-wide8
-element-copy-out-wide8 c = formal-narrow _ _ _ _ (c .before .pre)
+element-copy-out-wide8 c = formal-narrow (c .before .pre)
 
 wide8-requires : tie.Need-wide8-requires
 wide8-requires c κs = search needs
@@ -15,7 +15,9 @@ mul-wide : tie.Need-mul-wide
 mul-wide c = search needs
 
 element-copy-out-wide : tie.Need-element-copy-out-wide
-element-copy-out-wide c = omega (arith, formal-owner _ _ _ _ (c .before .before .before .pre) _ (c .wide8 .ensures .0))
+element-copy-out-wide c =
+    let pre = c .before .before .before .pre in
+    omega (arith, formal-owner (pre) (c .wide8 .ensures .0))
 
 wide-requires : tie.Need-wide-requires
 wide-requires c κs = search needs
@@ -30,7 +32,7 @@ returns : tie.Need-returns
 returns c =
     let at-wide8 = c .before .before .before in
     let pre = at-wide8 .before .before .before .pre in
-    formal-is _ _ _ _ pre _ _ _ _ (at-wide8 .wide8 .ensures .0) (c .before .wide .ensures .0) (c .wide2 .ensures .0)
+    formal-is pre (at-wide8 .wide8 .ensures .0) (c .before .wide .ensures .0) (c .wide2 .ensures .0)
 
 pub formal-spec : {M : Type 1} → statement M
 formal-spec =

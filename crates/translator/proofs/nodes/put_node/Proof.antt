@@ -17,13 +17,15 @@ put-read-requires : tie.Need-put-read-requires
 put-read-requires c κs =
     let at-first-node = c .before .before in
     let pre = at-first-node .before .before .before .pre in
-    node-read _ _ _ _ _ _ _ _ _ (pre .0) (pre .1) (at-first-node .first-node .ensures .0) (c .before .indexed .ensures)
+    node-read (pre .0) (pre .1) (at-first-node .first-node .ensures .0) (c .before .indexed .ensures)
 
 same-length : tie.Need-same-length
 same-length c = search needs
 
 returns : tie.Need-returns
-returns c = c .before .before .put-read .ensures
+returns c =
+    let put-read = c .before .before .put-read in
+    put-read .ensures
 
 pub put-node-spec : {M : Type 1} → statement M
 put-node-spec =

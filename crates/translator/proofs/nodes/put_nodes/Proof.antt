@@ -1,17 +1,15 @@
 -- `translator::nodes::put_nodes` meets its contract. The loop's invariant: the nodes passed are written.
-use Prim.Native.Nat.{_≤_, _-_}
+use Prim.Native.Nat.{_-_}
 use mathlib.Core.Path.{_∙_}
 use native.Mathlib.Omega.{arith}
-use Rattle.definitions.specs.Lists.{joined}
 use Rattle.definitions.specs.Translate.{nodeWords}
-use Rattle.translator.specs.Writing.{Wrote}
-use Rattle.translator.proofs.Writing.{wrote-none, wrote-more, wrote-all}
+use Rattle.translation_words.proofs.Writing.{PartsWritten, parts-begin, parts-go-on, parts-end}
 use borrow.Author.Needs.{needs}
 use Rattle.translator.proofs.nodes.put_nodes.Statement.{statement}
 use Rattle.translator.proofs.nodes.put_nodes.Tie as tie
 
 abbrev Inv-loop : tie.InvT-loop
-Inv-loop b starts ends owners labels formals out₀ at count next₀ k₀ out next k = (k ≤ count) × Wrote out₀ at (joined k (nodeWords b)) next out
+Inv-loop b starts ends owners labels formals out₀ at count next₀ k₀ out next k = PartsWritten out₀ at (nodeWords b) count k next out
 
 abbrev μ-loop : tie.MeasureT-loop
 μ-loop b starts ends owners labels formals out₀ at count next₀ k₀ out next k = count - k
@@ -23,7 +21,7 @@ wide-requires : tie.Need-wide-requires Inv-loop μ-loop
 wide-requires c κs = search needs
 
 loop-holds : tie.Need-loop-holds Inv-loop μ-loop
-loop-holds c = (search needs, wrote-none _ _ _)
+loop-holds c = parts-begin
 
 put-node-requires : tie.Need-put-node-requires Inv-loop μ-loop
 put-node-requires c κs =
@@ -41,16 +39,18 @@ loop-less c = search needs
 loop-again : tie.Need-loop-again Inv-loop μ-loop
 loop-again c =
     let at-put-node = c .before .before in
-    let at-loop = at-put-node .before .before .before in
-    (search needs, wrote-more _ _ _ _ _ _ _ _ (at-loop .loop .inv .1) (at-put-node .put-node .ensures))
+    let at-test = at-put-node .before .before in
+    parts-go-on (at-test .before .loop .inv) (at-test .loop-test .taken) (at-put-node .put-node .ensures)
 
 same-length : tie.Need-same-length Inv-loop μ-loop
-same-length c = c .before .loop .inv .1 .kept
+same-length c = c .before .loop .inv .wrote .kept
 
 returns : tie.Need-returns Inv-loop μ-loop
 returns c =
     let inv = c .before .loop .inv in
-    wrote-all _ _ _ _ _ _ _ _ (c .before .before .wide .ensures .0 ∙ c .before .before .before .nodes .ensures) (inv .0) (c .loop-test .left) (inv .1)
+    let nodes = c .before .before .before .nodes in
+    let wide = c .before .before .wide in
+    parts-end inv (c .loop-test .left) (wide .ensures .0 ∙ nodes .ensures)
 
 pub put-nodes-spec : {M : Type 1} → statement M
 put-nodes-spec =

@@ -1,7 +1,7 @@
 -- `translator::nodes::put_read` meets its contract: kind by kind the words are those of the definition.
 use native.Mathlib.Omega.{arith}
 use Rattle.translator.proofs.NodeSteps.{number-words, parameter-words, pattern-words, call-words, copy-words, fields-few, owner-formals}
-use Rattle.translator.proofs.Writing.{wrote-as}
+use Rattle.translation_words.proofs.Writing.{wrote-as}
 use borrow.Author.Needs.{needs}
 use Rattle.translator.proofs.nodes.put_read.Statement.{statement}
 use Rattle.translator.proofs.nodes.put_read.Tie as tie
@@ -39,16 +39,16 @@ returns c =
     let pre = at-kind .before .before .before .before .pre in
     let kind = at-kind .kind .ensures in
     let value = at-field .field .ensures in
-    let words = number-words _ _ _ _ _ _ _ _ pre _ _ kind value _ _ _ (at-test .if1 .taken) (at-field2 .field2 .ensures) (at-wide .wide .ensures .0)
+    let words = number-words pre kind value (at-test .if1 .taken) (at-field2 .field2 .ensures) (at-wide .wide .ensures .0)
     (at-wide2 .wide2 .ensures .0) in
-    wrote-as _ _ _ _ _ _ (words (omega arith) (omega arith)) (at-put-two .put-two .ensures)
+    wrote-as (words (omega arith) (omega arith)) (at-put-two .put-two .ensures)
 
 formal-requires : tie.Need-formal-requires
 formal-requires c κs =
     let at-field = c .before .before .before in
     let at-kind = at-field .before in
     let pre = at-kind .before .before .before .before .pre in
-    owner-formals _ _ _ _ _ _ _ _ pre _ _ (at-kind .kind .ensures) (at-field .field .ensures)
+    owner-formals pre (at-kind .kind .ensures) (at-field .field .ensures)
 
 put-one-requires : tie.Need-put-one-requires
 put-one-requires c κs = search needs
@@ -66,8 +66,8 @@ returns-2 c =
     let pre = at-kind .before .before .before .before .pre in
     let kind = at-kind .kind .ensures in
     let value = at-field .field .ensures in
-    let words = parameter-words _ _ _ _ _ _ _ _ pre _ _ kind value _ (at-if2 .if2 .taken) (at-formal .formal .ensures) in
-    wrote-as _ _ _ _ _ _ words (at-put-one .put-one .ensures)
+    let words = parameter-words pre kind value (at-if2 .if2 .taken) (at-formal .formal .ensures) in
+    wrote-as words (at-put-one .put-one .ensures)
 
 scrutinee-requires : tie.Need-scrutinee-requires
 scrutinee-requires c κs =
@@ -101,9 +101,9 @@ returns-3 c =
     let pre = at-kind .before .before .before .before .pre in
     let kind = at-kind .kind .ensures in
     let value = at-field .field .ensures in
-    let words = pattern-words _ _ _ _ _ _ _ _ pre _ _ kind value _ _ _ (at-if3 .if3 .taken) (at-scrutinee .scrutinee .ensures)
+    let words = pattern-words pre kind value (at-if3 .if3 .taken) (at-scrutinee .scrutinee .ensures)
     (at-wide3 .wide3 .ensures .0) (at-wide4 .wide4 .ensures .0) in
-    wrote-as _ _ _ _ _ _ words (at-put-two2 .put-two2 .ensures)
+    wrote-as words (at-put-two2 .put-two2 .ensures)
 
 mul-wide : tie.Need-mul-wide
 mul-wide c = search needs
@@ -134,15 +134,15 @@ returns-4 c =
     let pre = at-kind .before .before .before .before .pre in
     let kind = at-kind .kind .ensures in
     let value = at-field .field .ensures in
-    let words = call-words _ _ _ _ _ _ _ _ pre _ _ kind value _ _ (at-if4 .if4 .taken) (at-wide5 .wide5 .ensures .0) (at-wide6 .wide6 .ensures .0) in
-    wrote-as _ _ _ _ _ _ words (at-put-two3 .put-two3 .ensures)
+    let words = call-words pre kind value (at-if4 .if4 .taken) (at-wide5 .wide5 .ensures .0) (at-wide6 .wide6 .ensures .0) in
+    wrote-as words (at-put-two3 .put-two3 .ensures)
 
 put-copy-requires : tie.Need-put-copy-requires
 put-copy-requires c κs =
     let at-field = c .before .before .before .before .before in
     let at-kind = at-field .before in
     let pre = at-kind .before .before .before .before .pre in
-    fields-few _ _ _ _ _ _ _ _ pre _ _ (at-kind .kind .ensures) (at-field .field .ensures)
+    fields-few pre (at-kind .kind .ensures) (at-field .field .ensures)
 
 same-length-5 : tie.Need-same-length-5
 same-length-5 c = search needs
@@ -159,8 +159,8 @@ returns-5 c =
     let pre = at-kind .before .before .before .before .pre in
     let kind = at-kind .kind .ensures in
     let value = at-field .field .ensures in
-    let words = copy-words _ _ _ _ _ _ _ _ pre _ _ kind value (at-test .if1 .left) (at-if2 .if2 .left) (at-if3 .if3 .left) (at-if4 .if4 .left) in
-    wrote-as _ _ _ _ _ _ words (at-put-copy .put-copy .ensures)
+    let words = copy-words pre kind value (at-test .if1 .left) (at-if2 .if2 .left) (at-if3 .if3 .left) (at-if4 .if4 .left) in
+    wrote-as words (at-put-copy .put-copy .ensures)
 
 pub put-read-spec : {M : Type 1} → statement M
 put-read-spec =

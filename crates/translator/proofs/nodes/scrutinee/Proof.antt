@@ -8,7 +8,7 @@ use Rattle.translator.proofs.nodes.scrutinee.Tie as tie
 element-copy-out-wide8 : tie.Need-element-copy-out-wide8
 element-copy-out-wide8 c =
     let pre = c .before .pre in
-    scrutinee-narrow _ _ _ _ _ (pre .0) (pre .1)
+    scrutinee-narrow (pre .0) (pre .1)
 
 wide8-requires : tie.Need-wide8-requires
 wide8-requires c κs = search needs
@@ -19,7 +19,7 @@ mul-wide c = search needs
 element-copy-out-wide : tie.Need-element-copy-out-wide
 element-copy-out-wide c =
     let pre = c .before .before .before .pre in
-    scrutinee-owner _ _ _ _ _ (pre .0) (pre .1) _ (c .wide8 .ensures .0)
+    scrutinee-owner (pre .0) (pre .1) (c .wide8 .ensures .0)
 
 wide-requires : tie.Need-wide-requires
 wide-requires c κs = search needs
@@ -31,7 +31,7 @@ sub-indexed : tie.Need-sub-indexed
 sub-indexed c =
     let at-wide8 = c .before .before .before in
     let pre = at-wide8 .before .before .before .pre in
-    omega (arith, scrutinee-end _ _ _ _ _ (pre .0) (pre .1) _ _ (at-wide8 .wide8 .ensures .0) (c .before .wide .ensures .0))
+    omega (arith, scrutinee-end (pre .0) (pre .1) _ _ (at-wide8 .wide8 .ensures .0) (c .before .wide .ensures .0))
 
 add-indexed : tie.Need-add-indexed
 add-indexed c = search needs
@@ -48,7 +48,7 @@ returns c =
     let at-wide = at-first-node .before in
     let at-wide8 = at-wide .before .before in
     let pre = at-wide8 .before .before .before .pre in
-    scrutinee-read _ _ _ _ _ (pre .0) (pre .1) _ _ _ _ _ (at-wide8 .wide8 .ensures .0) (at-wide .wide .ensures .0)
+    scrutinee-read (pre .0) (pre .1) (at-wide8 .wide8 .ensures .0) (at-wide .wide .ensures .0)
     (at-first-node .first-node .ensures .0) (c .before .indexed .ensures) (c .field .ensures)
 
 pub scrutinee-spec : {M : Type 1} → statement M

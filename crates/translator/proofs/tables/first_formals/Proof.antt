@@ -25,7 +25,7 @@ wide-requires c κs = search needs
 loop-holds : tie.Need-loop-holds Inv-loop μ-loop
 loop-holds c =
     let pre = c .before .before .before .pre in
-    summing-begins _ _ _ (omega (arith, c .wide .ensures .0, c .before .functions .ensures, functions-limit Sheet _ (pre .accepted))) refl refl
+    summing-begins (omega (arith, c .wide .ensures .0, c .before .functions .ensures, functions-limit Sheet _ (pre .accepted))) refl refl
 
 parameters-requires : tie.Need-parameters-requires Inv-loop μ-loop
 parameters-requires c κs = search needs
@@ -37,7 +37,7 @@ add-total c =
     let at-functions = at-wide .before in
     let pre = at-functions .before .before .pre in
     let count = at-wide .wide .ensures .0 ∙ at-functions .functions .ensures in
-    omega (arith, formals-few _ _ _ _ _ pre (c .before .loop-test .taken) count (c .parameters .ensures) _ (at-loop .loop .inv .summed))
+    omega (arith, formals-few pre (c .before .loop-test .taken) count (c .parameters .ensures) (at-loop .loop .inv .summed))
 
 add-f : tie.Need-add-f Inv-loop μ-loop
 add-f c = search needs
@@ -59,13 +59,13 @@ loop-again c =
     let pre = at-functions .before .before .pre in
     let taken = c .before .loop-test .taken in
     let count = at-wide .wide .ensures .0 ∙ at-functions .functions .ensures in
-    summing-goes-on _ _ _ _ _ _ (at-loop .loop .inv) taken (parameters-read _ _ _ _ _ pre taken count (c .parameters .ensures))
+    summing-goes-on (at-loop .loop .inv) taken (parameters-read pre taken count (c .parameters .ensures))
 
 returns : tie.Need-returns Inv-loop μ-loop
 returns c =
     let at-wide = c .before .before in
     let at-functions = at-wide .before in
-    summing-done _ _ _ _ _ _ (c .before .loop .inv) (c .loop-test .left) (at-wide .wide .ensures .0 ∙ at-functions .functions .ensures)
+    summing-done (c .before .loop .inv) (c .loop-test .left) (at-wide .wide .ensures .0 ∙ at-functions .functions .ensures)
 
 pub first-formals-spec : {M : Type 1} → statement M
 first-formals-spec =

@@ -31,8 +31,8 @@ word-requires-2 c κs = search needs
 at-turn-requires : tie.Need-at-turn-requires Inv-loop μ-loop
 at-turn-requires c κs = search needs
 
-put-requires : tie.Need-put-requires Inv-loop μ-loop
-put-requires c κs = search needs
+put-word-requires : tie.Need-put-word-requires Inv-loop μ-loop
+put-word-requires c κs = search needs
 
 add-i : tie.Need-add-i Inv-loop μ-loop
 add-i c = search needs
@@ -59,7 +59,7 @@ put-turn-spec =
     after-requires
     word-requires-2
     at-turn-requires
-    put-requires
+    put-word-requires
     add-i
     loop-less
     loop-again

@@ -1,0 +1,39 @@
+//! The linked archive behind the calls that are compared.
+
+use crate::interface::{Allowances, Interface};
+use zifnora::raw;
+
+pub struct Archive;
+
+impl Interface for Archive {
+    fn translate(&self, sheet: &[u8], out: &mut [u8]) -> u64 {
+        raw::translate(sheet, out)
+    }
+
+    fn run(
+        &self,
+        translation: &[u8],
+        readings: &[i32],
+        allowances: Allowances,
+        cells: &mut [u8],
+        record: &mut [u8],
+    ) -> u64 {
+        raw::run(translation, readings, allowances, cells, record)
+    }
+
+    fn translate_and_run(
+        &self,
+        sheet: &[u8],
+        out: &mut [u8],
+        readings: &[i32],
+        allowances: Allowances,
+        cells: &mut [u8],
+        record: &mut [u8],
+    ) -> u64 {
+        raw::translate_and_run(sheet, out, readings, allowances, cells, record)
+    }
+
+    fn list_context(&self, cells: &[u8], cell: u32, out: &mut [u8]) -> u64 {
+        raw::list_context(cells, cell, out)
+    }
+}

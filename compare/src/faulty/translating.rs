@@ -1,0 +1,108 @@
+//! Faults in translating, in the joined call and in listing a context.
+
+use super::Faulty;
+use crate::model::answer::Answer;
+use crate::model::records::two_bytes;
+use crate::model::translation::{Node, Translation};
+use crate::model::{joined, listing, Behaviour, Refusal};
+use zifnora::numbers::{is_refusal, BAD_READINGS, SHORT_OUTPUT};
+use zifnora::sizes::{CELL_BYTES, LABEL_BYTES, TRANSLATION_BYTES};
+
+/// Labels from 0 in each function.
+pub fn restart_labels(mut translation: Translation) -> Translation {
+    let functions = translation.counts.len();
+    let mut nodes = translation.nodes.iter_mut();
+    for &count in &translation.counts {
+        let mut next = vec![0; functions];
+        for node in nodes.by_ref().take(count as usize) {
+            if let Node::Call { label, function } = node {
+                *label = next[*function as usize];
+                next[*function as usize] += 1;
+            }
+        }
+    }
+    translation
+}
+
+/// Select's index is the position.
+pub fn lower_indices(mut translation: Translation) -> Translation {
+    for node in &mut translation.nodes {
+        if let Node::Select { index, .. } = node {
+            *index -= 1;
+        }
+    }
+    translation
+}
+
+/// Writes zeros past the translation.
+pub fn clear_past(result: Result<usize, Refusal>, out: &mut [u8]) -> Result<usize, Refusal> {
+    let length = result?;
+    out[length..].fill(0);
+    Ok(length)
+}
+
+/// Writes the start of a translation that does not fit.
+pub fn write_what_fits(
+    faulty: &Faulty,
+    file: &[u8],
+    result: Result<usize, Refusal>,
+    out: &mut [u8],
+) -> Result<usize, Refusal> {
+    if result == Err(Refusal::new(SHORT_OUTPUT, 0)) {
+        let mut whole = vec![0; TRANSLATION_BYTES];
+        joined::translate_into(faulty, file, &mut whole)?;
+        out.copy_from_slice(&whole[..out.len()]);
+    }
+    result
+}
+
+/// Writes the translation of a sheet whose run is refused.
+pub fn write_if_refused(faulty: &Faulty, file: &[u8], answer: Answer, out: &mut [u8]) -> Answer {
+    if is_refusal(answer.outcome) {
+        // The answer has the refusal already.
+        let _ = faulty.translate_into(file, out);
+    }
+    answer
+}
+
+/// 9, where the sheet is accepted and the readings are not as many as due.
+pub fn bad_readings(faulty: &Faulty, file: &[u8], readings: &[i32]) -> Option<Refusal> {
+    let sheet = faulty.read_sheet(file).ok()?;
+    let wrong = sheet.readings as usize != readings.len();
+    wrong.then_some(Refusal::new(BAD_READINGS, 0))
+}
+
+/// The labels in the other order.
+pub fn list_oldest_first(lent: &[u8], cell: u32, out: &mut [u8]) -> Result<u32, Refusal> {
+    let count = listing::list(lent, cell, out)?;
+    let labels = &mut out[..LABEL_BYTES * count as usize];
+    labels.reverse();
+    labels
+        .chunks_exact_mut(LABEL_BYTES)
+        .for_each(<[u8]>::reverse);
+    Ok(count)
+}
+
+/// The previous number of a damaged cell as its place.
+pub fn list_other_place(lent: &[u8], cell: u32, out: &mut [u8]) -> Result<u32, Refusal> {
+    listing::list(lent, cell, out).map_err(|refusal| {
+        let cells: Vec<&[u8]> = lent.chunks_exact(CELL_BYTES).collect();
+        let damaged = match refusal.place {
+            0 => None,
+            place => cells.get(place as usize - 1),
+        };
+        let place = damaged.map_or(refusal.place, |cell| two_bytes(cell, 2) as u32);
+        Refusal::new(refusal.number, place)
+    })
+}
+
+/// Takes two bytes past the last whole cell for a cell with that label.
+pub fn list_part_cell(lent: &[u8], cell: u32, out: &mut [u8]) -> Result<u32, Refusal> {
+    let mut longer = lent.to_vec();
+    let part = lent.len() % CELL_BYTES;
+    if part >= LABEL_BYTES {
+        longer.truncate(lent.len() - part + LABEL_BYTES);
+        longer.extend_from_slice(&[0, 0]);
+    }
+    listing::list(&longer, cell, out)
+}

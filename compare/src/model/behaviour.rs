@@ -1,0 +1,156 @@
+//! The steps of the model that can be exchanged. By default each is the
+//! model's own; `crate::faulty` overrides them one at a time.
+
+use super::answer::Answer;
+use super::records::{Record, Records};
+use super::run::{Run, Value};
+use super::sheet::Sheet;
+use super::translation::Translation;
+use super::{joined, listing, operator, rules, run, sheet, translate, Refusal};
+use crate::interface::Allowances;
+
+pub trait Behaviour: Sized {
+    // Reading a file.
+    fn read_sheet(&self, file: &[u8]) -> Result<Sheet, Refusal> {
+        sheet::read(self, file)
+    }
+
+    fn next_record<'a>(
+        &self,
+        records: &mut Records<'a>,
+        due: &[u16],
+    ) -> Result<Record<'a>, Refusal> {
+        records.next(due)
+    }
+
+    fn finish(&self, records: &Records) -> Result<(), Refusal> {
+        records.finish()
+    }
+
+    fn check_sum(&self, counts: &[u16], nodes_due: u16, place: u32) -> Result<(), Refusal> {
+        sheet::check_sum(counts, nodes_due, place)
+    }
+
+    // The checks of a sheet over several records.
+    fn check_references(&self, sheet: &Sheet) -> Result<(), Refusal> {
+        rules::check_references(sheet)
+    }
+
+    fn check_tree(&self, sheet: &Sheet) -> Result<(), Refusal> {
+        rules::check_tree(self, sheet)
+    }
+
+    fn count_uses(&self, sheet: &Sheet) -> Vec<u32> {
+        rules::count_uses(sheet)
+    }
+
+    fn clauses_rise(&self, clauses: &[(u16, u16)]) -> bool {
+        rules::clauses_rise(clauses)
+    }
+
+    fn check_patterns(&self, sheet: &Sheet) -> Result<(), Refusal> {
+        rules::check_patterns(self, sheet)
+    }
+
+    fn clause_around(&self, sheet: &Sheet, parents: &[Option<usize>], node: usize) -> Option<u16> {
+        rules::clause_around(sheet, parents, node)
+    }
+
+    fn position_fits(&self, position: u16, arity: u16) -> bool {
+        rules::position_fits(position, arity)
+    }
+
+    // Translating.
+    fn translate(&self, sheet: &Sheet) -> Translation {
+        translate::translate(sheet)
+    }
+
+    fn translate_into(&self, file: &[u8], out: &mut [u8]) -> Result<usize, Refusal> {
+        joined::translate_into(self, file, out)
+    }
+
+    fn translate_and_run(
+        &self,
+        file: &[u8],
+        out: &mut [u8],
+        readings: &[i32],
+        allowances: Allowances,
+        cells: &mut [u8],
+    ) -> Answer {
+        joined::translate_and_run(self, file, out, readings, allowances, cells)
+    }
+
+    // Running.
+    fn accept(
+        &self,
+        file: &[u8],
+        readings: &[i32],
+        allowances: Allowances,
+        lent: usize,
+    ) -> Result<Translation, Refusal> {
+        run::accept(self, file, readings, allowances, lent)
+    }
+
+    fn run_accepted(
+        &self,
+        translation: &Translation,
+        readings: &[i32],
+        allowances: Allowances,
+        lent: &mut [u8],
+    ) -> Answer {
+        run::run_accepted(self, translation, readings, allowances, lent)
+    }
+
+    fn stop(&self, no_step: bool, _too_deep: bool) -> u16 {
+        run::stop(no_step)
+    }
+
+    /// An actual is visited under the tail.
+    fn actual_context(&self, _whole: u16, tail: u16) -> u16 {
+        tail
+    }
+
+    /// A field is visited under the tuple's own context.
+    fn field_context(&self, _selecting: u16, own: u16) -> u16 {
+        own
+    }
+
+    /// A tuple is itself with its context; no field is visited.
+    fn visit_tuple(
+        &self,
+        _run: &mut Run<Self>,
+        node: u16,
+        context: u16,
+        _open: u32,
+    ) -> Result<Value, u16> {
+        Ok(Value::Tuple { node, context })
+    }
+
+    fn operands(
+        &self,
+        run: &mut Run<Self>,
+        nodes: (u16, u16),
+        context: u16,
+        open: u32,
+    ) -> Result<(i32, i32), u16> {
+        run.operands(nodes, context, open)
+    }
+
+    fn operate(&self, code: u16, left: i32, right: i32) -> Result<i32, u16> {
+        operator::apply(code, left, right)
+    }
+
+    fn chosen_clause(&self, clauses: &[(u16, u16)], tag: u16) -> Option<u16> {
+        run::chosen_clause(clauses, tag)
+    }
+
+    // Listing a context.
+    fn list(&self, lent: &[u8], cell: u32, out: &mut [u8]) -> Result<u32, Refusal> {
+        listing::list(lent, cell, out)
+    }
+}
+
+/// The model as the papers have it.
+pub struct Correct;
+
+impl Behaviour for Correct {}

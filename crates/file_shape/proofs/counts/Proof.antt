@@ -1,0 +1,66 @@
+-- `file_shape::counts` meets its contract, kind by kind.
+use Rattle.laws.proofs.Shape.{counts-head, counts-constructor, counts-parameters, counts-sheet-run, counts-run, counts-other}
+use borrow.Author.Needs.{needs}
+use Rattle.file_shape.proofs.counts.Statement.{statement}
+use Rattle.file_shape.proofs.counts.Tie as tie
+
+head-counts-requires : tie.Need-head-counts-requires
+head-counts-requires c κs = search needs
+
+returns : tie.Need-returns
+returns c = search counts-head
+
+kind-requires : tie.Need-kind-requires
+kind-requires c κs = search needs
+
+field-requires : tie.Need-field-requires
+field-requires c κs = search needs
+
+cast-result : tie.Need-cast-result
+cast-result c = search needs
+
+returns-2 : tie.Need-returns-2
+returns-2 c = search counts-constructor
+
+field-requires-2 : tie.Need-field-requires-2
+field-requires-2 c κs = search needs
+
+cast-if4 : tie.Need-cast-if4
+cast-if4 c = search needs
+
+returns-3 : tie.Need-returns-3
+returns-3 c = search counts-parameters
+
+run-counts-requires : tie.Need-run-counts-requires
+run-counts-requires c κs = search needs
+
+returns-4 : tie.Need-returns-4
+returns-4 c = search counts-sheet-run
+
+run-counts-requires-2 : tie.Need-run-counts-requires-2
+run-counts-requires-2 c κs = search needs
+
+returns-5 : tie.Need-returns-5
+returns-5 c = search counts-run
+
+returns-6 : tie.Need-returns-6
+returns-6 c = search counts-other
+
+pub counts-spec : {M : Type 1} → statement M
+counts-spec =
+    tie.close
+    (tie.spec
+    head-counts-requires
+    returns
+    kind-requires
+    field-requires
+    cast-result
+    returns-2
+    field-requires-2
+    cast-if4
+    returns-3
+    run-counts-requires
+    returns-4
+    run-counts-requires-2
+    returns-5
+    returns-6)

@@ -1,0 +1,72 @@
+//! The calls with typed results.
+
+use crate::answer::{Allowances, Answer, Ended, Record, Refusal};
+use crate::raw;
+use crate::sizes::{ANSWER_BYTES, CELL_BYTES, LABEL_BYTES};
+
+/// Translates a sheet; the translation's length. `out` starts with the
+/// translation and stays as it was past it; a refusal leaves all of it as it
+/// was. A buffer of `sizes::TRANSLATION_BYTES` is always long enough.
+pub fn translate(sheet: &[u8], out: &mut [u8]) -> Result<usize, Refusal> {
+    raw::result(raw::translate(sheet, out))
+}
+
+/// Runs a translation on readings, in lent cells of 4 bytes each. `cells`
+/// starts with the cells made and stays as it was past them; a refusal leaves
+/// all of it as it was.
+pub fn run(
+    translation: &[u8],
+    readings: &[i32],
+    allowances: Allowances,
+    cells: &mut [u8],
+) -> Ended {
+    let mut record = [0; ANSWER_BYTES];
+    let code = raw::run(translation, readings, allowances, cells, &mut record);
+    ended(code, &record)
+}
+
+/// Translates a sheet into `out` and runs the translation. Any refusal leaves
+/// `out` and `cells` as they were.
+pub fn translate_and_run(
+    sheet: &[u8],
+    out: &mut [u8],
+    readings: &[i32],
+    allowances: Allowances,
+    cells: &mut [u8],
+) -> Ended {
+    let mut record = [0; ANSWER_BYTES];
+    let code = raw::translate_and_run(sheet, out, readings, allowances, cells, &mut record);
+    ended(code, &record)
+}
+
+/// The labels of a cell's context, newest first; cell 0 has none.
+pub fn list_context(cells: &[u8], cell: u32) -> Result<Vec<u16>, Refusal> {
+    // A context has no more labels than there are cells.
+    let mut out = vec![0; cells.len() / CELL_BYTES * LABEL_BYTES];
+    let count = list_context_into(cells, cell, &mut out)?;
+    let labels = out.chunks_exact(LABEL_BYTES).take(count);
+    Ok(labels
+        .map(|label| u16::from_le_bytes([label[0], label[1]]))
+        .collect())
+}
+
+/// The same labels into lent bytes, two each; their count. `out` stays as it
+/// was past them; a refusal leaves all of it as it was.
+pub fn list_context_into(cells: &[u8], cell: u32, out: &mut [u8]) -> Result<usize, Refusal> {
+    raw::result(raw::list_context(cells, cell, out))
+}
+
+/// The end of a run, by its code and its record.
+fn ended(code: u64, record: &[u8]) -> Ended {
+    match raw::result(code) {
+        Ok(_) => {
+            let record = Record::from_bytes(record).expect("an answer record");
+            record.ended().expect("an outcome of the table")
+        }
+        Err(refusal) => Ended {
+            answer: Answer::Refused(refusal),
+            steps: 0,
+            cells: 0,
+        },
+    }
+}

@@ -1,0 +1,28 @@
+//! Rule sheets of document 01: a builder of sheets, their translation, its
+//! run, and the listing of a context. The calls are those of the archive
+//! `libzifnora_c.a`, whose code is proved against the definitions in this
+//! repository; nothing here but `build_sheet` and the decoding of records is
+//! code of its own.
+//!
+//! `translate`, `run`, `translate_and_run` and `list_context` have typed
+//! results; the module `raw` has the same calls with the codes and record
+//! bytes as the archive gives them.
+
+mod answer;
+pub mod build_sheet;
+#[cfg(feature = "archive")]
+mod calls;
+pub mod kinds;
+pub mod numbers;
+#[cfg(feature = "archive")]
+pub mod raw;
+pub mod sizes;
+
+pub use answer::{Allowances, Answer, Ended, Fault, Record, Refusal, Stop};
+#[cfg(feature = "archive")]
+pub use calls::{list_context, list_context_into, run, translate, translate_and_run};
+
+/// The example of the README, which `cargo test` runs.
+#[cfg(all(doctest, feature = "archive"))]
+#[doc = include_str!("../README.md")]
+struct Readme;

@@ -1,0 +1,160 @@
+//! The calls as the archive has them, over slices. Each returns one number of
+//! 64 bits, which `result` opens; the answer of a run is the record that it
+//! writes. `include/zifnora.h` says what each call writes and what it leaves.
+
+use crate::answer::{Allowances, Refusal};
+
+/// A lent buffer as the two calls that run take it: address and length,
+/// behind a pointer. It is as it was after the call.
+#[repr(C)]
+#[derive(PartialEq)]
+struct Lent {
+    data: *mut u8,
+    length: usize,
+}
+
+impl Lent {
+    fn of(bytes: &mut [u8]) -> Lent {
+        Lent {
+            data: bytes.as_mut_ptr(),
+            length: bytes.len(),
+        }
+    }
+}
+
+extern "C" {
+    fn zifnora_translate(
+        sheet: *const u8,
+        sheet_length: usize,
+        out: *mut u8,
+        out_length: usize,
+    ) -> u64;
+
+    fn zifnora_run_slice(
+        translation: *const u8,
+        translation_length: usize,
+        readings: *const i32,
+        readings_count: usize,
+        steps: u32,
+        nesting: u32,
+        cells_allowed: u32,
+        cells: *mut Lent,
+        record: *mut u8,
+        record_length: usize,
+    ) -> u64;
+
+    fn zifnora_translate_and_run_slice(
+        sheet: *const u8,
+        sheet_length: usize,
+        out: *mut u8,
+        out_length: usize,
+        readings: *const i32,
+        readings_count: usize,
+        steps: u32,
+        nesting: u32,
+        cells_allowed: u32,
+        cells: *mut Lent,
+        record: *mut u8,
+        record_length: usize,
+    ) -> u64;
+
+    fn zifnora_list_context(
+        cells: *const u8,
+        cells_length: usize,
+        cell: u32,
+        out: *mut u8,
+        out_length: usize,
+    ) -> u64;
+}
+
+// Safety of the four calls: every pointer comes from a live slice of the
+// stated length; slices that are written are borrowed mutably, so that they
+// overlap no other; the pair of the cells is a local variable.
+
+/// Translates a sheet into `out`.
+#[inline]
+pub fn translate(sheet: &[u8], out: &mut [u8]) -> u64 {
+    unsafe { zifnora_translate(sheet.as_ptr(), sheet.len(), out.as_mut_ptr(), out.len()) }
+}
+
+/// Runs a translation and writes the answer record.
+#[inline]
+pub fn run(
+    translation: &[u8],
+    readings: &[i32],
+    allowances: Allowances,
+    cells: &mut [u8],
+    record: &mut [u8],
+) -> u64 {
+    let mut lent = Lent::of(cells);
+    let code = unsafe {
+        zifnora_run_slice(
+            translation.as_ptr(),
+            translation.len(),
+            readings.as_ptr(),
+            readings.len(),
+            allowances.steps,
+            allowances.nesting,
+            allowances.cells,
+            &mut lent,
+            record.as_mut_ptr(),
+            record.len(),
+        )
+    };
+    assert!(lent == Lent::of(cells), "the pair is as it was");
+    code
+}
+
+/// Translates a sheet into `out`, runs the translation and writes the answer
+/// record.
+#[inline]
+pub fn translate_and_run(
+    sheet: &[u8],
+    out: &mut [u8],
+    readings: &[i32],
+    allowances: Allowances,
+    cells: &mut [u8],
+    record: &mut [u8],
+) -> u64 {
+    let mut lent = Lent::of(cells);
+    let code = unsafe {
+        zifnora_translate_and_run_slice(
+            sheet.as_ptr(),
+            sheet.len(),
+            out.as_mut_ptr(),
+            out.len(),
+            readings.as_ptr(),
+            readings.len(),
+            allowances.steps,
+            allowances.nesting,
+            allowances.cells,
+            &mut lent,
+            record.as_mut_ptr(),
+            record.len(),
+        )
+    };
+    assert!(lent == Lent::of(cells), "the pair is as it was");
+    code
+}
+
+/// Lists the labels of a cell's context, newest first, into `out`.
+#[inline]
+pub fn list_context(cells: &[u8], cell: u32, out: &mut [u8]) -> u64 {
+    unsafe {
+        zifnora_list_context(
+            cells.as_ptr(),
+            cells.len(),
+            cell,
+            out.as_mut_ptr(),
+            out.len(),
+        )
+    }
+}
+
+/// Opens what a call returned: a length or a count, or the refusal.
+pub fn result(code: u64) -> Result<usize, Refusal> {
+    match (code >> 32) as u16 {
+        0 => Ok(code as u32 as usize),
+        number => Err(Refusal::new(number, code as u32)),
+    }
+}

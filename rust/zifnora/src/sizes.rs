@@ -1,0 +1,31 @@
+//! Document 01's sizes and ceilings.
+
+/// "Sheet, at most 32,768 bytes".
+pub const SHEET_BYTES: usize = 32_768;
+
+/// "Translation, at most 40,960 bytes"; a buffer so long is always enough.
+pub const TRANSLATION_BYTES: usize = 40_960;
+
+pub const MOST_READINGS: usize = 32;
+pub const MOST_CONSTRUCTORS: usize = 64;
+pub const MOST_FUNCTIONS: usize = 64;
+pub const MOST_FORMALS: usize = 512;
+pub const MOST_NODES: usize = 1024;
+
+/// Of a constructor's arity, and of a function's parameters.
+pub const MOST_FIELDS: usize = 8;
+
+/// Of the nesting allowance, which starts at 1.
+pub const MOST_NESTING: u32 = 1024;
+
+/// Of the cell allowance, which starts at 0.
+pub const MOST_CELLS: u32 = 8192;
+
+/// Bytes lent for each cell: a label and the number of the previous cell.
+pub const CELL_BYTES: usize = 4;
+
+/// Bytes of a label in a context listing.
+pub const LABEL_BYTES: usize = 2;
+
+/// The answer record.
+pub const ANSWER_BYTES: usize = 20;
