@@ -8,10 +8,11 @@
  * Platform: x86-64, System V calling convention; the archive is ELF. Build it with `rt staticlib zifnora_c`, and link
  * target/staticlib/libzifnora_c.a. It needs `memcpy` and `memset` from what it is linked with, and nothing else (`nm -u`).
  *
- * Stack: a run takes less than 96 KiB, the joined call less than 144 KiB, the other calls less than 32 KiB. These bounds are
- * measured, not proved. `bench` measures on files that nest in each way in which visits can nest, to 1,024 open visits, and
- * prints: a run 12,704 bytes, 80 more for each visit that stays open, 94,152 at nesting 1,024; the joined call 57,952 and
- * 135,096; translating 16,672; listing a context 24. Another build of the archive has to be measured again.
+ * Stack: a run takes less than 96 KiB, on one row of readings or on several, the joined call less than 144 KiB, the other calls
+ * less than 32 KiB. These bounds are measured, not proved. `bench` measures on files that nest in each way in which visits can
+ * nest, to 1,024 open visits, and prints: a run 12,704 bytes, 80 more for each visit that stays open, 94,152 at nesting 1,024;
+ * the joined call 57,952 and 135,096; translating 16,672; listing a context 24. Another build of the archive has to be measured
+ * again.
  */
 #ifndef ZIFNORA_H
 #define ZIFNORA_H
@@ -29,6 +30,7 @@ extern "C" {
 #define ZIFNORA_READINGS 32u              /* readings */
 #define ZIFNORA_NESTING 1024u             /* the nesting allowance, from 1 */
 #define ZIFNORA_CELLS 8192u               /* the cell allowance, from 0 */
+#define ZIFNORA_ROWS 16u                  /* rows of readings in one call, from 0 */
 #define ZIFNORA_CELL_BYTES 4u             /* lent for each cell: label, number of the previous cell (two bytes each) */
 #define ZIFNORA_RECORD_BYTES 20u          /* the answer record */
 
@@ -155,9 +157,9 @@ static inline int zifnora_decode_record(const uint8_t *bytes, struct zifnora_rec
  * (1 to 8) leaves all of `out` as it was. */
 uint64_t zifnora_translate(const uint8_t *sheet, size_t sheet_length, uint8_t *out, size_t out_length);
 
-/* The two calls that run, as they stand in the archive: the lent cells are a pair of address and length behind a pointer. The
- * pair is as it was after the call, and must not overlap any buffer of the call. zifnora_run and zifnora_translate_and_run below
- * make the pair; what they say of `cells` holds of the bytes that it names. */
+/* The three calls that run, as they stand in the archive: the lent cells are a pair of address and length behind a pointer. The
+ * pair is as it was after the call, and must not overlap any buffer of the call. zifnora_run, zifnora_run_rows and
+ * zifnora_translate_and_run below make the pair; what they say of `cells` holds of the bytes that it names. */
 struct zifnora_slice {
   uint8_t *data;
   size_t length;
@@ -165,6 +167,9 @@ struct zifnora_slice {
 uint64_t zifnora_run_slice(const uint8_t *translation, size_t translation_length, const int32_t *readings, size_t readings_count,
                            uint32_t steps, uint32_t nesting, uint32_t cells_allowed, struct zifnora_slice *cells,
                            uint8_t *record, size_t record_length);
+uint64_t zifnora_run_rows_slice(const uint8_t *translation, size_t translation_length, uint32_t rows, const int32_t *readings,
+                                size_t readings_count, uint32_t steps, uint32_t nesting, uint32_t cells_allowed,
+                                struct zifnora_slice *cells, uint8_t *records, size_t records_length);
 uint64_t zifnora_translate_and_run_slice(const uint8_t *sheet, size_t sheet_length, uint8_t *out, size_t out_length,
                                          const int32_t *readings, size_t readings_count, uint32_t steps, uint32_t nesting,
                                          uint32_t cells_allowed, struct zifnora_slice *cells, uint8_t *record,
@@ -185,8 +190,27 @@ static inline uint64_t zifnora_run(const uint8_t *translation, size_t translatio
                            record, record_length);
 }
 
-/* Translates a sheet into `out` and runs the translation; the rest is as above. Any refusal (1 to 7 of the sheet, then 8 where
- * `out` is too short, then 9, then 10) is in the record, and leaves `out` and `cells` as they were. */
+/* Runs a translation on each of `rows` rows of readings, which stand one after the other, and writes an answer record for each,
+ * one after the other. The runs are done in turn in the same cells, each with all of the allowances. Returns the length of the
+ * records, 20 for each row; `records` stays as it was past them.
+ *
+ * A refusal runs no row, and leaves `records` and `cells` as they were: 1 to 5 of the translation, then 9 where `readings_count`
+ * is not the rows times the readings that the translation asks for, then 10 where the rows are more than ZIFNORA_ROWS or a run
+ * with these allowances and cells is refused, then 8 where `records` has fewer than 20 bytes for each row. So no record has a
+ * refusal.
+ *
+ * `cells` is as these runs leave it: each makes its cells from the first on, and past them it stays as the run before left it. */
+static inline uint64_t zifnora_run_rows(const uint8_t *translation, size_t translation_length, uint32_t rows,
+                                        const int32_t *readings, size_t readings_count, uint32_t steps, uint32_t nesting,
+                                        uint32_t cells_allowed, uint8_t *cells, size_t cells_length, uint8_t *records,
+                                        size_t records_length) {
+  struct zifnora_slice lent = {cells, cells_length};
+  return zifnora_run_rows_slice(translation, translation_length, rows, readings, readings_count, steps, nesting, cells_allowed,
+                                &lent, records, records_length);
+}
+
+/* Translates a sheet into `out` and runs the translation; the rest is as for zifnora_run. Any refusal (1 to 7 of the sheet, then
+ * 8 where `out` is too short, then 9, then 10) is in the record, and leaves `out` and `cells` as they were. */
 static inline uint64_t zifnora_translate_and_run(const uint8_t *sheet, size_t sheet_length, uint8_t *out, size_t out_length,
                                                  const int32_t *readings, size_t readings_count, uint32_t steps,
                                                  uint32_t nesting, uint32_t cells_allowed, uint8_t *cells,

@@ -1,5 +1,6 @@
 //! Costs of the interface beside plain Rust in the same process: of a step,
-//! of accepting a file, of translating; and the stack that the calls take.
+//! of accepting a file, of translating, of rows in one call; and the stack
+//! that the calls take.
 
 mod chains;
 mod measure;
@@ -35,6 +36,8 @@ fn main() {
     tables::sizes(subject);
     println!();
     tables::translations(subject);
+    println!();
+    tables::rows(subject);
     println!();
     tables::stack(subject);
 }

@@ -7,7 +7,7 @@ use compare::interface::{count, Allowances, Interface};
 use compare::model::answer::{Answer, RECORD};
 use std::hint::black_box;
 use std::time::Instant;
-use zifnora::sizes::{CELL_BYTES, MOST_CELLS, MOST_NESTING, TRANSLATION_BYTES};
+use zifnora::sizes::{CELL_BYTES, MOST_CELLS, MOST_NESTING, MOST_ROWS, TRANSLATION_BYTES};
 
 const BATCHES: usize = 50;
 const BATCH_NANOSECONDS: f64 = 2e6;
@@ -153,4 +153,31 @@ pub fn translate_cost(on: &dyn Interface, model: &dyn Interface, sheet: &[u8]) -
             black_box(model.translate(black_box(sheet), &mut two));
         },
     ])
+}
+
+/// The records of the most rows.
+pub const MOST_RECORDS: usize = RECORD * MOST_ROWS as usize;
+
+/// Nanoseconds of one call with the most rows, each of this reading, and of as
+/// many single runs; and the answer of each row.
+pub fn rows_cost(on: &dyn Interface, file: &[u8], reading: i32) -> ([f64; 2], Answer) {
+    let readings = [reading; MOST_ROWS as usize];
+    let allowances = greatest(u32::MAX);
+    let mut lent = [(); 2].map(|()| lent_cells());
+    let mut records = [[0; MOST_RECORDS]; 2];
+    let ([one, two], [all, single]) = (lent.each_mut(), records.each_mut());
+    let times = times([
+        &mut || {
+            on.run_rows(black_box(file), MOST_ROWS, &readings, allowances, one, all);
+        },
+        &mut || {
+            for record in single.chunks_exact_mut(RECORD) {
+                on.run(black_box(file), &[reading], allowances, two, record);
+            }
+        },
+    ]);
+    assert_eq!(records[0], records[1], "the records are the single runs'");
+    assert_eq!(lent[0], lent[1], "the cells are the single runs'");
+    let answer = Answer::from_record(&records[0]);
+    (times, answer.expect("an answer record"))
 }

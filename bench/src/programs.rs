@@ -65,15 +65,36 @@ fn minus(expr: Expr, less: i32) -> Expr {
     operator(SUBTRACT, expr, number(less))
 }
 
-/// fib n = if n < 2 then n else fib (n-1) + fib (n-2)
+/// r0 + 1
+pub fn sum_of_reading() -> Program {
+    let sum = operator(ADD, reading(0), number(1));
+    of_reading(numeric(vec![(0, sum)]))
+}
+
+pub fn fib_of_reading() -> Program {
+    of_reading(fib_of(reading(0)))
+}
+
+fn of_reading(program: Program) -> Program {
+    Program {
+        readings: 1,
+        ..program
+    }
+}
+
 pub fn fib(input: i32) -> Program {
+    fib_of(number(input))
+}
+
+/// fib n = if n < 2 then n else fib (n-1) + fib (n-2)
+fn fib_of(input: Expr) -> Program {
     let again = |less| call(1, vec![minus(parameter(0), less)]);
     let body = if_else(
         operator(LESS, parameter(0), number(2)),
         parameter(0),
         operator(ADD, again(1), again(2)),
     );
-    numeric(vec![(0, call(1, vec![number(input)])), (1, body)])
+    numeric(vec![(0, call(1, vec![input])), (1, body)])
 }
 
 /// ack m n, on (2, input)

@@ -1,7 +1,8 @@
 //! What is printed.
 
 use crate::measure::{
-    agreed, greatest, lent_cells, plain_run, run_cost, translate_cost, translated,
+    agreed, greatest, lent_cells, plain_run, rows_cost, run_cost, translate_cost, translated,
+    MOST_RECORDS,
 };
 use crate::plain::two_bytes;
 use crate::{chains, pad, programs, stack};
@@ -11,7 +12,7 @@ use compare::model::answer::RECORD;
 use compare::model::correct;
 use zifnora::build_sheet::Program;
 use zifnora::numbers;
-use zifnora::sizes::{MOST_NESTING, MOST_NODES, TRANSLATION_BYTES};
+use zifnora::sizes::{MOST_NESTING, MOST_NODES, MOST_ROWS, TRANSLATION_BYTES};
 
 const MOST_STEPS: u32 = 20_000_000;
 
@@ -123,6 +124,33 @@ fn greatest_sheet() -> Vec<u8> {
     ceiling::greatest(&mut Random::new(1))
 }
 
+/// Rows in one call, beside single runs.
+pub fn rows(subject: &dyn Interface) {
+    println!("{MOST_ROWS} rows in one call beside {MOST_ROWS} single runs");
+    println!("sheet    nodes  bytes  steps/row   one call       runs  ratio");
+    let sheets = [
+        ("r0 + 1", programs::sum_of_reading(), 0),
+        ("fib 12", programs::fib_of_reading(), 12),
+    ];
+    for (name, program, reading) in sheets {
+        for count in [20, 1000] {
+            let padded = pad::pad(&program, count, false);
+            let file = translated(subject, &padded.encode());
+            let ([all, single], answer) = rows_cost(subject, &file, reading);
+            println!(
+                "{:<8} {:>5} {:>6} {:>10} {:>10.0} {:>10.0} {:>6.2}",
+                name,
+                nodes(&padded),
+                file.len(),
+                answer.steps,
+                all,
+                single,
+                all / single
+            );
+        }
+    }
+}
+
 /// Bytes of stack of the calls.
 pub fn stack(subject: &dyn Interface) {
     println!("Stack in bytes; a visit: from 512 to 1,024 open visits");
@@ -137,11 +165,14 @@ pub fn stack(subject: &dyn Interface) {
     let mut sheets = chains::sheets();
     sheets.push(("(sheet at all limits)", greatest.clone()));
     let (mut cells, mut out, mut record) = (lent_cells(), vec![0; TRANSLATION_BYTES], [0; RECORD]);
-    for (name, file) in translations {
-        let readings = vec![0; two_bytes(&file, 4) as usize];
+    for (name, file) in &translations {
+        let readings = vec![0; two_bytes(file, 4) as usize];
         stack_row("run", name, |allowances| {
-            subject.run(&file, &readings, allowances, &mut cells, &mut record);
+            subject.run(file, &readings, allowances, &mut cells, &mut record);
         });
+    }
+    for (name, file) in &translations {
+        rows_stack_row(subject, name, file);
     }
     for (name, sheet) in sheets {
         let readings = vec![0; two_bytes(&sheet, 4) as usize];
@@ -155,6 +186,21 @@ pub fn stack(subject: &dyn Interface) {
     });
     stack_line("list context", "", &mut || {
         subject.list_context(&cells, 1, &mut out);
+    });
+}
+
+fn rows_stack_row(subject: &dyn Interface, name: &str, file: &[u8]) {
+    let readings = vec![0; MOST_ROWS as usize * two_bytes(file, 4) as usize];
+    let (mut cells, mut records) = (lent_cells(), [0; MOST_RECORDS]);
+    stack_row("run rows", name, |allowances| {
+        subject.run_rows(
+            file,
+            MOST_ROWS,
+            &readings,
+            allowances,
+            &mut cells,
+            &mut records,
+        );
     });
 }
 

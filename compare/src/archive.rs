@@ -21,6 +21,18 @@ impl Interface for Archive {
         raw::run(translation, readings, allowances, cells, record)
     }
 
+    fn run_rows(
+        &self,
+        translation: &[u8],
+        rows: u32,
+        readings: &[i32],
+        allowances: Allowances,
+        cells: &mut [u8],
+        records: &mut [u8],
+    ) -> u64 {
+        raw::run_rows(translation, rows, readings, allowances, cells, records)
+    }
+
     fn translate_and_run(
         &self,
         sheet: &[u8],

@@ -1,14 +1,15 @@
 //! One call of the interface with all its input, earlier bytes of the output
 //! buffers included; and what it leaves behind.
 
-use crate::interface::{Allowances, Interface};
+use crate::interface::{refusal, Allowances, Interface};
+use crate::model::answer::{Answer, RECORD};
 use std::hint::black_box;
 
 #[derive(Clone, Debug)]
 pub struct RunInput {
     pub readings: Vec<i32>,
     pub allowances: Allowances,
-    /// Lent cells and record, with their earlier bytes.
+    /// Lent cells and record, or records, with their earlier bytes.
     pub cells: Vec<u8>,
     pub record: Vec<u8>,
 }
@@ -25,6 +26,13 @@ pub enum Call {
         file: Vec<u8>,
         input: RunInput,
     },
+    /// `of` as in a run; the input has the readings and records of all rows.
+    Rows {
+        of: Option<Vec<u8>>,
+        file: Vec<u8>,
+        rows: u32,
+        input: RunInput,
+    },
     Joined {
         sheet: Vec<u8>,
         out: Vec<u8>,
@@ -35,6 +43,13 @@ pub enum Call {
         cell: u32,
         out: Vec<u8>,
     },
+}
+
+/// One run of a call: a batch has one for each row.
+pub struct OneRun<'a> {
+    pub readings: &'a [i32],
+    pub allowances: Allowances,
+    pub answer: Answer,
 }
 
 /// What a call returned, and the buffers after it. Output buffers carry guard
@@ -78,6 +93,7 @@ impl Call {
         match self {
             Call::Translate { .. } => "translate",
             Call::Run { .. } => "run",
+            Call::Rows { .. } => "run_rows",
             Call::Joined { .. } => "translate_and_run",
             Call::List { .. } => "list_context",
         }
@@ -88,9 +104,43 @@ impl Call {
         match self {
             Call::Translate { sheet, out } => translate(on, sheet, out),
             Call::Run { file, input, .. } => run(on, file, input),
+            Call::Rows {
+                file, rows, input, ..
+            } => run_rows(on, file, *rows, input),
             Call::Joined { sheet, out, input } => joined(on, sheet, out, input),
             Call::List { cells, cell, out } => list(on, cells, *cell, out),
         }
+    }
+
+    /// The sheet that is run, if any.
+    pub fn sheet(&self) -> Option<&[u8]> {
+        match self {
+            Call::Run { of, .. } | Call::Rows { of, .. } => of.as_deref(),
+            Call::Joined { sheet, .. } => Some(sheet),
+            Call::Translate { .. } | Call::List { .. } => None,
+        }
+    }
+
+    /// The runs whose records the call left.
+    pub fn runs(&self, after: &After) -> Vec<OneRun<'_>> {
+        let (rows, input) = match self {
+            Call::Run { input, .. } | Call::Joined { input, .. } => (1, input),
+            Call::Rows { rows, input, .. } => (*rows as usize, input),
+            Call::Translate { .. } | Call::List { .. } => return vec![],
+        };
+        if refusal(after.code) != 0 || rows == 0 {
+            return vec![];
+        }
+        let each = input.readings.len() / rows;
+        let records = inner(&after.record).chunks_exact(RECORD).take(rows);
+        let runs = records.enumerate().filter_map(|(row, record)| {
+            Some(OneRun {
+                readings: &input.readings[row * each..][..each],
+                allowances: input.allowances,
+                answer: Answer::from_record(record)?,
+            })
+        });
+        runs.collect()
     }
 }
 
@@ -121,6 +171,26 @@ fn run(on: &dyn Interface, file: &[u8], input: &RunInput) -> After {
         out: vec![],
         cells,
         record,
+        input_kept: black_box(copy) == file && black_box(readings) == input.readings,
+    }
+}
+
+fn run_rows(on: &dyn Interface, file: &[u8], rows: u32, input: &RunInput) -> After {
+    let (copy, readings) = (file.to_vec(), input.readings.clone());
+    let (mut cells, mut records) = (guarded(&input.cells), guarded(&input.record));
+    let code = on.run_rows(
+        &copy,
+        rows,
+        &readings,
+        input.allowances,
+        lent(&mut cells),
+        lent(&mut records),
+    );
+    After {
+        code,
+        out: vec![],
+        cells,
+        record: records,
         input_kept: black_box(copy) == file && black_box(readings) == input.readings,
     }
 }

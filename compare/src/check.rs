@@ -1,9 +1,10 @@
 //! Compares one call: the answers and whole buffers of both sides, and the
-//! answer of a translated sheet's run with call by name.
+//! answers of a translated sheet's runs with call by name.
 
-use crate::call::{inner, After, Call, RunInput};
+use crate::call::{inner, After, Call, OneRun};
 use crate::interface::{shown, Interface};
-use crate::model::answer::Answer;
+use crate::model::answer::{Answer, RECORD};
+use crate::model::sheet::Sheet;
 use crate::model::{name, Behaviour, Correct};
 
 /// What differs, in words, and the call to try again.
@@ -43,19 +44,22 @@ pub fn differs(theirs: &After, ours: &After) -> Option<String> {
     if !theirs.input_kept {
         return Some("the interface wrote into an input".to_string());
     }
-    if theirs.record != ours.record {
-        let show = |after: &After| match Answer::from_record(inner(&after.record)) {
-            Some(answer) => format!("{answer:?}"),
-            None => format!("{:?}", inner(&after.record)),
-        };
-        return Some(format!(
-            "record: interface {}, model {}",
-            show(theirs),
-            show(ours)
-        ));
-    }
-    differing_byte("output", &theirs.out, &ours.out)
+    differing_record(&theirs.record, &ours.record)
+        .or_else(|| differing_byte("record", &theirs.record, &ours.record))
+        .or_else(|| differing_byte("output", &theirs.out, &ours.out))
         .or_else(|| differing_byte("cells", &theirs.cells, &ours.cells))
+}
+
+/// Describes the first answer record in which two guarded buffers differ.
+fn differing_record(theirs: &[u8], ours: &[u8]) -> Option<String> {
+    let show = |record: &[u8]| match Answer::from_record(record) {
+        Some(answer) => format!("{answer:?}"),
+        None => format!("{record:?}"),
+    };
+    let [theirs, ours] = [theirs, ours].map(|buffer| inner(buffer).chunks_exact(RECORD));
+    let (row, (theirs, ours)) = theirs.zip(ours).enumerate().find(|(_, (a, b))| a != b)?;
+    let (theirs, ours) = (show(theirs), show(ours));
+    Some(format!("record {row}: interface {theirs}, model {ours}"))
 }
 
 /// Describes the first byte in which two guarded buffers differ.
@@ -73,34 +77,24 @@ fn differing_byte(name: &str, theirs: &[u8], ours: &[u8]) -> Option<String> {
 /// A number, constructor or run fault of a translated sheet's run has to be
 /// the sheet's own answer.
 fn against_meaning(call: &Call, after: &After) -> Option<String> {
-    let (sheet, input) = match call {
-        Call::Run {
-            of: Some(sheet),
-            input,
-            ..
-        } => (sheet, input),
-        Call::Joined { sheet, input, .. } => (sheet, input),
-        _ => return None,
-    };
-    if after.code != 0 {
+    let sheet = call.sheet()?;
+    let mut runs = call.runs(after);
+    runs.retain(|run| run.answer.is_own());
+    if runs.is_empty() {
         return None;
     }
-    let answer = Answer::from_record(inner(&after.record))?;
-    if !answer.is_own() {
-        return None;
+    match Correct.read_sheet(sheet) {
+        Ok(read) => runs.iter().find_map(|run| compare_meaning(&read, run)),
+        Err(refusal) => Some(format!("run of a sheet that is refused: {refusal:?}")),
     }
-    compare_meaning(sheet, input, &answer)
 }
 
 /// Call by name never takes more steps, nor more depth, than the run, so the
 /// run's own figures are a budget within which it must answer.
-fn compare_meaning(file: &[u8], input: &RunInput, answer: &Answer) -> Option<String> {
-    let read = match Correct.read_sheet(file) {
-        Ok(read) => read,
-        Err(refusal) => return Some(format!("run of a sheet that is refused: {refusal:?}")),
-    };
-    let nesting = input.allowances.nesting;
-    let own = name::answer(&read, &input.readings, answer.steps as u64, nesting);
+fn compare_meaning(sheet: &Sheet, run: &OneRun) -> Option<String> {
+    let answer = &run.answer;
+    let nesting = run.allowances.nesting;
+    let own = name::answer(sheet, run.readings, answer.steps as u64, nesting);
     if own.outcome() == Some((answer.outcome, answer.value)) {
         return None;
     }

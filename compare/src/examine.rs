@@ -26,7 +26,7 @@ fn readings_due(file: &[u8]) -> usize {
 }
 
 impl Examiner<'_> {
-    fn check(&mut self, call: &Call) -> Result<After, Difference> {
+    pub(crate) fn check(&mut self, call: &Call) -> Result<After, Difference> {
         let after = check(call, self.subject, self.reference)?;
         self.tally.add(call, &after);
         Ok(after)
@@ -75,6 +75,17 @@ impl Examiner<'_> {
         of: Option<&[u8]>,
     ) -> Result<(), Difference> {
         let due = readings_due(file);
+        self.runs(random, file, of, due)?;
+        self.batches(random, file, of, due)
+    }
+
+    fn runs(
+        &mut self,
+        random: &mut Random,
+        file: &[u8],
+        of: Option<&[u8]>,
+        due: usize,
+    ) -> Result<(), Difference> {
         let call = |input: RunInput| Call::Run {
             of: of.map(<[u8]>::to_vec),
             file: file.to_vec(),

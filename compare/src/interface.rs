@@ -18,6 +18,16 @@ pub trait Interface {
         record: &mut [u8],
     ) -> u64;
 
+    fn run_rows(
+        &self,
+        translation: &[u8],
+        rows: u32,
+        readings: &[i32],
+        allowances: Allowances,
+        cells: &mut [u8],
+        records: &mut [u8],
+    ) -> u64;
+
     fn translate_and_run(
         &self,
         sheet: &[u8],

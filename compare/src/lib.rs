@@ -9,6 +9,7 @@ pub mod archive;
 pub mod call;
 pub mod check;
 pub mod examine;
+mod examine_batch;
 pub mod faulty;
 pub mod generate;
 pub mod interface;

@@ -18,7 +18,10 @@ pub fn write(folder: &Path, difference: &Difference, origin: &str) -> Result<()>
             put("sheet.bin", sheet)?;
             put("out.bin", out)?;
         }
-        Call::Run { of, file, input } => {
+        Call::Run { of, file, input }
+        | Call::Rows {
+            of, file, input, ..
+        } => {
             text += &write_input(folder, input)?;
             put("translation.bin", file)?;
             if let Some(sheet) = of {
@@ -35,6 +38,9 @@ pub fn write(folder: &Path, difference: &Difference, origin: &str) -> Result<()>
             put("out.bin", out)?;
             text += &format!("cell {cell}\n");
         }
+    }
+    if let Call::Rows { rows, .. } = &*difference.call {
+        text += &format!("rows {rows}\n");
     }
     text += &format!("origin {origin}\n");
     text += &format!("difference {}\n", difference.what);
@@ -100,6 +106,12 @@ pub fn read(folder: &Path) -> Result<Call> {
         Some("run") => Ok(Call::Run {
             of: get("sheet.bin").ok(),
             file: get("translation.bin")?,
+            input: read_input(folder, &words)?,
+        }),
+        Some("run_rows") => Ok(Call::Rows {
+            of: get("sheet.bin").ok(),
+            file: get("translation.bin")?,
+            rows: number(&words, "rows")?,
             input: read_input(folder, &words)?,
         }),
         Some("translate_and_run") => Ok(Call::Joined {

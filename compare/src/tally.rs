@@ -1,14 +1,21 @@
 //! Counts of what the compared calls answered, to show what was covered.
 
-use crate::call::{inner, After, Call};
+use crate::call::{After, Call};
 use crate::interface::refusal;
-use crate::model::answer::Answer;
 
-const KINDS: [&str; 4] = ["translate", "run", "translate_and_run", "list_context"];
+const KINDS: [&str; 5] = [
+    "translate",
+    "run",
+    "run_rows",
+    "translate_and_run",
+    "list_context",
+];
 
 pub struct Tally {
-    /// By kind of call and number (outcome for the two runs).
-    counts: [[u64; 128]; 4],
+    /// By kind of call and number (outcome for the two single runs).
+    counts: [[u64; 128]; 5],
+    /// Rows of batches by outcome.
+    rows: [u64; 128],
     pub steps: u64,
     /// Answers that were also compared with call by name.
     pub by_name: u64,
@@ -17,7 +24,8 @@ pub struct Tally {
 impl Default for Tally {
     fn default() -> Tally {
         Tally {
-            counts: [[0; 128]; 4],
+            counts: [[0; 128]; 5],
+            rows: [0; 128],
             steps: 0,
             by_name: 0,
         }
@@ -29,17 +37,19 @@ impl Tally {
         let kind = match call {
             Call::Translate { .. } => 0,
             Call::Run { .. } => 1,
-            Call::Joined { .. } => 2,
-            Call::List { .. } => 3,
+            Call::Rows { .. } => 2,
+            Call::Joined { .. } => 3,
+            Call::List { .. } => 4,
         };
         let mut number = refusal(after.code) as usize;
-        if number == 0 && (kind == 1 || kind == 2) {
-            if let Some(answer) = Answer::from_record(inner(&after.record)) {
-                number = answer.outcome as usize;
-                self.steps += answer.steps as u64;
-                let of_sheet = !matches!(call, Call::Run { of: None, .. });
-                self.by_name += (of_sheet && answer.is_own()) as u64;
+        for run in call.runs(after) {
+            let outcome = run.answer.outcome as usize;
+            match call {
+                Call::Rows { .. } => self.rows[outcome.min(127)] += 1,
+                _ => number = outcome,
             }
+            self.steps += run.answer.steps as u64;
+            self.by_name += (call.sheet().is_some() && run.answer.is_own()) as u64;
         }
         self.counts[kind][number.min(127)] += 1;
     }
@@ -48,9 +58,12 @@ impl Tally {
         self.counts.iter().flatten().sum()
     }
 
-    /// One line per kind of call: number of the table and how often.
+    /// One line per kind of call, and one of rows: number of the table and
+    /// how often.
     pub fn print(&self) {
-        for (name, counts) in KINDS.iter().zip(&self.counts) {
+        let rows = [("rows of run_rows", &self.rows)];
+        let kinds = KINDS.into_iter().zip(&self.counts);
+        for (name, counts) in kinds.chain(rows) {
             let seen: Vec<String> = counts
                 .iter()
                 .enumerate()

@@ -38,6 +38,21 @@ pub enum Fault {
     ListPartCell,
     SizeLimit,
     UnsignedLess,
+    BatchRowReadings,
+    BatchRecordPlace,
+    BatchAllowanceFirst,
+    BatchRoomFirst,
+    BatchRoomSecond,
+    BatchRoomBeforeFile,
+    BatchRunBeforeRoom,
+    BatchPastRecords,
+    BatchCountedTo16,
+    BatchProductWrapped,
+    BatchRowLimit,
+    BatchEmptyUnchecked,
+    BatchCellsCleared,
+    BatchStepsShared,
+    BatchEndsEarly,
 }
 
 /// Faults that call by name alone has to find, with both sides wrong alike.
@@ -53,6 +68,8 @@ pub const AGAINST_MEANING: &[Fault] = &[
     Fault::FirstClause,
     Fault::RightBeforeCheck,
     Fault::UnsignedLess,
+    Fault::BatchRowReadings,
+    Fault::BatchRecordPlace,
 ];
 
 /// Each fault with its description and the number of sheets (and as many
@@ -166,4 +183,51 @@ pub const ALL: &[(Fault, &str, u64)] = &[
         10000,
     ),
     (Fault::UnsignedLess, "less compares without sign", 2000),
+    (
+        Fault::BatchRowReadings,
+        "a row run on the readings of the row before",
+        500,
+    ),
+    (
+        Fault::BatchRecordPlace,
+        "the records of two rows exchanged",
+        500,
+    ),
+    (Fault::BatchAllowanceFirst, "10 before 9 in a batch", 2000),
+    (Fault::BatchRoomFirst, "8 before 9 in a batch", 2000),
+    (Fault::BatchRoomSecond, "8 before 10 in a batch", 2000),
+    (
+        Fault::BatchRoomBeforeFile,
+        "8 before the file's own refusal in a batch",
+        2000,
+    ),
+    (
+        Fault::BatchRunBeforeRoom,
+        "a row run before 8 is known",
+        2000,
+    ),
+    (
+        Fault::BatchPastRecords,
+        "bytes past the records touched",
+        500,
+    ),
+    (
+        Fault::BatchCountedTo16,
+        "readings due for 16 rows where there are more",
+        2000,
+    ),
+    (
+        Fault::BatchProductWrapped,
+        "rows times readings on 32 bits",
+        10000,
+    ),
+    (Fault::BatchRowLimit, "17 rows run", 2000),
+    (Fault::BatchEmptyUnchecked, "0 rows not checked", 2000),
+    (Fault::BatchCellsCleared, "cells cleared between rows", 2000),
+    (Fault::BatchStepsShared, "steps shared between rows", 500),
+    (
+        Fault::BatchEndsEarly,
+        "no row run after a stop or a fault",
+        500,
+    ),
 ];

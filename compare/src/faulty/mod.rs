@@ -2,6 +2,7 @@
 //! and demands that the comparison finds it. All faults stand here, beside
 //! the model: a step of the model is exchanged, or what it gives is changed.
 
+mod batch;
 pub mod fault;
 mod reading;
 mod running;

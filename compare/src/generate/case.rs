@@ -14,10 +14,10 @@ pub enum Case {
 /// Well-formed sheet number `number`, and the generator to go on with.
 pub fn well_formed(seed: u64, number: u64) -> (Case, Random) {
     let mut random = Random::of_case(seed, 1, number);
-    let file = if random.below(200) == 0 {
-        ceiling::greatest(&mut random)
-    } else {
-        sheet::sheet(&mut random)
+    let file = match random.below(200) {
+        0 => ceiling::greatest(&mut random),
+        1 | 2 => sheet::counting(&mut random),
+        _ => sheet::sheet(&mut random),
     };
     (Case::Sheet(file), random)
 }

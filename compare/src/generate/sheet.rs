@@ -3,7 +3,7 @@
 use super::expr::Grow;
 use super::plan::{plan, Limits};
 use super::random::Random;
-use zifnora::build_sheet::{Expr, Program};
+use zifnora::build_sheet::*;
 use zifnora::sizes::MOST_NODES;
 
 /// A well-formed sheet of small or middle size.
@@ -26,6 +26,20 @@ pub fn sheet(random: &mut Random) -> Vec<u8> {
             return encode(random, &program);
         }
     }
+}
+
+/// A sheet that makes more or fewer cells by its first reading:
+/// result = down(r0), down(n) = if n < 1 then r1 else down(n - 1).
+pub fn counting(random: &mut Random) -> Vec<u8> {
+    let ends = operator(LESS, parameter(0), number(1));
+    let next = operator(SUBTRACT, parameter(0), number(1));
+    let down = if_else(ends, reading(1), call(1, vec![next]));
+    let program = Program {
+        readings: 2,
+        arities: vec![],
+        functions: vec![(0, call(1, vec![reading(0)])), (1, down)],
+    };
+    encode(random, &program)
 }
 
 fn small(functions: usize, parameters: usize) -> Limits {

@@ -3,7 +3,7 @@
 use super::random::Random;
 use crate::interface::Allowances;
 use crate::model::answer::RECORD;
-use zifnora::sizes::{CELL_BYTES, MOST_CELLS, MOST_NESTING};
+use zifnora::sizes::{CELL_BYTES, MOST_CELLS, MOST_NESTING, MOST_ROWS};
 
 /// Bytes are lent for no more cells than these, whatever is allowed.
 pub const CELLS_LENT: usize = 8200;
@@ -94,4 +94,49 @@ pub fn readings(random: &mut Random, due: usize) -> Vec<i32> {
         _ => due,
     };
     (0..count).map(|_| random.number()).collect()
+}
+
+/// Rows of a batch: mostly few, sometimes none, as many as may be, or more.
+pub fn rows(random: &mut Random) -> u32 {
+    match random.below(20) {
+        0 => 0,
+        1 => MOST_ROWS,
+        2 => MOST_ROWS + 1,
+        3 => many_rows(random),
+        4 | 5 => 1,
+        6 | 7 => random.between(5, 15) as u32,
+        _ => random.between(2, 4) as u32,
+    }
+}
+
+/// More rows than can have readings; many of these counts, times the readings
+/// of a row, are few on 32 or on 16 bits.
+fn many_rows(random: &mut Random) -> u32 {
+    let few = random.below(5) as u32;
+    match random.below(8) {
+        0 => u32::MAX - few,
+        1 => random.bits() as u32,
+        2 => 65_536 + few,
+        _ => (1 << random.between(27, 31)) + few,
+    }
+}
+
+/// Readings of a batch, `due` for each row: mostly as many as due, sometimes
+/// one off, a row off, or as many as due for no more rows than may be.
+pub fn row_readings(random: &mut Random, rows: u32, due: usize) -> Vec<i32> {
+    let all = match rows as usize * due {
+        // More than can be given; what is left of their count on fewer bits.
+        all @ 1000.. => random.pick(&[all as u32 as usize, all as u16 as usize]),
+        all => all,
+    };
+    let count = match random.below(24) {
+        0 => all + 1,
+        1 => all.saturating_sub(1),
+        2 => all + due,
+        3 => all.saturating_sub(due),
+        4 => rows.min(MOST_ROWS) as usize * due,
+        5 => due,
+        _ => all,
+    };
+    (0..count.min(1000)).map(|_| random.number()).collect()
 }

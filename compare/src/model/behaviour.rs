@@ -2,6 +2,7 @@
 //! model's own; `crate::faulty` overrides them one at a time.
 
 use super::answer::Answer;
+use super::batch::{self, Rows};
 use super::records::{Record, Records};
 use super::run::{Run, Value};
 use super::sheet::Sheet;
@@ -150,7 +151,49 @@ pub trait Behaviour: Sized {
     }
 }
 
+/// The steps of a batch, beside those of its runs.
+pub trait BatchBehaviour: Behaviour {
+    fn run_rows(
+        &self,
+        file: &[u8],
+        rows: Rows,
+        lent: &mut [u8],
+        records: &mut [u8],
+    ) -> Result<usize, Refusal> {
+        batch::run_rows(self, file, rows, lent, records)
+    }
+
+    fn readings_due(&self, rows: u32, each: u16) -> u64 {
+        batch::readings_due(rows, each)
+    }
+
+    fn too_many(&self, rows: u32) -> bool {
+        batch::too_many(rows)
+    }
+
+    fn first_refused(&self, numbers: [(u16, bool); 3]) -> Option<u16> {
+        batch::first_refused(numbers)
+    }
+
+    /// The next row after those that answered so.
+    fn run_row(
+        &self,
+        translation: &Translation,
+        rows: Rows,
+        before: &[Answer],
+        lent: &mut [u8],
+    ) -> Answer {
+        batch::run_row(self, translation, rows, before.len(), lent)
+    }
+
+    fn write_records(&self, answers: &[Answer], records: &mut [u8]) {
+        batch::write_records(answers, records)
+    }
+}
+
 /// The model as the papers have it.
 pub struct Correct;
 
 impl Behaviour for Correct {}
+
+impl BatchBehaviour for Correct {}

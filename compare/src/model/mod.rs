@@ -1,8 +1,10 @@
 //! The independent implementation of document 01. Each of its steps stands in
-//! one of these files as document 01 has it; `Behaviour` names the steps that
-//! a deliberately faulty model (`crate::faulty`) does otherwise.
+//! one of these files as document 01 has it; `Behaviour` and `BatchBehaviour`
+//! name the steps that a deliberately faulty model (`crate::faulty`) does
+//! otherwise.
 
 pub mod answer;
+pub mod batch;
 pub mod behaviour;
 pub mod joined;
 pub mod listing;
@@ -20,7 +22,7 @@ pub mod translation;
 mod tests;
 
 use crate::interface::Interface;
-pub use behaviour::{Behaviour, Correct};
+pub use behaviour::{BatchBehaviour, Behaviour, Correct};
 pub use zifnora::Refusal;
 
 /// A model with a behaviour, behind the calls that are compared.

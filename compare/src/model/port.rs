@@ -1,7 +1,8 @@
 //! The model behind the same calls as the C interface.
 
 use super::answer::RECORD;
-use super::{run, Behaviour, Model, Refusal};
+use super::batch::Rows;
+use super::{run, BatchBehaviour, Model, Refusal};
 use crate::interface::{Allowances, Interface};
 use zifnora::numbers::SHORT_OUTPUT;
 
@@ -9,12 +10,17 @@ fn packed(refusal: Refusal) -> u64 {
     (refusal.number as u64) << 32 | refusal.place as u64
 }
 
-impl<B: Behaviour> Interface for Model<B> {
+/// The code of a length, or of a refusal.
+fn code(result: Result<usize, Refusal>) -> u64 {
+    match result {
+        Ok(length) => length as u64,
+        Err(refusal) => packed(refusal),
+    }
+}
+
+impl<B: BatchBehaviour> Interface for Model<B> {
     fn translate(&self, sheet: &[u8], out: &mut [u8]) -> u64 {
-        match self.0.translate_into(sheet, out) {
-            Ok(length) => length as u64,
-            Err(refusal) => packed(refusal),
-        }
+        code(self.0.translate_into(sheet, out))
     }
 
     fn run(
@@ -31,6 +37,23 @@ impl<B: Behaviour> Interface for Model<B> {
         let answer = run::run(&self.0, translation, readings, allowances, cells);
         record[..RECORD].copy_from_slice(&answer.record());
         0
+    }
+
+    fn run_rows(
+        &self,
+        translation: &[u8],
+        rows: u32,
+        readings: &[i32],
+        allowances: Allowances,
+        cells: &mut [u8],
+        records: &mut [u8],
+    ) -> u64 {
+        let rows = Rows {
+            count: rows,
+            readings,
+            allowances,
+        };
+        code(self.0.run_rows(translation, rows, cells, records))
     }
 
     fn translate_and_run(

@@ -1,14 +1,17 @@
--- The rule ends with a number, a constructor, a stop or one of the run faults, whatever the file; and its value is among any
--- numbers that hold the file's literals and tags, the readings and what operators make of them.
+-- The rule ends with a number, a constructor, a stop or one of the run faults, whatever the file; its value is among any
+-- numbers that hold the file's literals and tags, the readings and what operators make of them; and it makes no more cells than
+-- allowed.
 use mathlib.Core.Path.{_≡_, refl}
-use Prim.Native.Nat.{ℕ, suc}
-use mathlib.Core.List.{List}
+use Prim.Native.Nat.{ℕ, suc, _≤_, _<_}
+use mathlib.Core.List.{List, [], _∷_, _++_}
 use mathlib.Core.Option.{Option, none, some}
 use mathlib.Core.Bool.{Bool, true, false, _||_, or-true}
+use native.Mathlib.Omega.{arith}
 use native.Mathlib.Nat.{le-refl}
 use lib.IntN.{ℤ, pos}
-use lib.ListN.{length, getD}
+use lib.ListN.{length, getD, length-append}
 use lib.Dec.{ltb}
+use borrow.Author.Tests.{ltb-true}
 use Rattle.definitions.specs.Numbers.{noCell, noActual, numberWanted, noField, isStop, isFault, isAnswer}
 use Rattle.definitions.specs.Ranges.{within}
 use Rattle.definitions.specs.Layouts.{bodyOf}
@@ -48,13 +51,16 @@ any-numbers b rs =
     record { Number = λ z. Unit {0}; literals = λ k e. tt; readings = λ i. tt; tags = λ k. tt; operators = λ o p q e. tt }
 
 module _ (b : List ℕ) (rs : List ℤ) (cellsAllowed : ℕ) (N : Closed b rs) where
-  -- these numbers come out, any constructors, and the ends that are known
+  one-more : (m : List Cell) (c : Cell) → length m < cellsAllowed → length (m ++ (c ∷ [])) ≤ cellsAllowed
+  one-more m c h = omega (arith, length-append m (c ∷ []), h)
+
+  -- these numbers come out, any constructors, and the ends that are known; no more cells are made than allowed
   abbrev known : Keeps b rs ℕ (List Cell)
   known =
       record {
-        Becomes = λ m n. Unit {0};
-        stays = λ m. tt;
-        onward = λ p q. tt;
+        Becomes = λ m n. length m ≤ cellsAllowed → length n ≤ cellsAllowed;
+        stays = λ m h. h;
+        onward = λ p q h. q (p h);
         At = λ m k w. Unit {0};
         at-onward = λ g h. tt;
         at-mentioned = λ e g h. tt;
@@ -77,24 +83,28 @@ module _ (b : List ℕ) (rs : List ℤ) (cellsAllowed : ℕ) (N : Closed b rs) w
     tail-kept p none s = kept-fault known s noActual refl
     tail-kept p (some c) s = kept-node known s (actual b p (c .label)) noActual _ refl (λ n e. ih .keeps n (c .previous) s tt)
 
-    cell-kept : (x : Bool) (f label w : ℕ) (s : State (List Cell))
+    cell-kept : (x : Bool) (f label w : ℕ) (s : State (List Cell)) → ltb (length (s .store)) cellsAllowed ≡ x
         → Kept known s (whereCell x s (λ u. visit (bodyOf Translation b f) (suc (length (u .store))) (withCell label w u)))
     unfolding whereCell withCell isStop within
-    cell-kept false f label w s = kept-stop known s noCell refl
-    cell-kept true f label w s =
-        kept-onward known (le-refl (s .left)) tt (ih .keeps (bodyOf Translation b f) (suc (length (s .store))) (withCell label w s) tt)
+    cell-kept false f label w s e = kept-stop known s noCell refl
+    cell-kept true f label w s e =
+        kept-onward known (le-refl (s .left)) (λ h. one-more (s .store) _ (ltb-true (length (s .store)) cellsAllowed e))
+        (ih .keeps (bodyOf Translation b f) (suc (length (s .store))) (withCell label w s) tt)
 
   hooks : KeepingHooks known (byCells b cellsAllowed)
   unfolding byCells formalByCells callByCells
   hooks =
       record {
         formal-keeps = λ n ih k p w s e h. tail-kept (visited (byCells b cellsAllowed) b rs n) ih p (cellOf (s .store) w) s;
-        call-keeps = λ n ih k l f w s e h. cell-kept (visited (byCells b cellsAllowed) b rs n) ih (ltb (length (s .store)) cellsAllowed) f l w s;
+        call-keeps = λ n ih k l f w s e h. cell-kept (visited (byCells b cellsAllowed) b rs n) ih (ltb (length (s .store)) cellsAllowed) f l w s refl;
       }
 
-  rule-proper : (steps nesting : ℕ) → Proper known (ruleEnd b rs steps nesting cellsAllowed .state .store) (ruleEnd b rs steps nesting cellsAllowed .ending)
+  rule-keeps : (steps nesting : ℕ) → Kept known (record { left = steps; store = [] }) (ruleEnd b rs steps nesting cellsAllowed)
   unfolding ruleEnd evaluation
-  rule-proper steps nesting = visit-keeps known (byCells b cellsAllowed) hooks nesting .keeps (bodyOf Translation b 0) 0 _ tt .proper
+  rule-keeps steps nesting = visit-keeps known (byCells b cellsAllowed) hooks nesting .keeps (bodyOf Translation b 0) 0 _ tt
+
+  rule-proper : (steps nesting : ℕ) → Proper known (ruleEnd b rs steps nesting cellsAllowed .state .store) (ruleEnd b rs steps nesting cellsAllowed .ending)
+  rule-proper steps nesting = rule-keeps steps nesting .proper
 
   outcome-known : {m : List Cell} {e : Ending ℕ} → Proper known m e → Known (endingOutcome b e .outcome)
   unfolding endingOutcome numberOutcome constructorOutcome endOutcome isAnswer
@@ -114,3 +124,6 @@ module _ (b : List ℕ) (rs : List ℤ) (cellsAllowed : ℕ) (N : Closed b rs) w
 pub rule-known : (b : List ℕ) (rs : List ℤ) (cellsAllowed steps nesting : ℕ)
     → (isAnswer (endingOutcome b (ruleEnd b rs steps nesting cellsAllowed .ending) .outcome) || isStop (endingOutcome b (ruleEnd b rs steps nesting cellsAllowed .ending) .outcome)) ≡ true
 rule-known b rs cellsAllowed steps nesting = outcome-known b rs cellsAllowed (any-numbers b rs) (rule-proper b rs cellsAllowed (any-numbers b rs) steps nesting)
+
+pub rule-cells-allowed : (b : List ℕ) (rs : List ℤ) (cellsAllowed steps nesting : ℕ) → length (ruleEnd b rs steps nesting cellsAllowed .state .store) ≤ cellsAllowed
+rule-cells-allowed b rs cellsAllowed steps nesting = rule-keeps b rs cellsAllowed (any-numbers b rs) steps nesting .becomes (omega arith)

@@ -14,6 +14,7 @@ use Rattle.definitions.specs.Sizes.{answerSize}
 use Rattle.definitions.specs.Numbers.{shortOutput}
 use Rattle.definitions.specs.Bytes.{wordBytes, words32, bytesOf}
 use Rattle.definitions.specs.Operators.{residue}
+use Rattle.definitions.specs.Run as Run
 use Rattle.definitions.specs.Run.{refusal}
 use Rattle.definitions.specs.Verdicts.{require}
 use Rattle.definitions.specs.AnswerRecord.{answerWords, answerBytes}
@@ -58,8 +59,8 @@ module _ (a : Answer) (l m n o p q r s t : List ℕ) (outcome value node context
   unfolding wordBytes words32 bytesOf answerWords answerBytes answerOf
   record-bytes eo ev en ec e1 e2 e3 e4 e5 e6 e7 e8 = rw (e8, e7, e6, e5, e4, e3, e2, e1, eo, ev, en, ec) refl
 
-answer-length : (a : Answer) → length (answerBytes (answerOf a)) ≡ answerSize
-unfolding wordBytes words32 bytesOf answerWords answerBytes answerOf
+pub answer-length : (a : Run.Answer) → length (answerBytes a) ≡ answerSize
+unfolding wordBytes words32 bytesOf answerWords answerBytes
 answer-length a = refl
 
 pub record-written : (a : Answer) (l t : List ℕ) → answerSize ≤ length l → t ≡ sets l 0 (answerBytes (answerOf a)) → Writes a l t Accepted
@@ -67,7 +68,7 @@ unfolding require
 record-written a l t h e =
     record {
       verdict = rw (le-leb answerSize (length l) h) refl;
-      bytes = rw (le-leb answerSize (length l) h) (e ∙ over-front (answerBytes (answerOf a)) l answerSize (answer-length a) h);
+      bytes = rw (le-leb answerSize (length l) h) (e ∙ over-front (answerBytes (answerOf a)) l answerSize (answer-length (answerOf a)) h);
     }
 
 -- the answer of a refusal

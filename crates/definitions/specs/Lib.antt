@@ -8,6 +8,7 @@ pub mod Ranges
 pub mod Sizes
 pub mod Numbers
 pub mod Verdicts
+pub mod Output
 pub mod Layouts
 pub mod Shape
 pub mod References
@@ -23,4 +24,5 @@ pub mod Rule
 pub mod Cells
 pub mod Run
 pub mod AnswerRecord
+pub mod RunsInTurn
 pub mod Listing

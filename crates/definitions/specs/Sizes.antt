@@ -1,4 +1,4 @@
--- The sizes of document 01.
+-- The sizes of document 01, and of the requests in document 02.
 use Prim.Native.Nat.{ℕ}
 
 -- "Sheet, at most 32,768 bytes"
@@ -52,3 +52,7 @@ cellSize = 4
 -- "Record kind 64, 20 bytes"
 abbrev pub answerSize : ℕ
 answerSize = 20
+
+-- document 02, request 1: "0 to 16 reading rows"
+abbrev pub mostRows : ℕ
+mostRows = 16

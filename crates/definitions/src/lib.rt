@@ -16,3 +16,9 @@ pub enum Verdict {
     Accepted,
     Refused { number: u16, place: usize },
 }
+
+// What a call that writes into a lent output answers: the length of what was written, or the refusal's number and its place.
+pub enum Written {
+    Length(usize),
+    Refused { number: u16, place: usize },
+}

@@ -1,5 +1,5 @@
-// The sizes of document 01, and the types of the tables that hold one entry for each of so many. `specs/Sizes.antt` has the
-// same numbers.
+// The sizes of document 01 and of the requests in document 02, and the types of the tables that hold one entry for each of so
+// many. `specs/Sizes.antt` has the same numbers.
 
 // "Sheet, at most 32,768 bytes", "Translation, at most 40,960 bytes".
 pub const SHEET_BYTES: usize = 32768;
@@ -32,6 +32,9 @@ pub const CELL_BYTES: usize = 4;
 
 // "Record kind 64, 20 bytes".
 pub const ANSWER_BYTES: usize = 20;
+
+// Document 02, request 1: "0 to 16 reading rows".
+pub const MOST_ROWS: u32 = 16;
 
 // Where each record starts.
 pub type Starts = [u16; MOST_RECORDS];

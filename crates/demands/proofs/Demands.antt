@@ -20,8 +20,8 @@ use Rattle.definitions.specs.Run.{ruleAnswer, allowancesFit, runVerdict, answer
 use Rattle.definitions.specs.declared.Verdict.the-variants.{Accepted}
 use Rattle.readback.proofs.Labels.{label-unique}
 use Rattle.translator.specs.Promise.{Translates}
-use Rattle.translator.specs.declared.Translated.{Translated}
-use Rattle.translator.specs.declared.Translated.the-variants.{Length, Refused}
+use Rattle.definitions.specs.declared.Written.{Written}
+use Rattle.definitions.specs.declared.Written.the-variants.{Length, Refused}
 use Rattle.run.specs.Promise.{Runs}
 use Rattle.answer.specs.declared.Answer.{Answer}
 use Rattle.answer.specs.Answers.{answerOf}
@@ -46,7 +46,7 @@ use Rattle.demands.proofs.OwnInC.{run-faithful-in-C, join-faithful-in-C
 -- that its machine leaves undefined. Which number and which place a refusal has is fixed by the promises: they are equations with
 -- `translationRefusal` (the verdict of the sheet, then 8) and `runVerdict` (that of the translation, then 9, then 10), which give
 -- both together.
-pub demand-1-translating : (sheet out : List ℕ) (r : Translated) (out′ : List ℕ) → Translates sheet out r out′ → TranslatingMet sheet out r out′
+pub demand-1-translating : (sheet out : List ℕ) (r : Written) (out′ : List ℕ) → Translates sheet out r out′ → TranslatingMet sheet out r out′
 demand-1-translating = translating-met
 
 pub demand-1-running : (b : List ℕ) (rs : List ℤ) (steps nesting cellsAllowed : ℕ) (before : List ℕ) (r : Answer) (after : List ℕ)

@@ -8,6 +8,7 @@ use lib.IntN.{ℤ}
 use lib.ListN.{length, take, drop}
 use lib.Seq.{take-append-seam}
 use lib.Dec.{leb}
+use Rattle.definitions.specs.Output.{writtenOf, outputOf}
 use Rattle.definitions.specs.Numbers.{shortOutput, badAllowance, noActual, noField, isFault, isAnswer}
 use Rattle.definitions.specs.Ranges.{within}
 use Rattle.definitions.specs.Verdicts.{_andThen_, require}
@@ -21,10 +22,9 @@ use Rattle.definitions.specs.declared.Verdict.{Verdict}
 use Rattle.definitions.specs.declared.Verdict.the-variants as verdicts
 use Rattle.definitions.specs.declared.Verdict.the-variants.{Accepted}
 use Rattle.laws.proofs.Verdicts.{both-accepted}
-use Rattle.translator.specs.Promise as Translator
-use Rattle.translator.specs.Promise.{translationRefusal, outputOf, Translates}
-use Rattle.translator.specs.declared.Translated.{Translated}
-use Rattle.translator.specs.declared.Translated.the-variants.{Length, Refused}
+use Rattle.translator.specs.Promise.{translationRefusal, Translates}
+use Rattle.definitions.specs.declared.Written.{Written}
+use Rattle.definitions.specs.declared.Written.the-variants.{Length, Refused}
 use Rattle.run.specs.Promise.{Runs}
 use Rattle.answer.specs.declared.Answer.{Answer}
 use Rattle.answer.specs.Answers.{answerOf}
@@ -36,7 +36,7 @@ use Rattle.demands.proofs.Refusals.{running-numbered}
 use Rattle.demands.proofs.Meeting.{running-met}
 use Rattle.demands.proofs.Own.{after-own, unanswered}
 
-refused-length : {n p m : ℕ} → _≡_ {A = Translated} (Refused n p) (Length m) → ⊥
+pub refused-length : {n p m : ℕ} → _≡_ {A = Written} (Refused n p) (Length m) → ⊥
 refused-length e = let z : _≡_ {A = ℕ} 0 1 = cc in omega arith
 
 -- what was written where nothing is refused
@@ -48,18 +48,18 @@ written-handed sheet out n out′ e m w =
     record { accepted = both-accepted _ _ e .0; is = rw (m, s) (take-append-seam (translation sheet) (drop (length (translation sheet)) out)) }
 
 handed-by : (sheet out : List ℕ) (n : ℕ) (out′ : List ℕ) (v : Verdict) → translationRefusal sheet (length out) ≡ v → Translates sheet out (Length n) out′ → Handed sheet n out′
-unfolding Translator.translatedOf
+unfolding writtenOf
 handed-by sheet out n out′ (verdicts.Refused m p) e t = absurd (refused-length {n = m} {p = p} (sym (t .answer ∙ rw e refl)))
 handed-by sheet out n out′ Accepted e t =
-    let s : _≡_ {A = Translated} (Length n) (Length (length (translation sheet))) = t .answer ∙ rw e refl in
+    let s : _≡_ {A = Written} (Length n) (Length (length (translation sheet))) = t .answer ∙ rw e refl in
     written-handed sheet out n out′ e (cc s) (t .output)
 
 pub handed : (sheet out : List ℕ) (n : ℕ) (out′ : List ℕ) → Translates sheet out (Length n) out′ → Handed sheet n out′
 handed sheet out n out′ t = handed-by sheet out n out′ (translationRefusal sheet (length out)) refl t
 
 -- of an accepted sheet only 8 withholds the translation
-withheld : (t : Bool) (n p m : ℕ) → Translator.translatedOf (require t shortOutput 0) m ≡ Refused n p → n ≡ shortOutput
-unfolding Translator.translatedOf require
+withheld : (t : Bool) (n p m : ℕ) → writtenOf (require t shortOutput 0) m ≡ Refused n p → n ≡ shortOutput
+unfolding writtenOf require
 withheld true n p m e = absurd (refused-length (sym e))
 withheld false n p m e = cc
 

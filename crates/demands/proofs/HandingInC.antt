@@ -6,13 +6,14 @@ use mathlib.Core.Bool.{true}
 use native.Mathlib.Omega.{arith}
 use lib.ListN.{length}
 use Rattle.definitions.specs.Numbers.{truncated, badAllowance, isRefusal}
+use Rattle.definitions.specs.Output.{outputOf}
 use Rattle.definitions.specs.Translate.{translation}
 use Rattle.definitions.specs.declared.Verdict.{Verdict}
 use Rattle.definitions.specs.declared.Verdict.the-variants.{Accepted, Refused}
 use Rattle.laws.proofs.Ranges.{within-by}
 use Rattle.laws.proofs.Verdicts.{both-accepted}
 use Rattle.readback.proofs.Size.{translation-limit}
-use Rattle.translator.specs.Promise.{translationRefusal, outputOf}
+use Rattle.translator.specs.Promise.{translationRefusal}
 use Rattle.zifnora_c.specs.Codes.{code, codeOf, codeNumber, codeValue}
 use Rattle.zifnora_c.specs.Promise.{TranslatesC}
 use Rattle.demands.specs.Demands.{Handed}
@@ -22,7 +23,7 @@ use Rattle.demands.proofs.Refusals.{NumberedIn, translating-numbered}
 use Rattle.demands.proofs.Handing.{written-handed}
 use Rattle.demands.proofs.Recorded.{number-of-code, value-of-code}
 
-refusal-not-zero : (n : ℕ) → isRefusal n ≡ true → n ≡ 0 → ⊥
+pub refusal-not-zero : (n : ℕ) → isRefusal n ≡ true → n ≡ 0 → ⊥
 unfolding isRefusal
 refusal-not-zero n h e = omega (arith, e, within-by truncated badAllowance n h .least)
 

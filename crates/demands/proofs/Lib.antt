@@ -7,4 +7,9 @@ pub mod Recorded
 pub mod HandingInC
 pub mod RunningInC
 pub mod OwnInC
+pub mod RunningRows
+pub mod MeetingRows
+pub mod OwnRows
+pub mod SingleRuns
 pub mod Demands
+pub mod Requests

@@ -5,15 +5,15 @@ use mathlib.Core.List.{List}
 use mathlib.Core.Bool.{Bool, true, false, _||_, true≢false}
 use lib.IntN.{ℤ}
 use lib.ListN.{length}
+use Rattle.definitions.specs.Output.{writtenOf, outputOf}
 use Rattle.definitions.specs.Translate.{translation}
 use Rattle.definitions.specs.Run as Run
 use Rattle.definitions.specs.Run.{runVerdict, answerAfter, bytesAfter, ruleAnswer, runAnswer, runCells}
 use Rattle.definitions.specs.declared.Verdict.{Verdict}
 use Rattle.definitions.specs.declared.Verdict.the-variants as verdicts
 use Rattle.definitions.specs.declared.Verdict.the-variants.{Accepted}
-use Rattle.translator.specs.Promise as Translator
-use Rattle.translator.specs.Promise.{translationRefusal, outputOf, Translates}
-use Rattle.translator.specs.declared.Translated.{Translated}
+use Rattle.translator.specs.Promise.{translationRefusal, Translates}
+use Rattle.definitions.specs.declared.Written.{Written}
 use Rattle.run.specs.Promise.{Runs}
 use Rattle.answer.specs.declared.Answer.{Answer}
 use Rattle.answer.specs.Answers.{answerOf}
@@ -24,13 +24,13 @@ use Rattle.demands.specs.Demands.{TranslatingMet, Met, RunExact}
 use Rattle.demands.proofs.Refusals.{NumberedIn, translating-numbered, running-numbered, joining-numbered}
 use Rattle.agreement.proofs.KnownEnds.{rule-known}
 
-translating-by : (sheet out : List ℕ) (r : Translated) (out′ : List ℕ) (v : Verdict) → NumberedIn v → translationRefusal sheet (length out) ≡ v
+translating-by : (sheet out : List ℕ) (r : Written) (out′ : List ℕ) (v : Verdict) → NumberedIn v → translationRefusal sheet (length out) ≡ v
     → Translates sheet out r out′ → TranslatingMet sheet out r out′
-unfolding Translator.translatedOf outputOf
+unfolding writtenOf outputOf
 translating-by sheet out r out′ Accepted k e t = Demands.TranslatingMet.translates (t .answer ∙ rw e refl)
 translating-by sheet out r out′ (verdicts.Refused n p) k e t = Demands.TranslatingMet.refuses n p (t .answer ∙ rw e refl) k (t .output ∙ rw e refl)
 
-pub translating-met : (sheet out : List ℕ) (r : Translated) (out′ : List ℕ) → Translates sheet out r out′ → TranslatingMet sheet out r out′
+pub translating-met : (sheet out : List ℕ) (r : Written) (out′ : List ℕ) → Translates sheet out r out′ → TranslatingMet sheet out r out′
 translating-met sheet out r out′ t =
     translating-by sheet out r out′ (translationRefusal sheet (length out)) (translating-numbered sheet (length out)) refl t
 
@@ -40,7 +40,7 @@ rule-met a untouched true y e f h = Demands.Met.answers e
 rule-met a untouched false true e f h = Demands.Met.stops f
 rule-met a untouched false false e f h = absurd (true≢false (sym h))
 
-after-met : (b : List ℕ) (rs : List ℤ) (steps nesting cellsAllowed : ℕ) (untouched : Type 0) (v : Verdict) → NumberedIn v → ((n p : ℕ) → v ≡ verdicts.Refused n p → untouched)
+pub after-met : (b : List ℕ) (rs : List ℤ) (steps nesting cellsAllowed : ℕ) (untouched : Type 0) (v : Verdict) → NumberedIn v → ((n p : ℕ) → v ≡ verdicts.Refused n p → untouched)
     → Met (answerAfter v (ruleAnswer b rs steps nesting cellsAllowed)) untouched
 unfolding answerAfter ruleAnswer Run.reachedAnswer
 after-met b rs steps nesting cellsAllowed untouched Accepted k u = rule-met _ untouched _ _ refl refl (rule-known b rs cellsAllowed steps nesting)

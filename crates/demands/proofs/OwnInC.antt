@@ -53,7 +53,7 @@ module _ (sheet : List ℕ) (accepted : sheetVerdict sheet ≡ Accepted) (rs : L
       recorded-unanswered _ untouched met room′ rest written
       (unanswered _ untouched (λ h. none _ (after-own sheet accepted rs steps nesting cellsAllowed v numbered h)) met)
 
-  faithful-recorded : FaithfulInC sheet rs room′ untouched
+  pub faithful-recorded : FaithfulInC sheet rs room′ untouched
   faithful-recorded = record { own = own-recorded; none = none-recorded }
 
 -- a run of the bytes that were handed over

@@ -17,6 +17,7 @@ use Rattle.definitions.specs.declared.Layout.the-variants.{Sheet, Translation}
 use Rattle.definitions.specs.declared.Verdict.{Verdict}
 use Rattle.definitions.specs.declared.Verdict.the-variants.{Accepted, Refused}
 use Rattle.translator.specs.Promise.{translationRefusal}
+use Rattle.batch.specs.Promise.{rowsChecks, rowsVerdict}
 use Rattle.join.specs.Promise.{joinVerdict}
 
 abbrev pub NumberedIn : Verdict → Type 0
@@ -80,3 +81,9 @@ unfolding joinVerdict isRefusal within
 joining-numbered b room rs nesting cellsAllowed lent =
     either _ _ (either _ _ (either _ _ (sheet-numbered b) (required _ shortOutput 0 refl)) (required _ badReadings 0 refl))
     (required _ badAllowance 0 refl)
+
+pub batch-numbered : (b : List ℕ) (rows : ℕ) (rs : List ℤ) (nesting cellsAllowed lent room : ℕ) → NumberedIn (rowsVerdict b rows rs nesting cellsAllowed lent room)
+unfolding rowsVerdict rowsChecks isRefusal within
+batch-numbered b rows rs nesting cellsAllowed lent room =
+    either _ _ (translation-numbered b)
+    (either _ _ (either _ _ (required _ badReadings 0 refl) (required _ badAllowance 0 refl)) (required _ shortOutput 0 refl))

@@ -31,7 +31,7 @@ use Rattle.demands.proofs.Refusals.{NumberedIn}
 word-fits : (n : ℕ) → n < 65536 → SFits w32 (pos n)
 word-fits n h = record { sfits = omega arith }
 
-zero-fits : SFits w32 (pos 0)
+pub zero-fits : SFits w32 (pos 0)
 zero-fits = word-fits 0 (omega arith)
 
 -- literals

@@ -9,8 +9,8 @@ use Rattle.definitions.specs.Checks.{sheetVerdict}
 use Rattle.definitions.specs.Translate.{translation}
 use Rattle.definitions.specs.declared.Verdict.the-variants.{Accepted}
 use Rattle.definitions.specs.Run.{Answer, ruleAnswer, ruleCells, refusal}
-use Rattle.translator.specs.declared.Translated.{Translated}
-use Rattle.translator.specs.declared.Translated.the-variants.{Length, Refused}
+use Rattle.definitions.specs.declared.Written.{Written}
+use Rattle.definitions.specs.declared.Written.the-variants.{Length, Refused}
 use Rattle.definitions.specs.Numbers.{isRefusal, isAnswer, isStop}
 
 -- bytes that were handed over: the sheet is accepted, and they are its translation
@@ -19,7 +19,7 @@ pub record Handed (sheet : List ℕ) (n : ℕ) (out′ : List ℕ) : Type 0 wher
   pub is : take n out′ ≡ translation sheet
 
 -- translating ends with the translation's length, or with a numbered refusal that leaves the output as it was
-pub data TranslatingMet (sheet out : List ℕ) (r : Translated) (out′ : List ℕ) : Type 0 where
+pub data TranslatingMet (sheet out : List ℕ) (r : Written) (out′ : List ℕ) : Type 0 where
   translates : r ≡ Length (length (translation sheet)) → TranslatingMet sheet out r out′
   refuses : (n p : ℕ) → r ≡ Refused n p → isRefusal n ≡ true → out′ ≡ out → TranslatingMet sheet out r out′
 

@@ -1,2 +1,3 @@
 pub mod Demands
 pub mod InC
+pub mod Rows

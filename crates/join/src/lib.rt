@@ -8,11 +8,11 @@ ghost use Rattle.join.specs.Promise.{Joins};
 use allowances::allowed;
 use answer::Answer;
 use answer::refused;
+use definitions::Written;
 use definitions::numbers;
 use definitions::sizes::TRANSLATION_BYTES;
 use file_layout::layout;
 use run::run;
-use translator::Translated;
 use translator::translate;
 use widths::wide;
 
@@ -33,8 +33,8 @@ pub fn translate_and_run(
     let mut own = [0u8; TRANSLATION_BYTES];
     let translated = translate(sheet, &mut own);
     match translated {
-        Translated::Refused { number, place } => refused(number, place),
-        Translated::Length(size) => {
+        Written::Refused { number, place } => refused(number, place),
+        Written::Length(size) => {
             run_accepted(
                 sheet,
                 size,

@@ -1,6 +1,7 @@
 pub mod Bytes
 pub mod Records
 pub mod Lists
+pub mod Joined
 pub mod Ranges
 pub mod Classes
 pub mod Verdicts
@@ -15,3 +16,4 @@ pub mod Walk
 pub mod ByteFiles
 pub mod NodeKinds
 pub mod Stores
+pub mod CellBytes

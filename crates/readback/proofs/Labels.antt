@@ -28,7 +28,7 @@ use Rattle.accepted.proofs.Children.{argument-found}
 use Rattle.accepted.proofs.Checks.{sheet-shape}
 use Rattle.accepted.proofs.Names.{call-count}
 use Rattle.accepted.proofs.Trees.{child-below}
-use Rattle.readback.proofs.Joined.{picked-length, picked-element, picked-found}
+use Rattle.readback.proofs.Picked.{picked-length, picked-element, picked-found}
 
 -- a record that passes the test for a call is one
 called : (rec : List ℕ) (f : ℕ) → (eqb (kindOf rec) SheetKinds.call && eqb (field rec 0) f) ≡ true

@@ -2,7 +2,7 @@ pub mod Words
 pub mod Made
 pub mod Fields
 pub mod Signed
-pub mod Joined
+pub mod Picked
 pub mod Labels
 pub mod Fitting
 pub mod Records

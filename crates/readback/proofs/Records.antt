@@ -21,7 +21,7 @@ use Rattle.accepted.proofs.Checks.{sheet-shape}
 use Rattle.readback.specs.TranslatedNode.{translatedKind, translatedFields}
 use Rattle.readback.proofs.Words.{word-read}
 use Rattle.readback.proofs.Made.{Made, made-nothing, made-one, made-both, made-joined, made-record, made-end}
-use Rattle.readback.proofs.Joined.{joined-split}
+use Rattle.laws.proofs.Joined.{joined-split}
 use Rattle.readback.proofs.Fitting.{formals-limit, function-writable, formal-writable, node-writable}
 
 -- a node's words are a record of its kind and fields

@@ -34,7 +34,7 @@ use Rattle.readback.specs.TranslatedNode.{translatedKind, translatedFiel
 use Rattle.readback.proofs.Words.{bytes-length}
 use Rattle.readback.proofs.Made.{words-length}
 use Rattle.readback.proofs.Fields.{clause-words}
-use Rattle.readback.proofs.Joined.{joined-length}
+use Rattle.laws.proofs.Joined.{joined-length}
 use Rattle.readback.proofs.Labels.{actuals-length}
 use Rattle.readback.proofs.Fitting.{formals-limit}
 use Rattle.readback.proofs.Records.{node-words, formalPart}

@@ -71,6 +71,9 @@ nodes-kept b rs tab tab′ r s =
     let n = nodes-limit Translation b (translation-shape b (r .accepted)) in
     record { entry = λ k h. rw (s .kept k (omega arith)) (r .table .entry k h) }
 
+pub still-readable : {b : List ℕ} {rs : List ℤ} {tab tab′ : List ℕ} → Readable b tab → ReadingsSet tab rs tab′ → Readable b tab′
+still-readable r s = record { accepted = r .accepted; room = s .room; table = nodes-kept _ _ _ _ r s }
+
 pub readings-held : (b : List ℕ) (rs : List ℤ) (tab tab′ : List ℕ) → ReadingsSet tab rs tab′ → length rs ≡ readings b → ReadingsIn b rs tab′
 readings-held b rs tab tab′ s e = record { reading = λ i h. s .set i (rw e h) }
 

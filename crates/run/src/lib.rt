@@ -6,7 +6,7 @@ ghost use Rattle.run.specs.Promise.{Runs};
 
 mod answers;
 mod look_up;
-mod node_table;
+pub mod node_table;
 mod packed;
 mod state;
 mod visit;
@@ -33,7 +33,7 @@ use format::translation::fill_translation;
 use widths::wide;
 
 // Reads a translation into a lent table. Of a refused file only the verdict counts.
-fn read_file(file: &[u8], table: &mut Table) -> Verdict
+pub fn read_file(file: &[u8], table: &mut Table) -> Verdict
     requires { ⌜ length (now table) ≡ tableEntries ⌝ }
     ensures { λ v. ⌜ FileRead (now (file .entry)) v (now (table .exit)) ⌝ }
 {
@@ -47,8 +47,8 @@ fn read_file(file: &[u8], table: &mut Table) -> Verdict
     Verdict::Accepted
 }
 
-// Runs the translation that a table holds: the readings come into the table here.
-fn run_table(
+// Runs the translation that a table holds: the readings come into the table here, and its nodes stay, so that it can be run again.
+pub fn run_table(
     file: &[u8],
     table: &mut Table,
     readings: &[i32],
@@ -59,7 +59,8 @@ fn run_table(
 ) -> Answer
     requires { ⌜ Readable (now file) (now table) ⌝ }
     ensures { λ r. ⌜ Runs (now (file .entry)) (now (readings .entry)) steps nesting «cells_allowed» (now (now (cells .entry))) r (now (now (cells .exit)))
-        × (now (cells .exit) .ptr ≡ now (cells .entry) .ptr) ⌝ }
+        × (now (cells .exit) .ptr ≡ now (cells .entry) .ptr)
+        × Readable (now (file .entry)) (now (table .exit)) ⌝ }
 {
     if readings.len() != wide(layout::readings(file)) {
         return refused(numbers::BAD_READINGS, 0);

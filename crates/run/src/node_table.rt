@@ -29,9 +29,9 @@ use operators::bits::bits_of;
 use operators::bits::number_of;
 use widths::wide;
 
-pub(crate) const TABLE_ENTRIES: usize = MOST_NODES + MOST_READINGS;
+pub const TABLE_ENTRIES: usize = MOST_NODES + MOST_READINGS;
 
-pub(crate) type Table = [u64; TABLE_ENTRIES];
+pub type Table = [u64; TABLE_ENTRIES];
 
 // The number with these parts.
 pub(crate) fn entry_with(a: u16, b: u16, c: u16, d: u16) -> u64

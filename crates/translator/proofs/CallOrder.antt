@@ -21,7 +21,7 @@ use Rattle.laws.proofs.Lists.{below-suc}
 use Rattle.accepted.proofs.Sums.{sum-term, sum-same, sum-limit}
 use Rattle.accepted.proofs.Counts.{count-term, count-reached}
 use Rattle.accepted.proofs.Head.{nodes-limit}
-use Rattle.readback.proofs.Joined.{picked-tabled}
+use Rattle.readback.proofs.Picked.{picked-tabled}
 use Rattle.readback.proofs.Totals.{count-weighed}
 use Rattle.readback.proofs.Size.{no-arguments, call-arguments}
 use Rattle.translator.specs.Tables.{Counts, callCount, firstCall, CallOrder, Placing}

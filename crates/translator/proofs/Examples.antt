@@ -15,6 +15,7 @@ use Rattle.definitions.specs.Layouts
 use Rattle.definitions.specs.Kinds
 use Rattle.definitions.specs.Ranges
 use Rattle.definitions.specs.Verdicts
+use Rattle.definitions.specs.Output
 use Rattle.definitions.specs.Shape
 use Rattle.definitions.specs.References
 use Rattle.definitions.specs.Checks
@@ -23,8 +24,8 @@ use Rattle.definitions.specs.Operators
 use Rattle.definitions.specs.SheetNodes
 use Rattle.definitions.specs.Translate
 use Rattle.translator.specs.Promise
-use Rattle.translator.specs.declared.Translated.{Translated}
-use Rattle.translator.specs.declared.Translated.the-variants as answers
+use Rattle.definitions.specs.declared.Written.{Written}
+use Rattle.definitions.specs.declared.Written.the-variants as answers
 
 -- the definitions that the example computes with, opened together
 unfoldable opened : Unit {0}
@@ -46,7 +47,7 @@ unfolding
     Translate.recordWords Translate.calls Translate.labelOf Translate.formalOf Translate.formals Translate.actuals
     Translate.translated Translate.headWords Translate.functionWords Translate.formalWords Translate.nodeWords
     Translate.translationWords Translate.translation
-    Promise.translationRefusal Promise.translatedOf Promise.outputOf
+    Output.writtenOf Output.outputOf Promise.translationRefusal
 opened = tt
 
 unfoldable pub sheet : List ℕ
@@ -88,13 +89,13 @@ written =
     ++ Translate.recordWords TranslationKinds.formal (2 ∷ []))
 
 -- an output with two bytes more than the translation: the length, the translation, and the two bytes as they were
-pub long-output : (r : Translated) (out′ : List ℕ) → Promise.Translates sheet (replicate 114 170) r out′
+pub long-output : (r : Written) (out′ : List ℕ) → Promise.Translates sheet (replicate 114 170) r out′
     → (r ≡ answers.Length 112) × (out′ ≡ written ++ (170 ∷ 170 ∷ []))
 unfolding opened sheet written
 long-output r out′ t = (t .answer, t .output)
 
 -- an output with one byte less: 8, place 0, and the output as it was
-pub short-output : (r : Translated) (out′ : List ℕ) → Promise.Translates sheet (replicate 111 170) r out′
+pub short-output : (r : Written) (out′ : List ℕ) → Promise.Translates sheet (replicate 111 170) r out′
     → (r ≡ answers.Refused 8 0) × (out′ ≡ replicate 111 170)
 unfolding opened sheet written
 short-output r out′ t = (t .answer, t .output)

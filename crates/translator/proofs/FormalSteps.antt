@@ -14,7 +14,7 @@ use Rattle.definitions.specs.Translate.{calls, recordWords, actuals, formals, h
 use Rattle.definitions.specs.declared.Layout.the-variants.{Sheet}
 use Rattle.laws.proofs.Lists.{sum-more}
 use Rattle.accepted.proofs.Head.{nodes-limit}
-use Rattle.readback.proofs.Joined.{picked-length}
+use Rattle.readback.proofs.Picked.{picked-length}
 use Rattle.file_records.specs.Index.{Opened, startIn}
 use Rattle.file_records.proofs.Indices.{indexed-field}
 use Rattle.translation_words.specs.Writing.{WroteWords}

@@ -9,6 +9,7 @@ use lib.ListN.{length}
 use lib.Seq.{sets-eq}
 use lib.Dec.{leb}
 use borrow.Author.Tests.{le-leb, leb-true}
+use Rattle.definitions.specs.Output.{writtenOf, outputOf}
 use Rattle.definitions.specs.Sizes.{translationBytes}
 use Rattle.definitions.specs.Numbers.{shortOutput}
 use Rattle.definitions.specs.Verdicts.{require}
@@ -20,15 +21,15 @@ use Rattle.laws.proofs.Verdicts.{then-accepted, then-refused}
 use Rattle.accepted.proofs.Checks.{sheet-shape}
 use Rattle.readback.proofs.Size.{translation-length, translation-limit}
 use Rattle.format.specs.Readers.{ReadSheet}
-use Rattle.translator.specs.Promise.{translationRefusal, translatedOf, outputOf, Translates}
+use Rattle.translator.specs.Promise.{translationRefusal, Translates}
 use Rattle.translation_words.specs.Writing.{WroteWords}
 use Rattle.translator.specs.Tables.{ReadTables}
-use Rattle.translator.specs.declared.Translated.the-variants as answers
+use Rattle.definitions.specs.declared.Written.the-variants as answers
 
 -- the reader's refusal
 pub reader-refuses : {b out starts ends owners : List ℕ} {v : Verdict} {n p : ℕ} → ReadSheet b v starts ends owners → v ≡ Refused n p
     → Translates b out (answers.Refused n p) out
-unfolding translationRefusal translatedOf outputOf
+unfolding translationRefusal writtenOf outputOf
 reader-refuses {b} {n} {p} w e =
     let r : sheetVerdict b ≡ Refused n p = sym (w .verdict) ∙ e in
     record { answer = rw (then-refused (sheetVerdict b) _ n p r) refl; output = rw (then-refused (sheetVerdict b) _ n p r) refl }
@@ -62,14 +63,14 @@ module _ (b : List ℕ) (accepted : sheetVerdict b ≡ Accepted) where
   refusal-by out t e = then-accepted (sheetVerdict b) _ accepted ∙ rw (← e) refl
 
   pub output-short : (out : List ℕ) (t : Bool) → t ≡ leb (length (translation b)) (length out) → t ≡ false → Translates b out (answers.Refused shortOutput 0) out
-  unfolding translatedOf outputOf require
+  unfolding writtenOf outputOf require
   output-short out t e f =
       let r : translationRefusal b (length out) ≡ Refused shortOutput 0 = refusal-by out t e ∙ rw f refl in
       record { answer = rw r refl; output = rw r refl }
 
   pub output-written : {out : List ℕ} {t : Bool} {n : ℕ} {o : List ℕ} → t ≡ leb (length (translation b)) (length out) → t ≡ true → WroteWords out 0 (translationWords b) n o
       → Translates b out (answers.Length n) o
-  unfolding translatedOf outputOf require translation
+  unfolding writtenOf outputOf require translation
   output-written {out} {t} {n} {o} e f v =
       let r : translationRefusal b (length out) ≡ Accepted = refusal-by out t e ∙ rw f refl in
       let k : 0 + length (translation b) ≤ length out = omega (arith, leb-true (length (translation b)) (length out) (sym e ∙ f)) in

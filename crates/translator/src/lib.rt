@@ -18,6 +18,7 @@ use crate::tables::OfNodes;
 use crate::tables::Sums;
 use crate::tables::first_formals;
 use definitions::Verdict;
+use definitions::Written;
 use definitions::numbers::SHORT_OUTPUT;
 use definitions::sizes::Ends;
 use definitions::sizes::MOST_FUNCTIONS;
@@ -26,21 +27,15 @@ use definitions::sizes::Owners;
 use definitions::sizes::Starts;
 use format::sheet::read_sheet;
 
-// What translating answers: the translation's length, or the refusal's number and its place.
-pub enum Translated {
-    Length(usize),
-    Refused { number: u16, place: usize },
-}
-
 // Translates a sheet into a lent output. The answer is the translation's length, and the output starts with the
 // translation and stays as it was past it; or it is the refusal, and the output stays as it was.
-pub fn translate(sheet: &[u8], out: &mut [u8]) -> Translated
+pub fn translate(sheet: &[u8], out: &mut [u8]) -> Written
     ensures { λ r. ⌜ Translates (now (sheet .entry)) (now (out .entry)) r (now (out .exit)) ⌝ }
 {
     let read = read_sheet(sheet);
     let verdict = read.verdict;
     match verdict {
-        Verdict::Refused { number, place } => Translated::Refused { number, place },
+        Verdict::Refused { number, place } => Written::Refused { number, place },
         Verdict::Accepted => {
             translate_accepted(sheet, &read.starts, &read.ends, &read.owners, out)
         }
@@ -54,7 +49,7 @@ fn translate_accepted<'a>(
     ends: &'a Ends,
     owners: &'a Owners,
     out: &mut [u8],
-) -> Translated
+) -> Written
     requires { ⌜ ReadTables (now sheet) (now starts) (now ends) (now owners) ⌝ }
     ensures { λ r. ⌜ Translates (now (sheet .entry)) (now (out .entry)) r (now (out .exit)) ⌝ }
 {
@@ -89,7 +84,7 @@ fn write(
     order: &OfNodes,
     formals: &Sums,
     out: &mut [u8],
-) -> Translated
+) -> Written
     requires { ⌜ Tables (now sheet) (now starts) (now ends) (now owners) (now labels) (now firsts) (now order) (now formals) ⌝ }
     ensures { λ r. ⌜ Translates (now (sheet .entry)) (now (out .entry)) r (now (out .exit)) ⌝ }
 {
@@ -116,9 +111,9 @@ fn write(
             formals,
             out,
         );
-        return Translated::Length(length);
+        return Written::Length(length);
     }
-    Translated::Refused {
+    Written::Refused {
         number: SHORT_OUTPUT,
         place: 0,
     }

@@ -5,17 +5,20 @@ use crate::text::COMMA;
 use crate::text::after;
 use crate::text::number;
 use crate::text::number_starts;
-use crate::text::signed;
+use crate::text::signed_bits;
 use crate::text::until;
 use crate::text::word;
 use definitions::sizes::MOST_READINGS;
+use definitions::sizes::MOST_ROWS;
 use file_writer::SPACE_BYTES;
 use file_writer::Space;
 use file_writer::change;
 use file_writer::put;
+use operators::bits::number_of;
+use std::num::wrapping_add_u32;
 
-// More readings than an entry lists: some more than a sheet can have.
-pub(crate) const READINGS_ROOM: usize = MOST_READINGS + 8;
+// More readings than an entry lists: some more than one row too many can have.
+pub(crate) const READINGS_ROOM: usize = (MOST_ROWS as usize + 1) * MOST_READINGS + 8;
 
 pub(crate) type Readings = [i32; READINGS_ROOM];
 
@@ -130,19 +133,48 @@ pub(crate) fn change_words(text: &[u8], from: usize, file: &mut Space) {
     }
 }
 
-// Puts the readings that an entry lists after a bar, and answers how many they are; a reading past the room has no place.
-pub(crate) fn put_readings(text: &[u8], from: usize, readings: &mut Readings) -> usize {
+// The reading whose digits start at a place, at a turn.
+fn reading(text: &[u8], at: usize, turn: u16) -> i32 {
+    let step = word(text, after(text, at, b'+'));
+    let grown = at_turn(0, step, turn);
+    number_of(wrapping_add_u32(signed_bits(text, at), grown as u32))
+}
+
+// Puts one turn of the readings that an entry lists after a bar, past the first `count`, and answers how many there are then; a
+// reading past the room has no place.
+fn put_row(text: &[u8], from: usize, turn: u16, readings: &mut Readings, count: usize) -> usize {
     let end = until(text, from, COMMA);
-    let mut count: usize = 0;
+    let mut next = count;
     let mut i = until(text, from, b'|');
     while i < end {
         if number_starts(text, i) {
-            if count < READINGS_ROOM {
-                readings[count] = signed(text, i);
-                count += 1;
+            if next < READINGS_ROOM {
+                readings[next] = reading(text, i, turn);
+                next += 1;
             }
         }
         i += 1;
+    }
+    next
+}
+
+// How many turns the readings of an entry have.
+fn reading_turns(text: &[u8], from: usize) -> u16 {
+    let bar = until(text, from, b'|');
+    if bar < text.len() {
+        return turns(text, bar + 2);
+    }
+    1
+}
+
+// Puts the readings that an entry lists after a bar, all turns of them, and answers how many they are.
+pub(crate) fn put_readings(text: &[u8], from: usize, readings: &mut Readings) -> usize {
+    let rows = reading_turns(text, from);
+    let mut count: usize = 0;
+    let mut turn: u16 = 0;
+    while turn < rows {
+        count = put_row(text, from, turn, readings, count);
+        turn += 1;
     }
     count
 }

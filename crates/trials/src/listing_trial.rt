@@ -1,5 +1,4 @@
 // A trial of a context listing: a line says what was answered, and the labels that were written.
-use crate::files::copy;
 use crate::files::filled;
 use crate::files::within;
 use crate::shown::show_named;
@@ -7,7 +6,7 @@ use crate::shown::show_number;
 use crate::shown::show_refusal;
 use crate::shown::show_whether;
 use crate::text::numbered;
-use crate::translator_trial::agree;
+use crate::translator_trial::rest_kept;
 use cells::listing::Listed;
 use cells::listing::list_context;
 use file_fields::bytes::word;
@@ -62,10 +61,8 @@ pub(crate) fn try_listing(text: &[u8], from: usize, cells: &Space) {
     let answer = listed_in(cells, lent, c, &mut out, room);
     show_named(b"  cell ", text, from, b": ");
     let changed = show_answer(answer, &out);
-    let mut right = filled();
-    copy(&out, changed, &mut right);
     show_whether(
-        agree(&out, &right),
+        rest_kept(&out, changed),
         b", the rest as it was\n",
         b", THE REST CHANGED\n",
     );

@@ -1,6 +1,7 @@
-// The readers, the translator, the run and the context listing on the files that standard input lists.
+// The readers, the translator, the run, the run on rows and the context listing on the files that standard input lists.
 //
-// The file `stdin` beside src/ has the trials; the file `stdout` has what each should answer by document 01.
+// The file `stdin` beside src/ has the trials; the file `stdout` has what each should answer by document 01, and for rows by
+// request 1 of document 02.
 // A line of `stdin` does what its first byte says, and goes on over the lines after it that begin with a blank:
 //   =  a new trial, or trials of one file, and its name; no word is written yet
 //   -  a heading
@@ -13,16 +14,22 @@
 //   j  the sheet is translated and run, in one call and in two: steps, nesting, cells, bytes lent for cells, bytes of the sheet,
 //      bytes of output, changes as above, and after a bar the readings
 //   u  the translation is run: steps, nesting, cells, bytes lent for cells, bytes of the translation, changes, and the readings
+//   w  the translation is run on rows, in one call and in single runs: rows, steps, nesting, cells, bytes lent for cells, bytes
+//      of the translation, bytes lent for records, changes, and the readings of all rows
 //   l  a context is listed: the cell, bytes of cells, bytes of output
 // A run shows its answer's record of kind 64. As many cells as it made are to be those of `c`, and all bytes past them, and those
-// of the output past the translation, are to be as they were before; where the run is refused, all bytes of both are.
-// Words after `xN` are written N times, and a word `w+k` grows by k from turn to turn. A reading has a minus before it where it
-// is negative. What follows a comma says what a trial is. Any other line is a comment. `stdin` has less than 65,536 bytes. What does
-// not fit its space, a number too large or a file too long, is shown as `DOES NOT FIT`, which `stdout` never has.
+// of the output past the translation, are to be as they were before; where the run is refused, all bytes of both are. Of rows each
+// shows its record. `c` then has the cells as the last row leaves them: as many as any row made are to be those, and all bytes past
+// them, and those past the last record, are to be as they were before; where the rows are refused, all bytes of both are.
+// Words and readings after `xN` are written N times, and one with `+k` after it grows by k from turn to turn. A reading has a minus
+// before it where it is negative. What follows a comma says what a trial is. Any other line is a comment. `stdin` has less than
+// 65,536 bytes. What does not fit its space, a number too large or a file too long, is shown as `DOES NOT FIT`, which `stdout`
+// never has.
 // The interpreter with which `rt try` begins ends at its limit of steps, and the compiled runs go through.
 mod files;
 mod listing_trial;
 mod reader_trial;
+mod rows_trial;
 mod run_trial;
 mod shown;
 mod text;
@@ -32,6 +39,7 @@ use crate::files::fill;
 use crate::files::put_entry;
 use crate::listing_trial::try_listing;
 use crate::reader_trial::try_reader;
+use crate::rows_trial::try_rows;
 use crate::run_trial::try_joined;
 use crate::run_trial::try_run;
 use crate::shown::show_misfit;
@@ -126,6 +134,9 @@ fn tried(
     }
     if letter == b'u' {
         try_run(text, from, translation, cells);
+    }
+    if letter == b'w' {
+        try_rows(text, from, translation, cells);
     }
     if letter == b'l' {
         try_listing(text, from, cells);

@@ -18,28 +18,28 @@ use answer::Answer;
 use answer::Outcome;
 use answer::refused;
 use answer::write_answer;
+use definitions::Written;
 use definitions::sizes::CELL_BYTES;
 use file_writer::SPACE_BYTES;
 use file_writer::Space;
 use join::translate_and_run;
 use run::run;
-use translator::Translated;
 use widths::wide;
 
-// What a run is given beside its file: the allowances, how many bytes are lent for cells, how many bytes the sheet and the
+// What a run is given beside its file: the allowances, how many bytes are lent for cells, how many bytes the file and the
 // output have, and how many readings there are.
-struct Given {
-    steps: u32,
-    nesting: u32,
-    cells_allowed: u32,
-    lent: usize,
-    size: usize,
-    room: usize,
-    count: usize,
+pub(crate) struct Given {
+    pub(crate) steps: u32,
+    pub(crate) nesting: u32,
+    pub(crate) cells_allowed: u32,
+    pub(crate) lent: usize,
+    pub(crate) size: usize,
+    pub(crate) room: usize,
+    pub(crate) count: usize,
 }
 
-// The first numbers of an entry, with a count of readings.
-fn read_given(text: &[u8], from: usize, count: usize) -> Given {
+// The first numbers of an entry from a place on, with a count of readings.
+pub(crate) fn read_given(text: &[u8], from: usize, count: usize) -> Given {
     if READINGS_ROOM <= count {
         show_misfit();
     }
@@ -55,21 +55,29 @@ fn read_given(text: &[u8], from: usize, count: usize) -> Given {
 }
 
 // What a run answered, and the cells that were lent for it.
-struct Answered {
-    answer: Answer,
-    cells: Space,
+pub(crate) struct Answered {
+    pub(crate) answer: Answer,
+    pub(crate) cells: Space,
 }
 
-// Runs the first `size` bytes of a translation's file, with new cells.
-fn ran(file: &[u8], size: usize, readings: &[i32], g: Given) -> Answered {
+// Runs the first `size` bytes of a translation's file on the readings from `first` on, in cells as they were left before.
+fn ran(
+    file: &[u8],
+    size: usize,
+    readings: &[i32],
+    first: usize,
+    g: Given,
+    before: Space,
+) -> Answered {
     let bytes = within(size, file.len());
-    let values = within(g.count, readings.len());
+    let start = within(first, readings.len());
+    let values = within(g.count, readings.len() - start);
     let lent_bytes = within(g.lent, SPACE_BYTES);
-    let mut cells = filled();
+    let mut cells = before;
     let mut lent: &mut [u8] = &mut cells[0..lent_bytes];
     let answer = run(
         &file[0..bytes],
-        &readings[0..values],
+        &readings[start..start + values],
         g.steps,
         g.nesting,
         g.cells_allowed,
@@ -79,8 +87,15 @@ fn ran(file: &[u8], size: usize, readings: &[i32], g: Given) -> Answered {
 }
 
 // The same with whole spaces.
-fn ran_in(file: &Space, size: usize, readings: &Readings, g: Given) -> Answered {
-    ran(file, size, readings, g)
+pub(crate) fn ran_in(
+    file: &Space,
+    size: usize,
+    readings: &Readings,
+    first: usize,
+    g: Given,
+    before: Space,
+) -> Answered {
+    ran(file, size, readings, first, g, before)
 }
 
 // Translates and runs a sheet in one call, with new cells.
@@ -112,8 +127,8 @@ fn joined_in(sheet: &Space, out: &mut Space, readings: &Readings, g: Given) -> A
 fn in_two_calls(sheet: &Space, out: &mut Space, readings: &Readings, g: Given) -> Answered {
     let translated = translated_in(sheet, g.size, out, g.room);
     match translated {
-        Translated::Length(n) => ran_in(out, n, readings, g),
-        Translated::Refused { number, place } => Answered {
+        Written::Length(n) => ran_in(out, n, readings, 0, g, filled()),
+        Written::Refused { number, place } => Answered {
             answer: refused(number, place),
             cells: filled(),
         },
@@ -133,10 +148,10 @@ fn output_right(answer: Answer, out: &Space, alone: &Space) -> bool {
     agree(out, alone)
 }
 
-// Whether lent cells start with as many cells of the file of cells as the answer says, and past them are as they were before.
-fn cells_right(answer: Answer, cells: &Space, expected: &Space) -> bool {
+// Whether lent cells start with as many cells of the file of cells as were made, and past them are as they were before.
+pub(crate) fn cells_right(made: u16, cells: &Space, expected: &Space) -> bool {
     let mut right = filled();
-    copy(expected, CELL_BYTES * wide(answer.cells), &mut right);
+    copy(expected, CELL_BYTES * wide(made), &mut right);
     agree(cells, &right)
 }
 
@@ -177,7 +192,7 @@ pub(crate) fn try_joined(text: &[u8], from: usize, base: &Space, expected: &Spac
     show_named(b"  ", text, from, b": ");
     show_answer(answer);
     show_whether(
-        cells_right(answer, &ran.cells, expected),
+        cells_right(answer.cells, &ran.cells, expected),
         b", cells",
         b", CELLS WRONG",
     );
@@ -202,12 +217,12 @@ pub(crate) fn try_run(text: &[u8], from: usize, base: &Space, expected: &Space) 
     let mut readings = [0i32; READINGS_ROOM];
     let count = put_readings(text, from, &mut readings);
     let g = read_given(text, from, count);
-    let ran = ran_in(&translation, g.size, &readings, g);
+    let ran = ran_in(&translation, g.size, &readings, 0, g, filled());
     let answer = ran.answer;
     show_named(b"  ", text, from, b": ");
     show_answer(answer);
     show_whether(
-        cells_right(answer, &ran.cells, expected),
+        cells_right(answer.cells, &ran.cells, expected),
         b", cells right\n",
         b", CELLS WRONG\n",
     );

@@ -4,7 +4,6 @@ use crate::text::entry_end;
 use definitions::sizes::ANSWER_BYTES;
 use file_fields::bytes::word;
 use file_fields::bytes::word32;
-use file_writer::Space;
 use widths::wide;
 use widths::wide32;
 
@@ -66,7 +65,7 @@ fn show_value(bits: usize)
 }
 
 // The fields of an answer's record. Its length and its kind are not shown where they are right.
-pub(crate) fn show_record(record: &Space) {
+pub(crate) fn show_record(record: &[u8]) {
     show_whether(wide(word(record, 0)) == ANSWER_BYTES, b"", b"WRONG LENGTH ");
     show_whether(word(record, 2) == RECORD_KIND, b"", b"WRONG KIND ");
     show_number(b"outcome ", wide(word(record, 4)), b"");

@@ -1,7 +1,6 @@
 // The text of the trials: entries, and the numbers in them. An entry begins at the start of a line with its letter, and goes
 // on over the lines that begin with a blank.
 use crate::shown::show_misfit;
-use operators::bits::number_of;
 use std::num::wrapping_sub_u32;
 
 const LINE_END: u8 = b'\n';
@@ -157,13 +156,13 @@ pub(crate) fn numbered(text: &[u8], from: usize, k: u32) -> u32 {
     number(text, place(text, from, k))
 }
 
-// The number whose digits start at a place, negative where a minus stands before them.
-pub(crate) fn signed(text: &[u8], at: usize) -> i32 {
+// The bits of the number whose digits start at a place, which is negative where a minus stands before them.
+pub(crate) fn signed_bits(text: &[u8], at: usize) -> u32 {
     let bits = number(text, at);
     if 0 < at {
         if has(text, at - 1, MINUS) {
-            return number_of(wrapping_sub_u32(0, bits));
+            return wrapping_sub_u32(0, bits);
         }
     }
-    number_of(bits)
+    bits
 }

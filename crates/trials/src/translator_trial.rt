@@ -1,13 +1,14 @@
 // A trial of the translator: a sheet is translated, and a line says what was answered and whether the output is what it should
 // be.
+use crate::files::copy;
 use crate::files::filled;
 use crate::files::within;
 use crate::shown::show_number;
 use crate::shown::show_refusal;
 use crate::shown::show_whether;
 use check::same;
+use definitions::Written;
 use file_writer::Space;
-use translator::Translated;
 use translator::translate;
 
 // Whether two outputs hold the same bytes.
@@ -15,20 +16,22 @@ pub(crate) fn agree(one: &Space, other: &Space) -> bool {
     same(one, other)
 }
 
+// Whether an output is as it was before, past the first `changed` bytes.
+pub(crate) fn rest_kept(out: &Space, changed: usize) -> bool {
+    let mut right = filled();
+    copy(out, changed, &mut right);
+    agree(out, &right)
+}
+
 // Translates the first `size` bytes of a sheet's file into the first `room` bytes of an output.
-fn translated(sheet: &[u8], size: usize, out: &mut [u8], room: usize) -> Translated {
+fn translated(sheet: &[u8], size: usize, out: &mut [u8], room: usize) -> Written {
     let bytes = within(size, sheet.len());
     let out_bytes = within(room, out.len());
     translate(&sheet[0..bytes], &mut out[0..out_bytes])
 }
 
 // The same with whole spaces.
-pub(crate) fn translated_in(
-    sheet: &Space,
-    size: usize,
-    out: &mut Space,
-    room: usize,
-) -> Translated {
+pub(crate) fn translated_in(sheet: &Space, size: usize, out: &mut Space, room: usize) -> Written {
     translated(sheet, size, out, room)
 }
 
@@ -47,11 +50,11 @@ pub(crate) fn try_translator(
     show_number(b" into ", room, b": ");
     let answer = translated_in(sheet, size, &mut out, room);
     let right = match answer {
-        Translated::Length(n) => {
+        Written::Length(n) => {
             show_number(b"length ", n, b"");
             n == length && agree(&out, expected)
         }
-        Translated::Refused { number, place } => {
+        Written::Refused { number, place } => {
             show_refusal(number, place);
             agree(&out, &before)
         }

@@ -1,14 +1,15 @@
 // The calls for programs in C and Rust: numbers, slices of numbers, and a reference to a slice of cells, which stays the same
 // slice. include/zifnora.h says the same for C.
 ghost use mathlib.Core.Path.{_≡_};
-ghost use Rattle.zifnora_c.specs.Promise.{TranslatesC, RunsC, JoinsC, ListsC};
+ghost use Rattle.zifnora_c.specs.Promise.{TranslatesC, RunsC, RunsRowsC, JoinsC, ListsC};
 
 mod codes;
 
 use crate::codes::listed_code;
 use crate::codes::record_code;
-use crate::codes::translated_code;
+use crate::codes::written_code;
 use answer::write_answer;
+use batch::run_rows;
 use cells::listing::list_context;
 use join::translate_and_run;
 use run::run;
@@ -19,7 +20,7 @@ use translator::translate;
 pub extern "C" fn zifnora_translate(sheet: &[u8], out: &mut [u8]) -> u64
     ensures { λ r. ⌜ TranslatesC (now (sheet .entry)) (now (out .entry)) r (now (out .exit)) ⌝ }
 {
-    translated_code(translate(sheet, out))
+    written_code(translate(sheet, out))
 }
 
 // Runs a translation, and writes the answer's record.
@@ -43,6 +44,35 @@ pub extern "C" fn zifnora_run_slice(
     let answer = run(file, readings, steps, nesting, cells_allowed, cells);
     write_answer(answer, rec);
     short
+}
+
+// Runs a translation on rows of readings in turn, and writes their answers' records.
+#[no_mangle]
+pub extern "C" fn zifnora_run_rows_slice(
+    file: &[u8],
+    rows: u32,
+    readings: &[i32],
+    steps: u32,
+    nesting: u32,
+    cells_allowed: u32,
+    cells: &mut &mut [u8],
+    records: &mut [u8],
+) -> u64
+    ensures { λ r. ⌜ RunsRowsC (now (file .entry)) rows (now (readings .entry)) steps nesting «cells_allowed» (now (now (cells .entry))) (now (records .entry)) r
+        (now (now (cells .exit))) (now (records .exit))
+        × (now (cells .exit) .ptr ≡ now (cells .entry) .ptr) ⌝ }
+{
+    let written = run_rows(
+        file,
+        rows,
+        readings,
+        steps,
+        nesting,
+        cells_allowed,
+        cells,
+        records,
+    );
+    written_code(written)
 }
 
 // Translates a sheet and runs the translation, and writes the answer's record.

@@ -2,7 +2,7 @@
 
 use crate::answer::{Allowances, Answer, Ended, Record, Refusal};
 use crate::raw;
-use crate::sizes::{ANSWER_BYTES, CELL_BYTES, LABEL_BYTES};
+use crate::sizes::{ANSWER_BYTES, CELL_BYTES, LABEL_BYTES, MOST_ROWS};
 
 /// Translates a sheet; the translation's length. `out` starts with the
 /// translation and stays as it was past it; a refusal leaves all of it as it
@@ -23,6 +23,23 @@ pub fn run(
     let mut record = [0; ANSWER_BYTES];
     let code = raw::run(translation, readings, allowances, cells, &mut record);
     ended(code, &record)
+}
+
+/// Runs a translation on each of `rows` rows of readings, which stand one after
+/// the other; how each row's run ended. The rows run in turn in the same lent
+/// cells, each with all of the allowances, and `cells` is left as these runs
+/// leave it; a refusal runs no row and leaves all of it as it was.
+pub fn run_rows(
+    translation: &[u8],
+    rows: u32,
+    readings: &[i32],
+    allowances: Allowances,
+    cells: &mut [u8],
+) -> Result<Vec<Ended>, Refusal> {
+    let mut records = [0; MOST_ROWS as usize * ANSWER_BYTES];
+    let code = raw::run_rows(translation, rows, readings, allowances, cells, &mut records);
+    let written = &records[..raw::result(code)?];
+    Ok(written.chunks_exact(ANSWER_BYTES).map(decoded).collect())
 }
 
 /// Translates a sheet into `out` and runs the translation. Any refusal leaves
@@ -59,14 +76,17 @@ pub fn list_context_into(cells: &[u8], cell: u32, out: &mut [u8]) -> Result<usiz
 /// The end of a run, by its code and its record.
 fn ended(code: u64, record: &[u8]) -> Ended {
     match raw::result(code) {
-        Ok(_) => {
-            let record = Record::from_bytes(record).expect("an answer record");
-            record.ended().expect("an outcome of the table")
-        }
+        Ok(_) => decoded(record),
         Err(refusal) => Ended {
             answer: Answer::Refused(refusal),
             steps: 0,
             cells: 0,
         },
     }
+}
+
+/// What an answer record says.
+fn decoded(record: &[u8]) -> Ended {
+    let record = Record::from_bytes(record).expect("an answer record");
+    record.ended().expect("an outcome of the table")
 }

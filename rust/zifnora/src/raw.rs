@@ -4,7 +4,7 @@
 
 use crate::answer::{Allowances, Refusal};
 
-/// A lent buffer as the two calls that run take it: address and length,
+/// A lent buffer as the three calls that run take it: address and length,
 /// behind a pointer. It is as it was after the call.
 #[repr(C)]
 #[derive(PartialEq)]
@@ -43,6 +43,20 @@ extern "C" {
         record_length: usize,
     ) -> u64;
 
+    fn zifnora_run_rows_slice(
+        translation: *const u8,
+        translation_length: usize,
+        rows: u32,
+        readings: *const i32,
+        readings_count: usize,
+        steps: u32,
+        nesting: u32,
+        cells_allowed: u32,
+        cells: *mut Lent,
+        records: *mut u8,
+        records_length: usize,
+    ) -> u64;
+
     fn zifnora_translate_and_run_slice(
         sheet: *const u8,
         sheet_length: usize,
@@ -67,7 +81,7 @@ extern "C" {
     ) -> u64;
 }
 
-// Safety of the four calls: every pointer comes from a live slice of the
+// Safety of the five calls: every pointer comes from a live slice of the
 // stated length; slices that are written are borrowed mutably, so that they
 // overlap no other; the pair of the cells is a local variable.
 
@@ -99,6 +113,37 @@ pub fn run(
             &mut lent,
             record.as_mut_ptr(),
             record.len(),
+        )
+    };
+    assert!(lent == Lent::of(cells), "the pair is as it was");
+    code
+}
+
+/// Runs a translation on each of `rows` rows of readings and writes an answer
+/// record for each.
+#[inline]
+pub fn run_rows(
+    translation: &[u8],
+    rows: u32,
+    readings: &[i32],
+    allowances: Allowances,
+    cells: &mut [u8],
+    records: &mut [u8],
+) -> u64 {
+    let mut lent = Lent::of(cells);
+    let code = unsafe {
+        zifnora_run_rows_slice(
+            translation.as_ptr(),
+            translation.len(),
+            rows,
+            readings.as_ptr(),
+            readings.len(),
+            allowances.steps,
+            allowances.nesting,
+            allowances.cells,
+            &mut lent,
+            records.as_mut_ptr(),
+            records.len(),
         )
     };
     assert!(lent == Lent::of(cells), "the pair is as it was");

@@ -21,6 +21,9 @@ pub const MOST_NESTING: u32 = 1024;
 /// Of the cell allowance, which starts at 0.
 pub const MOST_CELLS: u32 = 8192;
 
+/// Of the rows of a batch, which start at 0.
+pub const MOST_ROWS: u32 = 16;
+
 /// Bytes lent for each cell: a label and the number of the previous cell.
 pub const CELL_BYTES: usize = 4;
 

@@ -2,9 +2,9 @@
 //! they leave in the lent buffers.
 
 use zifnora::build_sheet::*;
-use zifnora::sizes::{ANSWER_BYTES, CELL_BYTES, TRANSLATION_BYTES};
+use zifnora::sizes::{ANSWER_BYTES, CELL_BYTES, MOST_ROWS, TRANSLATION_BYTES};
 use zifnora::{kinds, numbers, raw};
-use zifnora::{list_context, list_context_into, run, translate, translate_and_run};
+use zifnora::{list_context, list_context_into, run, run_rows, translate, translate_and_run};
 use zifnora::{Allowances, Answer, Ended, Fault, Record, Refusal, Stop};
 
 const AMPLE: Allowances = Allowances {
@@ -60,6 +60,13 @@ fn ended(sheet: &[u8], readings: &[i32], allowances: Allowances) -> Ended {
     assert_eq!(cells, again);
     assert!(matches!(joined.answer, Answer::Refused(_)) || out == translation);
     joined
+}
+
+fn translated(sheet: &[u8]) -> Vec<u8> {
+    let mut out = vec![0; TRANSLATION_BYTES];
+    let length = translate(sheet, &mut out).expect("accepted");
+    out.truncate(length);
+    out
 }
 
 #[test]
@@ -188,6 +195,52 @@ fn refusals() {
 }
 
 #[test]
+fn rows_in_one_call() {
+    // result = if r0 then f(r1) else r0 / r1; f(a) = a
+    let divided = operator(DIVIDE, reading(0), reading(1));
+    let result = if_else(reading(0), call(1, vec![reading(1)]), divided);
+    let file = translated(&sheet(2, &[], vec![(0, result), (1, parameter(0))]));
+    let readings = [1, -7, 0, 3, 0, 0];
+    let (mut cells, mut in_turn) = (cells_lent(), cells_lent());
+    let ended = run_rows(&file, 3, &readings, AMPLE, &mut cells).expect("not refused");
+    let rows = readings.chunks_exact(2);
+    let single: Vec<Ended> = rows
+        .map(|row| run(&file, row, AMPLE, &mut in_turn))
+        .collect();
+    assert_eq!(ended, single);
+    let answers: Vec<Answer> = ended.iter().map(|ended| ended.answer).collect();
+    let fault = Answer::Fault(Fault::ZeroDivisor);
+    assert_eq!(answers, [Answer::Number(-7), Answer::Number(0), fault]);
+    // The cell of the first row stays.
+    assert_eq!(cells, in_turn);
+    assert_eq!(cells[..5], [0, 0, 0, 0, UNTOUCHED]);
+    assert_eq!(run_rows(&file, 0, &[], AMPLE, &mut cells), Ok(vec![]));
+}
+
+#[test]
+fn refused_rows() {
+    let file = translated(&sheet_pressure());
+    let many = Allowances {
+        cells: 101,
+        ..AMPLE
+    };
+    let refused = |file: &[u8], rows, readings: &[i32], allowances| {
+        let mut cells = cells_lent();
+        let ended = run_rows(file, rows, readings, allowances, &mut cells);
+        assert!(cells.iter().all(|&byte| byte == UNTOUCHED));
+        ended.expect_err("refused").number
+    };
+    let readings = [0; 2 * (MOST_ROWS as usize + 1)];
+    assert_eq!(refused(&[], 1, &[], many), numbers::TRUNCATED);
+    assert_eq!(refused(&file, 2, &[1, 2], many), numbers::BAD_READINGS);
+    assert_eq!(refused(&file, 1, &[1, 2], many), numbers::BAD_ALLOWANCE);
+    let more = refused(&file, MOST_ROWS + 1, &readings, AMPLE);
+    assert_eq!(more, numbers::BAD_ALLOWANCE);
+    let most = run_rows(&file, MOST_ROWS, &readings[2..], AMPLE, &mut cells_lent());
+    assert_eq!(most.map(|ended| ended.len()), Ok(16));
+}
+
+#[test]
 fn a_translation_and_a_short_output() {
     let sheet = sheet_s();
     let mut out = [UNTOUCHED; 100];
@@ -232,8 +285,12 @@ fn the_raw_calls_give_code_and_record() {
         cells: 2,
     };
     assert_eq!(Record::from_bytes(&record), Some(expected));
+    let code = raw::run_rows(&out[..96], 1, &[], AMPLE, &mut cells_lent(), &mut record);
+    assert_eq!((code, record[ANSWER_BYTES]), (20, UNTOUCHED));
     let short = &mut record[..ANSWER_BYTES - 1];
     let code = raw::run(&out[..96], &[], AMPLE, &mut cells_lent(), short);
     let refusal = Refusal::new(numbers::SHORT_OUTPUT, 0);
+    assert_eq!(raw::result(code), Err(refusal));
+    let code = raw::run_rows(&out[..96], 1, &[], AMPLE, &mut cells_lent(), short);
     assert_eq!(raw::result(code), Err(refusal));
 }

@@ -1,5 +1,6 @@
 //! Document 01's "Sheets to try" and document 002's two examples.
 
+mod batch;
 mod refusals;
 
 use super::answer::Answer;

@@ -35,7 +35,7 @@ returns c =
     (file-refused _ _ _ _ _ _ _ _ _ _ _ (read-file .ensures) (verdict .given .1) (c .refused .ensures), refl)
 
 returns-2 : tie.Need-returns-2
-returns-2 c = c .run-table .ensures
+returns-2 c = (c .run-table .ensures .0, c .run-table .ensures .1)
 
 pub run-spec : {M : Type 1} → statement M
 run-spec =

@@ -9,7 +9,7 @@ use Rattle.allowances.proofs.Limits.{fitting}
 use Rattle.run.proofs.Answering.{first-below, end-node, end-in-table, end-made, readings-refused, allowance-refused, run-answered}
 use Rattle.run.proofs.Counting.{first-there, first-visit}
 use Rattle.run.proofs.Packing.{reached-opened}
-use Rattle.run.proofs.ReadingEntries.{nodes-kept, readings-held, equips, readings-room}
+use Rattle.run.proofs.ReadingEntries.{nodes-kept, still-readable, readings-held, equips, readings-room}
 use borrow.Author.Needs.{needs}
 use Rattle.run.proofs.run_table.Statement.{statement}
 use Rattle.run.proofs.run_table.Tie as tie
@@ -39,7 +39,7 @@ returns c =
     let pre = c .before .before .before .before .before .pre in
     let readings = c .before .before .before .readings in
     let wide = c .before .before .wide in
-    (readings-refused _ _ _ _ _ _ _ (pre .accepted) _ _ (readings .ensures) (wide .ensures .0) (c .before .if1 .taken) (c .refused .ensures), refl)
+    (readings-refused _ _ _ _ _ _ _ (pre .accepted) _ _ (readings .ensures) (wide .ensures .0) (c .before .if1 .taken) (c .refused .ensures), refl, pre)
 
 allowed-requires : tie.Need-allowed-requires
 allowed-requires c κs = search needs
@@ -57,6 +57,7 @@ returns-2 c =
       allowance-refused _ _ _ _ _ _ _ (pre .accepted) _ _ (readings .ensures) (wide .ensures .0) _ (if1 .left)
           (allowed .ensures) (not-true _ (c .before .if2 .taken)) (c .refused2 .ensures),
       refl,
+      pre,
     )
 
 set-readings-requires : tie.Need-set-readings-requires
@@ -156,6 +157,7 @@ returns-3 c =
           (record { below = λ i. omega (arith, shared-slice-known .given i) }) (if1 .left) (allowed .ensures) (not-false _ (if2 .left)) (first-body .ensures) reached
           (c .answered .ensures .answer _ (nodes-kept _ _ _ _ pre (set-readings .ensures)) (end-node _ _ _ _ _ _ _ _ _ (pre .accepted) (first-body .ensures) reached)),
       visit .ensures .stays,
+      still-readable pre (set-readings .ensures),
     )
 
 pub run-table-spec : {M : Type 1} → statement M

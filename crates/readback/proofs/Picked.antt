@@ -1,40 +1,17 @@
--- Laws of joined parts: a part among the others, the length of all, and parts that hold one element or none.
+-- Laws of joined parts that hold one element or none: the elements of the numbers that pass a test.
 use mathlib.Core.Path.{_≡_, refl, _∙_}
 use Prim.Native.Nat.{ℕ, zero, suc, _+_, _<_}
-use mathlib.Core.List.{List, [], _∷_, _++_, append-assoc, append-nil}
+use mathlib.Core.List.{List, [], _∷_, _++_, append-nil}
 use mathlib.Core.Option.{some}
 use mathlib.Core.Bool.{Bool, true, false, cond}
 use native.Mathlib.Omega.{arith}
 use native.Mathlib.Nat.{not-suc-le-zero}
 use native.Mathlib.Decide.{ℕ-discrete}
 use lib.ListN.{length, getElem?, length-append}
-use Rattle.definitions.specs.Lists.{joined, sumOf, countOf}
+use Rattle.definitions.specs.Lists.{joined, countOf}
 use Rattle.accepted.proofs.Sums.{SomeBelow}
 use Rattle.accepted.proofs.Counts.{count-reached}
 use Rattle.accepted.proofs.Elements.{element-below, element-front, element-back}
-
--- part i among n parts
-pub record Split {A : Type 0} (n i : ℕ) (part : ℕ → List A) : Type 0 where
-  pub rest : List A
-  pub is : joined n part ≡ joined i part ++ part i ++ rest
-
-module _ {A : Type 0} (part : ℕ → List A) where
-  pub joined-split : (n i : ℕ) → i < n → Split n i part
-  unfolding joined
-  joined-split zero i h = absurd (not-suc-le-zero h)
-  joined-split (suc n) i h =
-      elim (ℕ-discrete i n) [
-        | yes e ↦ record { rest = []; is = rw (e, append-nil) refl }
-        | no e ↦
-            let s = joined-split n i (omega (arith, h, e)) in
-            record { rest = s .rest ++ part n; is = rw (s .is) (append-assoc (joined i part ++ part i) (s .rest) (part n)) }
-      ]
-
-  -- the length of all parts
-  pub joined-length : (n : ℕ) → length (joined n part) ≡ sumOf n (λ i. length (part i))
-  unfolding joined sumOf
-  joined-length zero = refl
-  joined-length (suc n) = length-append (joined n part) (part n) ∙ rw (joined-length n) refl
 
 -- the elements of the numbers that pass a test
 abbrev pub picked : {A : Type 0} → ℕ → (ℕ → Bool) → (ℕ → A) → List A

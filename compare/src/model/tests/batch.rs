@@ -1,0 +1,126 @@
+//! Rows in one call (document 02, request 1): the single runs in turn, and the
+//! refusals in their order.
+
+use super::*;
+use crate::model::answer::RECORD;
+use crate::model::batch::Rows;
+use crate::model::run::run as single_run;
+use crate::model::BatchBehaviour;
+
+const FEW: Allowances = Allowances {
+    steps: 40,
+    nesting: 20,
+    cells: 4,
+};
+
+/// result = down(r0), down(n) = if n < 1 then 8 / n else down(n - 1).
+fn down() -> Vec<u8> {
+    let n = || parameter(0);
+    let next = call(1, vec![operator(SUBTRACT, n(), number(1))]);
+    let ends = operator(LESS, n(), number(1));
+    let body = if_else(ends, operator(DIVIDE, number(8), n()), next);
+    let sheet = Program {
+        readings: 1,
+        arities: vec![],
+        functions: vec![(0, call(1, vec![reading(0)])), (1, body)],
+    };
+    translated(&sheet.encode()).expect("accepted")
+}
+
+/// A batch with so many bytes lent: its answer, the cells and the records.
+fn batch(file: &[u8], rows: Rows, lent: [usize; 2]) -> (Result<usize, Refusal>, [Vec<u8>; 2]) {
+    let [mut cells, mut records] = lent.map(|length| vec![0xEE; length]);
+    let result = Correct.run_rows(file, rows, &mut cells, &mut records);
+    (result, [cells, records])
+}
+
+fn rows(count: u32, readings: &[i32]) -> Rows<'_> {
+    Rows {
+        count,
+        readings,
+        allowances: FEW,
+    }
+}
+
+#[test]
+fn rows_are_run_in_turn() {
+    let readings = [2, -4, 0, 9];
+    let (result, [cells, records]) = batch(&down(), rows(4, &readings), [17, 81]);
+    assert_eq!(result, Ok(80));
+    assert_eq!(records[80], 0xEE);
+    let answers: Vec<_> = records
+        .chunks_exact(RECORD)
+        .map(Answer::from_record)
+        .collect();
+    let expected = [
+        ended(ZERO_DIVISOR, 37, 3),
+        answered(-2, 10, 1),
+        ended(ZERO_DIVISOR, 10, 1),
+        ended(NO_STEP, 40, 4),
+    ];
+    assert_eq!(answers, expected.map(Some));
+    let made = [0, 0, 0, 0, 1, 0, 1, 0, 1, 0, 2, 0, 1, 0, 3, 0];
+    assert_eq!(cells[..16], made);
+    assert_eq!(cells[16], 0xEE);
+}
+
+#[test]
+fn a_row_leaves_the_cells_of_the_row_before() {
+    let (result, [cells, _]) = batch(&down(), rows(2, &[2, -4]), [16, 40]);
+    assert_eq!(result, Ok(40));
+    let made = [0, 0, 0, 0, 1, 0, 1, 0, 1, 0, 2, 0];
+    assert_eq!(cells[..12], made);
+    assert_eq!(cells[12..], [0xEE; 4]);
+    let mut in_turn = vec![0xEE; 16];
+    for reading in [2, -4] {
+        single_run(&Correct, &down(), &[reading], FEW, &mut in_turn);
+    }
+    assert_eq!(cells, in_turn);
+}
+
+#[test]
+fn rows_without_readings() {
+    let file = translated(&sheet_s()).unwrap();
+    let (result, [cells, records]) = batch(&file, rows(16, &[]), [16, 320]);
+    assert_eq!(result, Ok(320));
+    for record in records.chunks_exact(RECORD) {
+        assert_eq!(Answer::from_record(record), Some(answered(10, 13, 2)));
+    }
+    assert_eq!(cells[..9], [0, 0, 0, 0, 1, 0, 0, 0, 0xEE]);
+    assert_eq!(batch(&file, rows(0, &[]), [16, 0]).0, Ok(0));
+}
+
+/// The number of a refused batch, which writes nothing.
+fn refused(file: &[u8], rows: Rows, lent: [usize; 2]) -> u16 {
+    let (result, buffers) = batch(file, rows, lent);
+    let refusal = result.expect_err("refused");
+    assert!(buffers.concat().iter().all(|&byte| byte == 0xEE));
+    assert_eq!(refusal.place, 0);
+    refusal.number
+}
+
+#[test]
+fn refusals_of_batches() {
+    let file = down();
+    let seventeen = [0; 17];
+    // The file, then 9, then 10, then 8, with all that come after it.
+    assert_eq!(refused(&[], rows(17, &[0]), [15, 0]), TRUNCATED);
+    assert_eq!(refused(&file, rows(17, &[0]), [15, 0]), BAD_READINGS);
+    assert_eq!(refused(&file, rows(17, &seventeen), [16, 0]), BAD_ALLOWANCE);
+    assert_eq!(refused(&file, rows(2, &[0, 0]), [15, 0]), BAD_ALLOWANCE);
+    assert_eq!(refused(&file, rows(2, &[0, 0]), [16, 39]), SHORT_OUTPUT);
+    let sixteen = &seventeen[..16];
+    assert_eq!(batch(&file, rows(16, sixteen), [16, 320]).0, Ok(320));
+    // No row is counted to 16, nor on 32 bits.
+    assert_eq!(refused(&file, rows(17, sixteen), [16, 340]), BAD_READINGS);
+    let pair = program(&[], vec![(0, operator(ADD, reading(0), reading(1)))]);
+    let pair = Program {
+        readings: 2,
+        ..pair
+    };
+    let pair = translated(&pair.encode()).unwrap();
+    assert_eq!(refused(&pair, rows(1 << 31, &[]), [16, 0]), BAD_READINGS);
+    // No row is no reason to accept what is refused.
+    assert_eq!(refused(&file, rows(0, &[0]), [16, 0]), BAD_READINGS);
+    assert_eq!(refused(&file, rows(0, &[]), [15, 0]), BAD_ALLOWANCE);
+}

@@ -1,0 +1,42 @@
+-- What request 1 of document 02 says of the rows of a batch, whose records stand one after the other.
+use mathlib.Core.Path.{_≡_}
+use Prim.Native.Nat.{ℕ, suc, _*_, _<_}
+use mathlib.Core.List.{List}
+use mathlib.Core.Bool.{true, _||_}
+use lib.IntN.{ℤ}
+use lib.ListN.{take, drop}
+use Rattle.definitions.specs.Sizes.{answerSize}
+use Rattle.definitions.specs.Numbers.{isAnswer, isStop, isRefusal}
+use Rattle.definitions.specs.Outcomes.{Outcome}
+use Rattle.definitions.specs.Run.{ruleAnswer, ruleCells}
+use Rattle.definitions.specs.AnswerRecord.{answerBytes}
+use Rattle.definitions.specs.RunsInTurn.{rowOf, cellsInTurn}
+use Rattle.definitions.specs.declared.Written.{Written}
+use Rattle.definitions.specs.declared.Written.the-variants.{Length, Refused}
+use Rattle.zifnora_c.specs.Codes.{codeNumber, codeValue}
+use Rattle.zifnora_c.specs.Records.{recorded}
+
+-- what a caller reads of row i
+abbrev pub rowRecorded : List ℕ → ℕ → Outcome
+rowRecorded room′ i = recorded (drop (i * answerSize) room′)
+
+-- every row has the record of an answer or a stop
+pub record AllEnded (rows : ℕ) (room′ : List ℕ) : Type 0 where
+  pub ends : (i : ℕ) → i < rows → (isAnswer (rowRecorded room′ i .outcome) || isStop (rowRecorded room′ i .outcome)) ≡ true
+
+-- a batch ends with the length of all records, or with a numbered refusal, and then the lent buffers are untouched
+pub data RowsMet (rows : ℕ) (r : Written) (room′ : List ℕ) (untouched : Type 0) : Type 0 where
+  runs : r ≡ Length (rows * answerSize) → AllEnded rows room′ → RowsMet rows r room′ untouched
+  refuses : (n p : ℕ) → r ≡ Refused n p → isRefusal n ≡ true → untouched → RowsMet rows r room′ untouched
+
+-- the same for a caller in C
+pub data RowsMetInC (rows code : ℕ) (room′ : List ℕ) (untouched : Type 0) : Type 0 where
+  runs : codeNumber code ≡ 0 → codeValue code ≡ rows * answerSize → AllEnded rows room′ → RowsMetInC rows code room′ untouched
+  refuses : isRefusal (codeNumber code) ≡ true → untouched → RowsMetInC rows code room′ untouched
+
+-- row i is exactly the rule: its record is that of the rule's answer (outcome, value, steps, node, context, cells made), and the cells that it
+-- leaves are the rule's over those that the rows before it left
+pub record RowExact (b : List ℕ) (rs : List ℤ) (steps nesting cellsAllowed : ℕ) (before room′ : List ℕ) (i : ℕ) : Type 0 where
+  pub written : take answerSize (drop (i * answerSize) room′) ≡ answerBytes (ruleAnswer b (rowOf b rs i) steps nesting cellsAllowed)
+  pub cells : cellsInTurn b (rowOf b rs) steps nesting cellsAllowed (suc i) before
+      ≡ ruleCells b (rowOf b rs i) steps nesting cellsAllowed (cellsInTurn b (rowOf b rs) steps nesting cellsAllowed i before)
