@@ -10,9 +10,9 @@
  *
  * Stack: a run takes less than 96 KiB, on one row of readings or on several, the joined call less than 144 KiB, the other calls
  * less than 32 KiB. These bounds are measured, not proved. `bench` measures on files that nest in each way in which visits can
- * nest, to 1,024 open visits, and prints: a run 12,704 bytes, 80 more for each visit that stays open, 94,152 at nesting 1,024;
- * the joined call 57,952 and 135,096; translating 16,672; listing a context 24. Another build of the archive has to be measured
- * again.
+ * nest, to 1,024 open visits, and prints: a run 12,688 bytes, 80 more for each visit that stays open, 90,824 at nesting 1,024;
+ * on several rows 12,736 and 90,872; the joined call 66,416 and 131,736; translating 16,672; listing a context 24. Another build
+ * of the archive has to be measured again.
  */
 #ifndef ZIFNORA_H
 #define ZIFNORA_H
@@ -90,8 +90,8 @@ enum zifnora_outcome {
   ZIFNORA_BAD_TREE = 6,       /* "misgrown": a child, case or pattern rule broken */
   ZIFNORA_BAD_ARGUMENTS = 7,  /* "misfit": argument count wrong, or `result` has parameters */
   ZIFNORA_SHORT_OUTPUT = 8,   /* "short tray": an output does not fit */
-  ZIFNORA_BAD_READINGS = 9,   /* "sensor count": the readings are not as many as the sheet asks for */
-  ZIFNORA_BAD_ALLOWANCE = 10, /* "bad allowance": a ceiling passed, nesting 0, or cells not lent */
+  ZIFNORA_BAD_READINGS = 9,   /* "sensor count": the readings are not as many as the sheet asks for, for each row */
+  ZIFNORA_BAD_ALLOWANCE = 10, /* "bad allowance": a ceiling passed (of rows too), nesting 0, or cells not lent */
   /* Stops: */
   ZIFNORA_NO_STEP = 11,    /* "steps" */
   ZIFNORA_NO_NESTING = 12, /* "nesting" */
