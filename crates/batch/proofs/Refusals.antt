@@ -26,15 +26,15 @@ use Rattle.batch.specs.Rows.{RowsFit, recordsOver, RanRows}
 use Rattle.batch.proofs.InTurn.{records-length}
 
 -- the ceilings
-pub many-rows : (rows : ℕ) (t : Bool) → mostRows < rows → false ≡ (leb rows mostRows && t)
-many-rows rows t h = rw (lt-leb rows mostRows h) refl
+pub many-rows : {rows : ℕ} (t : Bool) → mostRows < rows → false ≡ (leb rows mostRows && t)
+many-rows {rows} t h = rw (lt-leb rows mostRows h) refl
 
-pub few-rows : (rows : ℕ) (r t : Bool) → rows ≤ mostRows → r ≡ t → r ≡ (leb rows mostRows && t)
-few-rows rows r t h e = rw (le-leb rows mostRows h) e
+pub few-rows : {rows : ℕ} {r t : Bool} → rows ≤ mostRows → r ≡ t → r ≡ (leb rows mostRows && t)
+few-rows {rows} h e = rw (le-leb rows mostRows h) e
 
 -- 32 bits times 16 bits are below 64 bits
-pub product-fits : (x y : ℕ) → x ≤ 4294967295 → y ≤ 65535 → x * y < 18446744073709551616
-product-fits x y h k = omega (arith, mul-le-mul h k)
+pub product-fits : {x y : ℕ} → x ≤ 4294967295 → y ≤ 65535 → x * y < 18446744073709551616
+product-fits h k = omega (arith, mul-le-mul h k)
 
 -- the three tests in their order
 pub checked : (b : List ℕ) (rows given nesting cellsAllowed lent room : ℕ) {count width word : ℕ} {t : Bool} {v w u vw r : Verdict}

@@ -89,15 +89,15 @@ batch-met-in-C b rows rs steps nesting cellsAllowed before room code after room�
     (t .answer)
 
 -- a batch that wrote its records was not refused
-pub not-refused-by : (v : Verdict) (n m : ℕ) → Length m ≡ writtenOf v n → v ≡ Accepted
+pub not-refused-by : (v : Verdict) (n : ℕ) {m : ℕ} → Length m ≡ writtenOf v n → v ≡ Accepted
 unfolding writtenOf
-not-refused-by Accepted n m e = refl
-not-refused-by (verdicts.Refused k p) n m e = absurd (refused-length (sym e))
+not-refused-by Accepted n e = refl
+not-refused-by (verdicts.Refused k p) n e = absurd (refused-length (sym e))
 
-pub not-refused-in-C : (v : Verdict) (n c : ℕ) → NumberedIn v → c ≡ codeOf v n → codeNumber c ≡ 0 → v ≡ Accepted
+pub not-refused-in-C : (v : Verdict) (n : ℕ) {c : ℕ} → NumberedIn v → c ≡ codeOf v n → codeNumber c ≡ 0 → v ≡ Accepted
 unfolding codeOf
-not-refused-in-C Accepted n c k e z = refl
-not-refused-in-C (verdicts.Refused m p) n c k e z = absurd (refusal-not-zero m k (sym (number-of-code m p) ∙ rw (← e) z))
+not-refused-in-C Accepted n k e z = refl
+not-refused-in-C (verdicts.Refused m p) n k e z = absurd (refusal-not-zero m k (sym (number-of-code m p) ∙ rw (← e) z))
 
 -- no rows
 module _ (b : List ℕ) (steps nesting cellsAllowed : ℕ) (before room : List ℕ) (accepted : translationVerdict b ≡ Accepted) (fit : allowancesFit nesting cellsAllowed (length before) ≡ true) where

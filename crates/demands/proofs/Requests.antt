@@ -59,14 +59,14 @@ module _ (b : List ℕ) (rows : ℕ) (rs : List ℤ) (steps nesting cellsAllowed
       → ((i : ℕ) → i < rows → Runs b (rowOf b rs i) steps nesting cellsAllowed (cells i) (answers i) (cells (suc i)))
       → (after ≡ cells rows) × (room′ ≡ joined rows (λ i. answerBytes (answerOf (answers i))) ++ drop (rows * answerSize) room)
   request-1-in-turn answers cells first runs =
-      let accepted = not-refused-by _ _ n (batch .answer) in (
+      let accepted = not-refused-by _ _ (batch .answer) in (
         batch .cells ∙ cells-of-runs b rows rs steps nesting cellsAllowed before room answers cells first runs accepted,
         batch .records ∙ records-of-runs b rows rs steps nesting cellsAllowed before room answers cells first runs accepted,
       )
 
   -- demand 2 for rows: each row is exactly the rule
   pub request-1-exact : (i : ℕ) → i < rows → RowExact b rs steps nesting cellsAllowed before room′ i
-  request-1-exact i h = row-exact b rows rs steps nesting cellsAllowed before room (not-refused-by _ _ n (batch .answer)) i h room′ (batch .records)
+  request-1-exact i h = row-exact b rows rs steps nesting cellsAllowed before room (not-refused-by _ _ (batch .answer)) i h room′ (batch .records)
 
 -- demand 3 for rows: anyone who hands the bytes that the translator wrote, unchanged, to a batch that wrote its records
 module _ (sheet out : List ℕ) (n : ℕ) (out′ : List ℕ) (translated : Translates sheet out (Length n) out′)
@@ -76,7 +76,7 @@ module _ (sheet out : List ℕ) (n : ℕ) (out′ : List ℕ) (translated : Tran
   faithful =
       let t = handed sheet out n out′ translated in
       let runs = rw (t .is) at batch in
-      row-faithful sheet (t .accepted) rows rs steps nesting cellsAllowed before room room′ (not-refused-by _ _ m (runs .answer)) (runs .records) i h
+      row-faithful sheet (t .accepted) rows rs steps nesting cellsAllowed before room room′ (not-refused-by _ _ (runs .answer)) (runs .records) i h
 
   -- each row's number, constructor or run fault is the sheet's own on that row's readings; a value is read back where "Readings are signed
   -- 32-bit numbers."
@@ -96,7 +96,7 @@ module _ (sheet out : List ℕ) (code : ℕ) (out′ : List ℕ) (translated : T
   faithful-in-C =
       let t = handed-in-C sheet out code out′ translated not-refused in
       let runs = rw (t .is) at batch in
-      let running = not-refused-in-C _ _ code′ (batch-numbered _ rows rs nesting cellsAllowed (length before) (length room)) (runs .answer) written in
+      let running = not-refused-in-C _ _ (batch-numbered _ rows rs nesting cellsAllowed (length before) (length room)) (runs .answer) written in
       row-faithful sheet (t .accepted) rows rs steps nesting cellsAllowed before room room′ running (runs .records) i h
 
   pub request-1-own-in-C : SignedReadings rs → isAnswer (rowRecorded room′ i .outcome) ≡ true → OwnAnswer sheet (rowOf sheet rs i) (rowRecorded room′ i)

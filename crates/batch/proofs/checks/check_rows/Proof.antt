@@ -24,7 +24,7 @@ wide-requires c κs = search needs
 mul-required : tie.Need-mul-required
 mul-required c =
     let wide32 = c .before .before .wide32 in
-    record { fits = product-fits _ _ (wide32 .ensures .1) (c .wide .ensures .1) }
+    record { fits = product-fits (wide32 .ensures .1) (c .wide .ensures .1) }
 
 required-requires : tie.Need-required-requires
 required-requires c κs = search needs

@@ -8,13 +8,13 @@ use Rattle.batch.proofs.checks.rows_allowed.Lts as lts
 use Rattle.allowances.proofs.allowed.Reads as allowed-reads
 
 returns : tie.Need-returns
-returns c = many-rows _ _ (c .if1 .taken)
+returns c = many-rows _ (c .if1 .taken)
 
 allowed-requires : tie.Need-allowed-requires
 allowed-requires c κs = search needs
 
 returns-2 : tie.Need-returns-2
-returns-2 c = few-rows _ _ _ (c .before .if1 .left) (c .allowed .ensures)
+returns-2 c = few-rows (c .before .if1 .left) (c .allowed .ensures)
 
 pub rows-allowed-spec : {M : Type 1} → statement M
 rows-allowed-spec = tie.close (tie.spec returns allowed-requires returns-2)
