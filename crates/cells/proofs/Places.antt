@@ -45,7 +45,8 @@ cell-by-bytes b {c} {x} r ex h el ep e =
     )
 
 -- a cell added after those made
-pub cell-written : (l : List ℕ) {m r : List ℕ} {made : ℕ} (x y : ℕ) → made < length l / cellSize → m ≡ sets l (cellSize * made) (wordBytes x) → r ≡ sets m (cellSize * made + 2) (wordBytes y)
+pub cell-written : (l : List ℕ) {m r : List ℕ} {made : ℕ} (x y : ℕ) → made < length l / cellSize → m ≡ sets l (cellSize * made) (wordBytes x)
+    → r ≡ sets m (cellSize * made + 2) (wordBytes y)
     → r ≡ cellAdded l made x y
 unfolding cellAdded
 cell-written l {m} {r} {made} x y h e f = rw (lt-ltb made (length l / cellSize) h) (two-words l m r (cellSize * made) x y e f)

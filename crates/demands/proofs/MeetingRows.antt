@@ -100,7 +100,8 @@ not-refused-in-C Accepted n k e z = refl
 not-refused-in-C (verdicts.Refused m p) n k e z = absurd (refusal-not-zero m k (sym (number-of-code m p) ∙ rw (← e) z))
 
 -- no rows
-module _ (b : List ℕ) (steps nesting cellsAllowed : ℕ) (before room : List ℕ) (accepted : translationVerdict b ≡ Accepted) (fit : allowancesFit nesting cellsAllowed (length before) ≡ true) where
+module _ (b : List ℕ) (steps nesting cellsAllowed : ℕ) (before room : List ℕ) (accepted : translationVerdict b ≡ Accepted)
+    (fit : allowancesFit nesting cellsAllowed (length before) ≡ true) where
   none-refused : rowsVerdict b 0 [] nesting cellsAllowed (length before) (length room) ≡ Accepted
   unfolding rowsVerdict rowsChecks _andThen_ require
   none-refused = rw (accepted, zero-mul (readings b), fit, le-leb 0 (length room) (omega arith)) refl

@@ -50,7 +50,8 @@ module _ (b : List ℕ) (rs : List ℤ) (steps nesting cellsAllowed : ℕ) (befo
   unfolding runCells
   cells-kept = kept-by _ refl
 
-turn-kept : (b : List ℕ) (row : ℕ → List ℤ) (steps nesting cellsAllowed : ℕ) (before : List ℕ) (n : ℕ) → length (cellsInTurn b row steps nesting cellsAllowed n before) ≡ length before
+turn-kept : (b : List ℕ) (row : ℕ → List ℤ) (steps nesting cellsAllowed : ℕ) (before : List ℕ) (n : ℕ)
+    → length (cellsInTurn b row steps nesting cellsAllowed n before) ≡ length before
 unfolding cellsInTurn
 turn-kept b row steps nesting cellsAllowed before zero = refl
 turn-kept b row steps nesting cellsAllowed before (suc n) = cells-kept b (row n) steps nesting cellsAllowed _ ∙ turn-kept b row steps nesting cellsAllowed before n

@@ -56,7 +56,8 @@ sheet-refused {v} {n} {p} w e =
       owned = not-both v n p e;
     }
 
-pub sheet-read : {b starts ends owners : List ℕ} {v : Verdict} → Opened Sheet b starts → RunEndTable Sheet b ends → Owners b owners → v ≡ sheetVerdict b → ReadSheet b v starts ends owners
+pub sheet-read : {b starts ends owners : List ℕ} {v : Verdict} → Opened Sheet b starts → RunEndTable Sheet b ends → Owners b owners → v ≡ sheetVerdict b
+    → ReadSheet b v starts ends owners
 sheet-read o r w e = record { verdict = e; index = λ f. o .index; runs = λ f. r; owned = λ f. w }
 
 -- the checks of a sheet whose shape is accepted

@@ -75,8 +75,10 @@ unfolding formals
 formals-read b w e f = f ∙ rw (e, w .entry (functions b) (omega arith)) refl
 
 -- the head
-pub wrote-head : (b : List ℕ) {out : List ℕ} {at : ℕ} {n0 : ℕ} {o0 : List ℕ} {x n1 : ℕ} {o1 : List ℕ} {y n2 : ℕ} {o2 : List ℕ} {z n3 : ℕ} {o3 : List ℕ} {u n4 : ℕ} {o4 : List ℕ}
-    → WroteWords out at (12 ∷ TranslationKinds.head ∷ []) n0 o0 → WroteWords o0 n0 (x ∷ []) n1 o1 → WroteWords o1 n1 (y ∷ []) n2 o2 → WroteWords o2 n2 (z ∷ []) n3 o3 → WroteWords o3 n3 (u ∷ []) n4 o4
+pub wrote-head : (b : List ℕ) {out : List ℕ} {at : ℕ} {n0 : ℕ} {o0 : List ℕ} {x n1 : ℕ} {o1 : List ℕ} {y n2 : ℕ} {o2 : List ℕ}
+    {z n3 : ℕ} {o3 : List ℕ} {u n4 : ℕ} {o4 : List ℕ}
+    → WroteWords out at (12 ∷ TranslationKinds.head ∷ []) n0 o0 → WroteWords o0 n0 (x ∷ []) n1 o1 → WroteWords o1 n1 (y ∷ []) n2 o2
+    → WroteWords o2 n2 (z ∷ []) n3 o3 → WroteWords o3 n3 (u ∷ []) n4 o4
     → x ≡ readings b → y ≡ formals b → z ≡ functions b → u ≡ nodes b → WroteWords out at (headWords b) n4 o4
 unfolding headWords
 wrote-head b s p q r t e f g h =
