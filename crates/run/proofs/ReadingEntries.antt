@@ -36,9 +36,6 @@ setting-begins tab rs e h =
     record { reached = omega arith; narrow = h; room = e; kept = λ k l. refl; set = λ j l. absurd (not-suc-le-zero l) }
 
 module _ (tab : List ℕ) (rs : List ℤ) (tab′ : List ℕ) (i : ℕ) (w : SettingReadings tab rs tab′ i) where
-  pub setting-room : i < length rs → mostNodes + i < tableEntries
-  setting-room h = let n = w .narrow in omega arith
-
   -- the reading i, by its bits
   reading-set : (x : ℕ) (y z : ℤ) → i < length rs → SFits w32 z → y ≡ z → z ≡ getD rs i (pos 0) → x ≡ residue w32 y → x < 4294967296
       → readingIn (set tab′ (mostNodes + i) x) i ≡ getD rs i (pos 0)

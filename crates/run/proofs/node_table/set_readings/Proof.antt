@@ -3,9 +3,10 @@ use mathlib.Core.Path.{refl}
 use Prim.Native.Nat.{_-_}
 use mir.Syntax.{w32}
 use mir.ValLaws.{toZ-ofZ}
+use native.Mathlib.Omega.{arith}
 use lib.ListN.{length}
 use borrow.Author.Needs.{needs}
-use Rattle.run.proofs.ReadingEntries.{SettingReadings, setting-begins, setting-room, setting-goes-on, setting-ends}
+use Rattle.run.proofs.ReadingEntries.{SettingReadings, setting-begins, setting-goes-on, setting-ends}
 use Rattle.run.proofs.node_table.set_readings.Statement.{statement}
 use Rattle.run.proofs.node_table.set_readings.Tie as tie
 use Rattle.run.proofs.node_table.set_readings.Reads as reads
@@ -45,7 +46,7 @@ element-write-tab : tie.Need-element-write-tab Inv-loop μ-loop
 element-write-tab c =
     let loop = c .before .before .before .loop in
     let loop-test = c .before .before .loop-test in
-    setting-room _ _ _ _ (loop .inv) (loop-test .taken)
+    omega (arith, loop .inv .narrow, loop-test .taken)
 
 add-i : tie.Need-add-i Inv-loop μ-loop
 add-i c = search needs
