@@ -102,7 +102,8 @@ enum zifnora_outcome {
   ZIFNORA_NO_CLAUSE = 16,          /* "no clause" */
   ZIFNORA_ZERO_DIVISOR = 17,       /* "zero divisor" */
   ZIFNORA_NO_ACTUAL = 18,          /* "no actual": empty context, or a label beyond the list */
-  ZIFNORA_NO_FIELD = 19            /* "no field": an index beyond the tuple */
+  ZIFNORA_NO_FIELD = 19,           /* "no field": an index beyond the tuple */
+  ZIFNORA_OVERFLOW = 20            /* "overflow": a product outside signed 32 bits */
 };
 
 /* The class of an outcome. Every number above is in one class, any other in none. */
@@ -113,7 +114,7 @@ static inline int zifnora_is_refusal(uint32_t outcome) {
 }
 static inline int zifnora_is_stop(uint32_t outcome) { return outcome >= ZIFNORA_NO_STEP && outcome <= ZIFNORA_NO_CELL; }
 static inline int zifnora_is_fault(uint32_t outcome) {
-  return outcome >= ZIFNORA_NUMBER_WANTED && outcome <= ZIFNORA_NO_FIELD;
+  return outcome >= ZIFNORA_NUMBER_WANTED && outcome <= ZIFNORA_OVERFLOW;
 }
 
 /* What a call returns: bits 32 to 47 are a refusal's number, 0 where nothing is refused; the low 32 bits are a length or a count,

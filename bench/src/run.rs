@@ -174,7 +174,7 @@ fn compute(operator: Operator, left: i32, right: i32) -> Result<i32, u16> {
     Ok(match operator {
         Operator::Add => left.wrapping_add(right),
         Operator::Subtract => left.wrapping_sub(right),
-        Operator::Multiply => left.wrapping_mul(right),
+        Operator::Multiply => left.checked_mul(right).ok_or(numbers::OVERFLOW)?,
         Operator::Divide if right == 0 => return Err(numbers::ZERO_DIVISOR),
         Operator::Divide => left.wrapping_div(right),
         Operator::Less => (left < right) as i32,

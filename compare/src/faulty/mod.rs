@@ -231,10 +231,8 @@ impl Behaviour for Faulty {
     }
 
     fn operate(&self, code: u16, left: i32, right: i32) -> Result<i32, u16> {
-        match running::wrong_result(self.0, code, left, right) {
-            Some(wrong) => Ok(wrong),
-            None => operator::apply(code, left, right),
-        }
+        running::wrong_result(self.0, code, left, right)
+            .unwrap_or_else(|| operator::apply(code, left, right))
     }
 
     fn chosen_clause(&self, clauses: &[(u16, u16)], tag: u16) -> Option<u16> {

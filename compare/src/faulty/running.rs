@@ -7,7 +7,7 @@ use crate::model::answer::Answer;
 use crate::model::run::{bad_allowance, Run, Value};
 use crate::model::translation::Translation;
 use crate::model::Refusal;
-use zifnora::kinds::operators::{ADD, DIVIDE, LESS};
+use zifnora::kinds::operators::{ADD, DIVIDE, LESS, MULTIPLY};
 use zifnora::numbers;
 
 /// 10 in place of 9 where both hold.
@@ -77,15 +77,20 @@ pub fn both_operands(
 }
 
 /// The result of an operator that a fault gives in place of the right one.
-pub fn wrong_result(fault: Fault, code: u16, left: i32, right: i32) -> Option<i32> {
+pub fn wrong_result(fault: Fault, code: u16, left: i32, right: i32) -> Option<Result<i32, u16>> {
     let lowest = left == i32::MIN && right == -1;
+    let product = i64::from(left) * i64::from(right);
     match (fault, code) {
-        (Fault::SaturatingAdd, ADD) => Some(left.saturating_add(right)),
-        (Fault::UnsignedLess, LESS) => Some(((left as u32) < right as u32) as i32),
-        (Fault::LowestByMinusOne, DIVIDE) if lowest => Some(0),
+        (Fault::SaturatingAdd, ADD) => Some(Ok(left.saturating_add(right))),
+        (Fault::SumOverflow, ADD) => Some(left.checked_add(right).ok_or(numbers::OVERFLOW)),
+        (Fault::ProductReduced, MULTIPLY) => Some(Ok(left.wrapping_mul(right))),
+        (Fault::RangeTop, MULTIPLY) if product == 1 << 31 => Some(Ok(i32::MIN)),
+        (Fault::RangeBottom, MULTIPLY) if product == -1 << 31 => Some(Err(numbers::OVERFLOW)),
+        (Fault::UnsignedLess, LESS) => Some(Ok(((left as u32) < right as u32) as i32)),
+        (Fault::LowestByMinusOne, DIVIDE) if lowest => Some(Ok(0)),
         (Fault::DivideDown, DIVIDE) if right != 0 && !lowest => {
             let down = left % right != 0 && (left < 0) != (right < 0);
-            Some(left / right - down as i32)
+            Some(Ok(left / right - down as i32))
         }
         _ => None,
     }

@@ -5,7 +5,7 @@ use super::random::Random;
 use zifnora::build_sheet::{
     build, call, case, if_else, number, operator, parameter, pattern, Expr,
 };
-use zifnora::build_sheet::{ADD, DIVIDE, LESS, SUBTRACT};
+use zifnora::build_sheet::{ADD, DIVIDE, LESS, MULTIPLY, SUBTRACT};
 
 /// Grows the expressions of one function.
 pub struct Grow<'a> {
@@ -22,6 +22,16 @@ pub struct Grow<'a> {
 }
 
 const DEPTH: u32 = 9;
+
+/// Factors with a product at an end of the range, just inside or just
+/// outside.
+const PRODUCTS: [(i32, i32); 5] = [
+    (i32::MAX, 1),
+    (65_536, 32_768),
+    (i32::MIN, -1),
+    (-65_536, 32_768),
+    (715_827_883, -3),
+];
 
 impl<'a> Grow<'a> {
     pub fn new(random: &'a mut Random, plan: &'a Plan, function: usize, left: i32) -> Grow<'a> {
@@ -161,6 +171,10 @@ impl<'a> Grow<'a> {
         if of == 0 {
             if self.random.chance(3) {
                 return operator(DIVIDE, number(i32::MIN), number(-1));
+            }
+            if self.random.chance(3) {
+                let (left, right) = self.random.pick(&PRODUCTS);
+                return operator(MULTIPLY, number(left), number(right));
             }
             let code = self.random.below(6) as u16;
             let left = self.expr(0, depth - 1);

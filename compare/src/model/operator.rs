@@ -1,14 +1,14 @@
 //! Operators on signed 32-bit numbers.
 
 use zifnora::kinds::operators::*;
-use zifnora::numbers::ZERO_DIVISOR;
+use zifnora::numbers::{OVERFLOW, ZERO_DIVISOR};
 
-/// The result, or the fault of a zero divisor.
+/// The result, or the fault of a product out of range or of a zero divisor.
 pub fn apply(code: u16, left: i32, right: i32) -> Result<i32, u16> {
     Ok(match code {
         ADD => left.wrapping_add(right),
         SUBTRACT => left.wrapping_sub(right),
-        MULTIPLY => left.wrapping_mul(right),
+        MULTIPLY => return left.checked_mul(right).ok_or(OVERFLOW),
         DIVIDE => return divide(left, right),
         LESS => (left < right) as i32,
         EQUAL => (left == right) as i32,

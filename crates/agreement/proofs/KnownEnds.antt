@@ -12,7 +12,7 @@ use lib.IntN.{ℤ, pos}
 use lib.ListN.{length, getD, length-append}
 use lib.Dec.{ltb}
 use borrow.Author.Tests.{ltb-true}
-use Rattle.definitions.specs.Numbers.{noCell, noActual, numberWanted, noField, isStop, isFault, isAnswer}
+use Rattle.definitions.specs.Numbers.{noCell, noActual, isStop, isFault, isAnswer}
 use Rattle.definitions.specs.Ranges.{within}
 use Rattle.definitions.specs.Layouts.{bodyOf}
 use Rattle.definitions.specs.Operators.{gives, computed}
@@ -22,7 +22,6 @@ use Rattle.definitions.specs.Rule.{Ending, State, Visit, visited}
 use Rattle.definitions.specs.Cells.{Cell, cellOf, underTail, formalByCells, withCell, whereCell, callByCells, byCells, evaluation}
 use Rattle.definitions.specs.Run.{endingOutcome, ruleEnd}
 use Rattle.definitions.specs.declared.Layout.the-variants.{Translation}
-use Rattle.laws.proofs.Ranges.{within-by}
 use Rattle.laws.proofs.Classes.{fault-answer}
 use Rattle.rule_laws.specs.Keeps.{Keeps, Proper, an-integer, a-constructor, an-end, Kept, Keeping, KeepingHooks}
 use Rattle.rule_laws.proofs.Keeps.{kept-stop, kept-fault, kept-onward, kept-node, visit-keeps}
@@ -35,8 +34,7 @@ stop-known : (n : ℕ) → isStop n ≡ true → Known n
 stop-known n h = rw (h, or-true) refl
 
 fault-known : (n : ℕ) → isFault n ≡ true → Known n
-unfolding isFault
-fault-known n h = let w = within-by numberWanted noField n h in rw (fault-answer n (w .least) (w .greatest)) refl
+fault-known n h = rw (fault-answer n h) refl
 
 -- numbers that a visit stays among
 pub record Closed (b : List ℕ) (rs : List ℤ) : Type 1 where

@@ -2,6 +2,7 @@ pub mod Demand3
 pub mod Runs
 pub mod Allowances
 pub mod Outcomes
+pub mod Overflows
 pub mod Sound
 pub mod Complete
 pub mod Meant

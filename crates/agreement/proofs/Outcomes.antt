@@ -6,7 +6,7 @@ use mathlib.Core.List.{List}
 use mathlib.Core.Bool.{true}
 use native.Mathlib.Omega.{arith}
 use lib.IntN.{ℤ}
-use Rattle.definitions.specs.Numbers.{numberWanted, constructorWanted, noClause, zeroDivisor, noActual, noField, isStop, isAnswer}
+use Rattle.definitions.specs.Numbers.{numberWanted, constructorWanted, noClause, zeroDivisor, noActual, noField, overflow, isStop, isFault, isAnswer}
 use Rattle.definitions.specs.Ranges.{within}
 use Rattle.definitions.specs.Operators.{Computed}
 use Rattle.definitions.specs.SheetNodes.{SheetNode}
@@ -15,6 +15,7 @@ use Rattle.definitions.specs.Checks.{sheetVerdict}
 use Rattle.definitions.specs.Translate.{translation}
 use Rattle.definitions.specs.Rule.{Ending, value, ended, integer, constructor}
 use Rattle.definitions.specs.Run.{endingOutcome}
+use Rattle.laws.proofs.Ranges.{within-both}
 use Rattle.laws.proofs.Classes.{fault-answer}
 use Rattle.agreement.specs.Meaning.{Setting, End, endOf, outcomeOf, OwnAnswer}
 use Rattle.agreement.specs.Meaning
@@ -24,7 +25,7 @@ use Rattle.definitions.specs.declared.Verdict.the-variants.{Accepted}
 use Rattle.readback.proofs.Nodes.{tag-read}
 use Rattle.rule_laws.specs.Reads.{Shows, an-integer, a-constructor, an-end}
 use Rattle.rule_laws.specs.Found.{stopped}
-use Rattle.rule_laws.proofs.Computing.{Result, a-number, no-divisor, computed-result}
+use Rattle.rule_laws.proofs.Computing.{Result, a-number, out-of-range, no-divisor, computed-result}
 use Rattle.agreement.specs.Corresponds.{Agrees, integers, constructors, ends}
 
 -- two endings over cells that are one over labels
@@ -55,10 +56,12 @@ stop-shown t (ended n) = refl
 data OwnEnd : End → Type 0 where
   a-value : {v : Meaning.Value} → OwnEnd (Meaning.value v)
   a-fault : {n : ℕ} → numberWanted ≤ n → n ≤ zeroDivisor → OwnEnd (Meaning.fault n)
+  an-overflow : OwnEnd (Meaning.fault overflow)
 
-own-result : {c : Computed} → Result c → OwnEnd (endOf c)
+own-result : {o : ℕ} {x y : ℤ} {c : Computed} → Result o x y c → OwnEnd (endOf c)
 unfolding endOf
 own-result a-number = a-value
+own-result (out-of-range e h) = an-overflow
 own-result no-divisor = a-fault {n = zeroDivisor} (omega arith) (omega arith)
 
 -- what a node means is such an end
@@ -85,10 +88,11 @@ own-meant (right-fault m m′) = own-meant m′
 
 -- so a sheet's own answer is an answer, and never the fault 18 or 19
 answer-end : (d : End) → OwnEnd d → isAnswer (outcomeOf d .outcome) ≡ true
-unfolding outcomeOf numberOutcome constructorOutcome endOutcome isAnswer
+unfolding outcomeOf numberOutcome constructorOutcome endOutcome isAnswer isFault
 answer-end (Meaning.value (Meaning.integer z)) a-value = refl
 answer-end (Meaning.value (Meaning.built c ns s)) a-value = refl
-answer-end (Meaning.fault n) (a-fault l g) = fault-answer n l (omega arith)
+answer-end (Meaning.fault n) (a-fault l g) = fault-answer n (within-both numberWanted overflow n l (omega arith))
+answer-end (Meaning.fault n) an-overflow = fault-answer overflow (within-both numberWanted overflow overflow (omega arith) (omega arith))
 
 pub own-answer : {b : List ℕ} {rs : List ℤ} {a : Outcome} → OwnAnswer b rs a → isAnswer (a .outcome) ≡ true
 own-answer o = rw (o .agrees) at (answer-end (o .end) (own-meant (o .means)))
@@ -98,6 +102,7 @@ unfolding outcomeOf numberOutcome constructorOutcome endOutcome
 listed-end (Meaning.value (Meaning.integer z)) a-value = (λ e. omega (arith, e), λ e. omega (arith, e))
 listed-end (Meaning.value (Meaning.built c ns s)) a-value = (λ e. omega (arith, e), λ e. omega (arith, e))
 listed-end (Meaning.fault n) (a-fault l g) = (λ e. omega (arith, e), λ e. omega (arith, e))
+listed-end (Meaning.fault n) an-overflow = (λ e. omega (arith, e), λ e. omega (arith, e))
 
 pub own-listed : {b : List ℕ} {rs : List ℤ} {a : Outcome} → OwnAnswer b rs a
     → (a .outcome ≡ noActual → ⊥) × (a .outcome ≡ noField → ⊥)

@@ -1,4 +1,5 @@
 pub mod Meaning
+pub mod Overflows
 pub mod Answers
 pub mod Contexts
 pub mod Corresponds

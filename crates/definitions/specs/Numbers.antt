@@ -1,5 +1,5 @@
--- The numbers of document 01's table "What the repeater reports", each with the paper's word, the two outcomes that are
--- values, and the classes of these numbers.
+-- The numbers of document 01's table "What the repeater reports" and those that document 02 adds, each with the paper's word, the two
+-- outcomes that are values, and the classes of these numbers.
 use Prim.Native.Nat.{ℕ}
 use mathlib.Core.Bool.{Bool, _||_}
 use lib.Dec.{eqb}
@@ -81,6 +81,10 @@ noActual = 18
 abbrev pub noField : ℕ
 noField = 19
 
+-- "overflow" (document 02, request 2)
+abbrev pub overflow : ℕ
+overflow = 20
+
 -- the outcome of a number
 abbrev pub isNumber : ℕ
 isNumber = 0
@@ -97,9 +101,9 @@ isRefusal n = within truncated badAllowance n
 unfoldable pub isStop : ℕ → Bool
 isStop n = within noStep noCell n
 
--- whether it is a run fault's: "Run faults are 14 to 19"
+-- whether it is a run fault's: "Run faults are 14 to 19"; "20 (overflow), a run fault"
 unfoldable pub isFault : ℕ → Bool
-isFault n = within numberWanted noField n
+isFault n = within numberWanted overflow n
 
 -- whether it is a number's, a constructor's or a run fault's, as demand 3 speaks of an answer
 unfoldable pub isAnswer : ℕ → Bool

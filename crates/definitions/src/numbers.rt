@@ -1,5 +1,5 @@
-// The numbers of document 01's table "What the repeater reports", with the paper's word for each, and the outcomes that are
-// values. `specs/Numbers.antt` has the same numbers and their classes.
+// The numbers of document 01's table "What the repeater reports" and those that document 02 adds, with the paper's word for each, and
+// the outcomes that are values. `specs/Numbers.antt` has the same numbers and their classes.
 ghost use mathlib.Core.Path.{_≡_};
 ghost use Rattle.definitions.specs.Numbers.{isRefusal};
 
@@ -59,6 +59,9 @@ pub const NO_ACTUAL: u16 = 18;
 
 // "no field"
 pub const NO_FIELD: u16 = 19;
+
+// "overflow"
+pub const OVERFLOW: u16 = 20;
 
 // The outcome of a number, and of a constructor.
 pub const NUMBER: u16 = 0;

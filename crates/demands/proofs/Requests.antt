@@ -1,16 +1,22 @@
 -- The requests of document 02, each in its words, over what the public calls promise: `RunsRows` of `batch::run_rows`, `Translates` of
--- `translator::translate`, `Runs` of `run::run`, and for callers in C `RunsRowsC` and `TranslatesC`.
-use mathlib.Core.Path.{_≡_, _∙_}
+-- `translator::translate`, `Runs` of `run::run`, and for callers in C `RunsRowsC`, `TranslatesC` and `RunsC`.
+use mathlib.Core.Path.{_≡_, refl, ap, _∙_}
+use mathlib.Core.Logic.{_↔_}
 use Prim.Native.Nat.{ℕ, suc, _*_, _<_}
 use mathlib.Core.List.{List, [], _++_}
-use mathlib.Core.Bool.{true}
-use lib.IntN.{ℤ}
+use mathlib.Core.Bool.{true, false}
+use lib.IntN.{ℤ, _+ℤ_, _-ℤ_, _*ℤ_}
 use lib.ListN.{length, take, drop}
+use mir.Syntax.{w32}
 use Rattle.definitions.specs.Sizes.{answerSize}
-use Rattle.definitions.specs.Numbers.{isAnswer, isStop}
+use Rattle.definitions.specs.Numbers.{overflow, isFault, isAnswer, isStop}
+use Rattle.definitions.specs.Ranges.{within}
+use Rattle.definitions.specs.Layouts.{readings}
+use Rattle.definitions.specs.OperatorCodes.{add, subtract, multiply}
+use Rattle.definitions.specs.Operators.{gives, faults, reduced, inSignedRange, product, computed}
 use Rattle.definitions.specs.Lists.{joined}
 use Rattle.definitions.specs.Checks.{translationVerdict}
-use Rattle.definitions.specs.Outcomes.{Outcome}
+use Rattle.definitions.specs.Outcomes.{Outcome, endOutcome}
 use Rattle.definitions.specs.Run.{allowancesFit}
 use Rattle.definitions.specs.AnswerRecord.{answerBytes}
 use Rattle.definitions.specs.RunsInTurn.{rowOf}
@@ -18,13 +24,18 @@ use Rattle.definitions.specs.declared.Verdict.the-variants.{Accepted}
 use Rattle.definitions.specs.declared.Written.{Written}
 use Rattle.definitions.specs.declared.Written.the-variants.{Length}
 use Rattle.agreement.specs.Meaning.{OwnAnswer}
+use Rattle.agreement.specs.Overflows.{SheetOverflows}
+use Rattle.agreement.specs.Answers.{RuleGives, answerOutcome}
+use Rattle.agreement.proofs.Overflows.{computed-overflow, own-overflows, overflow-own}
+use Rattle.evaluator.proofs.Own.{own-unique}
 use Rattle.translator.specs.Promise.{Translates}
 use Rattle.answer.specs.declared.Answer.{Answer}
 use Rattle.answer.specs.Answers.{answerOf}
 use Rattle.run.specs.Promise.{Runs}
 use Rattle.batch.specs.Promise.{RunsRows}
 use Rattle.zifnora_c.specs.Codes.{codeNumber, codeValue}
-use Rattle.zifnora_c.specs.Promise.{TranslatesC, RunsRowsC}
+use Rattle.zifnora_c.specs.Records.{recorded}
+use Rattle.zifnora_c.specs.Promise.{TranslatesC, RunsC, RunsRowsC}
 use Rattle.demands.specs.InC.{SignedReadings}
 use Rattle.demands.specs.Rows.{rowRecorded, RowsMet, RowsMetInC, RowExact}
 use Rattle.demands.proofs.Refusals.{batch-numbered}
@@ -34,6 +45,7 @@ use Rattle.demands.proofs.RunningRows.{row-exact}
 use Rattle.demands.proofs.MeetingRows.{batch-met, batch-met-in-C, no-rows, not-refused-by, not-refused-in-C}
 use Rattle.demands.proofs.OwnRows.{FaithfulRow, row-faithful}
 use Rattle.demands.proofs.SingleRuns.{cells-of-runs, records-of-runs}
+use Rattle.demands.proofs.Demands.{demand-3-own, demand-3-exactly, demand-3-own-in-C}
 
 -- Request 1. "One call shall take 0 to 16 reading rows, each of I readings, one set of allowances, and write one answer record per row."
 -- "A refused batch runs no row." Demand 1 for rows; the numbers, their order and their place are `rowsVerdict`
@@ -104,3 +116,54 @@ module _ (sheet out : List ℕ) (code : ℕ) (out′ : List ℕ) (translated : T
 
   pub request-1-none-in-C : ((a : Outcome) → ¬ OwnAnswer sheet (rowOf sheet rs i) a) → isStop (rowRecorded room′ i .outcome) ≡ true
   request-1-none-in-C = faithful-in-C .none
+
+-- Request 2. "Multiplication whose exact product is outside signed 32 bits shall end the run." What the operators give, as
+-- `operators::compute` promises it: 20 for such a product, and for nothing else
+pub request-2-overflow : (code : ℕ) (x y : ℤ) → (computed code x y ≡ faults overflow) ↔ ((code ≡ multiply) × (inSignedRange w32 (x *ℤ y) ≡ false))
+request-2-overflow = computed-overflow
+
+-- any other product is exact
+pub request-2-product : (x y : ℤ) → inSignedRange w32 (x *ℤ y) ≡ true → computed multiply x y ≡ gives (x *ℤ y)
+unfolding computed product
+request-2-product x y h = rw h refl
+
+-- "Add and subtract still reduce, since dealers subtract running counters."
+pub request-2-reduce : (x y : ℤ) → (computed add x y ≡ gives (reduced w32 (x +ℤ y))) × (computed subtract x y ≡ gives (reduced w32 (x -ℤ y)))
+unfolding computed
+request-2-reduce x y = (refl, refl)
+
+-- "The sheet's own meaning gains the same fault": the sheet's own answer is 20 exactly where working it out by call by name works out a
+-- multiplication of such numbers; "20 (overflow), a run fault, found once both operands are numbers"
+pub request-2-own : (sheet : List ℕ) (rs : List ℤ) → OwnAnswer sheet rs (endOutcome overflow) ↔ SheetOverflows sheet rs
+unfolding endOutcome
+request-2-own sheet rs = (λ o. own-overflows o refl, overflow-own)
+
+-- "so a translated sheet must agree there too": what demand 3 says is the sheet's own, of any call, is 20 exactly there
+pub request-2-answer : (sheet : List ℕ) (rs : List ℤ) (a : Outcome) → OwnAnswer sheet rs a → (a .outcome ≡ overflow) ↔ SheetOverflows sheet rs
+unfolding endOutcome
+request-2-answer sheet rs a o = (own-overflows o, λ s. ap (λ (u : Outcome). u .outcome) (own-unique o (overflow-own s)))
+
+-- anyone who hands the bytes that the translator wrote, unchanged, to the run: an answer is 20 exactly there, and the rule without
+-- ceilings gives 20 at some allowances exactly there
+module _ (sheet out : List ℕ) (n : ℕ) (out′ : List ℕ) (translated : Translates sheet out (Length n) out′) (rs : List ℤ) (asked : length rs ≡ readings sheet) where
+  pub request-2-run : (steps nesting cellsAllowed : ℕ) (before : List ℕ) (r : Answer) (after : List ℕ) → Runs (take n out′) rs steps nesting cellsAllowed before r after
+      → isAnswer (answerOf r .outcome) ≡ true → (answerOf r .outcome ≡ overflow) ↔ SheetOverflows sheet rs
+  unfolding answerOutcome
+  request-2-run steps nesting cellsAllowed before r after run h =
+      request-2-answer sheet rs _ (demand-3-own sheet out n out′ translated rs asked steps nesting cellsAllowed before r after run h)
+
+  pub request-2-rule : RuleGives (take n out′) rs (endOutcome overflow) ↔ SheetOverflows sheet rs
+  unfolding isAnswer isFault within endOutcome
+  request-2-rule =
+      let exactly = demand-3-exactly sheet out n out′ translated rs asked (endOutcome overflow) in
+      (λ g. request-2-own sheet rs .0 (exactly .0 (g, refl)), λ s. exactly .1 (request-2-own sheet rs .1 s) .0)
+
+-- and for a caller in C, who reads the record
+module _ (sheet out : List ℕ) (code : ℕ) (out′ : List ℕ) (translated : TranslatesC sheet out code out′) (not-refused : codeNumber code ≡ 0)
+    (rs : List ℤ) (signed : SignedReadings rs) where
+  pub request-2-run-in-C : (steps nesting cellsAllowed : ℕ) (before room : List ℕ) (code′ : ℕ) (after room′ : List ℕ)
+      → RunsC (take (codeValue code) out′) rs steps nesting cellsAllowed before room code′ after room′ → code′ ≡ 0
+      → isAnswer (recorded room′ .outcome) ≡ true → (recorded room′ .outcome ≡ overflow) ↔ SheetOverflows sheet rs
+  request-2-run-in-C steps nesting cellsAllowed before room code′ after room′ run recording h =
+      request-2-answer sheet rs _
+      (demand-3-own-in-C sheet out code out′ translated not-refused rs steps nesting cellsAllowed before room code′ after room′ run recording signed h)

@@ -1,11 +1,11 @@
--- The value of an answer is a signed 32-bit number where the readings are: literals are read as such, operators reduce into the range, and a
--- tag has 16 bits.
-use mathlib.Core.Path.{_≡_, sym, subst, _∙_}
+-- The value of an answer is a signed 32-bit number where the readings are: literals are read as such, operators reduce into the range or
+-- fault outside it, and a tag has 16 bits.
+use mathlib.Core.Path.{_≡_, refl, sym, subst, _∙_}
 use Prim.Native.Nat.{ℕ, _+_, _*_, _<_}
 use mathlib.Core.List.{List}
 use mathlib.Core.Bool.{Bool, true, false, cond, true≢false}
 use native.Mathlib.Omega.{arith}
-use lib.IntN.{ℤ, pos}
+use lib.IntN.{ℤ, pos, _*ℤ_}
 use lib.Signed.{ltZ}
 use lib.Dec.{eqb}
 use mir.Syntax.{w32}
@@ -14,9 +14,9 @@ use Rattle.definitions.specs.OperatorCodes
 use Rattle.definitions.specs.Bytes.{word32, signed}
 use Rattle.definitions.specs.Records.{recordOf, startOf}
 use Rattle.definitions.specs.Layouts.{nodeRecord, firstNode}
-use Rattle.definitions.specs.Operators.{Computed, gives, faults, residue, reduced, isZero, equal, truth, quotient, computed}
+use Rattle.definitions.specs.Operators.{Computed, gives, faults, residue, reduced, inSignedRange, isZero, equal, truth, product, quotient, computed}
 use Rattle.definitions.specs.TranslationNodes.{TranslationNode, number, reading, formal, select, operator, conditional, call, tuple, caseOf, translationNode, translationNodeOf, tagOf}
-use Rattle.definitions.specs.Numbers.{isAnswer}
+use Rattle.definitions.specs.Numbers.{overflow, isAnswer}
 use Rattle.definitions.specs.Run.{reachedAnswer, refusal, answerAfter, ruleAnswer}
 use Rattle.definitions.specs.declared.Verdict.{Verdict}
 use Rattle.definitions.specs.declared.Verdict.the-variants.{Accepted, Refused}
@@ -24,6 +24,7 @@ use Rattle.laws.proofs.Classes.{refusal-no-answer}
 use Rattle.laws.proofs.ByteFiles.{Bytes, record-below, word-below}
 use Rattle.laws.proofs.NodeKinds.{of-its-kind}
 use Rattle.operators.proofs.Residues.{read-held}
+use Rattle.operators.proofs.Products.{range-fits}
 use Rattle.agreement.proofs.KnownEnds.{Closed, rule-value}
 use Rattle.demands.specs.InC.{SignedReadings}
 use Rattle.demands.proofs.Refusals.{NumberedIn}
@@ -80,12 +81,16 @@ unfolding truth
 truth-fits true = a-number (word-fits 1 (omega arith))
 truth-fits false = a-number zero-fits
 
+product-fits : (z : ℤ) (t : Bool) → inSignedRange w32 z ≡ t → ComputedFits (cond t (gives z) (faults overflow))
+product-fits z true e = a-number (range-fits w32 z e)
+product-fits z false e = a-fault
+
 computed-fits : (o : ℕ) (x y : ℤ) → ComputedFits (computed o x y)
-unfolding computed quotient
+unfolding computed product quotient
 computed-fits o x y =
     either (eqb o OperatorCodes.add) (reduced-fits _)
     (either (eqb o OperatorCodes.subtract) (reduced-fits _)
-    (either (eqb o OperatorCodes.multiply) (reduced-fits _)
+    (either (eqb o OperatorCodes.multiply) (product-fits (x *ℤ y) (inSignedRange w32 (x *ℤ y)) refl)
     (either (eqb o OperatorCodes.divide) (either (isZero y) a-fault (reduced-fits _))
     (either (eqb o OperatorCodes.less) (truth-fits (ltZ x y))
     (either (eqb o OperatorCodes.equal) (truth-fits (equal x y)) (a-number zero-fits))))))

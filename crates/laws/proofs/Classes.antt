@@ -1,18 +1,18 @@
 -- The classes of the table's numbers: a stop and a refusal are no answer, and a number that is none of the values is its class.
 use mathlib.Core.Path.{_≡_, refl, sym, _∙_}
 use Prim.Native.Nat.{ℕ, _≤_}
-use mathlib.Core.Bool.{Bool, true, false, _||_, true≢false}
+use mathlib.Core.Bool.{Bool, true, false, _||_, or-true, true≢false}
 use lib.Dec.{eqb}
 use native.Mathlib.Omega.{arith}
 use borrow.Author.Tests.{ne-eqb, eqb-true}
-use Rattle.definitions.specs.Numbers.{truncated, badAllowance, noStep, noCell, numberWanted, noField, isNumber, isConstructor, isRefusal, isStop, isFault, isAnswer}
-use Rattle.laws.proofs.Ranges.{within-both, within-below, within-by}
+use Rattle.definitions.specs.Numbers.{truncated, badAllowance, noStep, noCell, numberWanted, overflow, isNumber, isConstructor, isRefusal, isStop, isFault, isAnswer}
+use Rattle.laws.proofs.Ranges.{within-below, within-by}
 
 -- a number between the values and the run faults is no answer
 below-faults : (n : ℕ) → truncated ≤ n → n ≤ noCell → isAnswer n ≡ false
 unfolding isAnswer isFault
 below-faults n h k =
-    rw (ne-eqb n isNumber (λ e. omega arith), ne-eqb n isConstructor (λ e. omega arith), within-below numberWanted noField n (omega arith)) refl
+    rw (ne-eqb n isNumber (λ e. omega arith), ne-eqb n isConstructor (λ e. omega arith), within-below numberWanted overflow n (omega arith)) refl
 
 pub stop-no-answer : (n : ℕ) → isStop n ≡ true → isAnswer n ≡ false
 unfolding isStop
@@ -30,17 +30,16 @@ answer-no-stop n h = from (isStop n) refl
     from false e = refl
 
 -- a run fault is an answer
-pub fault-answer : (n : ℕ) → numberWanted ≤ n → n ≤ noField → isAnswer n ≡ true
-unfolding isAnswer isFault
-fault-answer n h k =
-    rw (ne-eqb n isNumber (λ e. omega arith), ne-eqb n isConstructor (λ e. omega arith), within-both numberWanted noField n h k) refl
+pub fault-answer : (n : ℕ) → isFault n ≡ true → isAnswer n ≡ true
+unfolding isAnswer
+fault-answer n h = rw (h, or-true) refl
 
 -- the greatest number that an answer, a stop or a refusal has is a constructor's
 answer-by : (n : ℕ) (x y z : Bool) → eqb n isNumber ≡ x → eqb n isConstructor ≡ y → isFault n ≡ z → (x || y || z) ≡ true → n ≤ isConstructor
 unfolding isFault
 answer-by n true y z e f g h = omega (arith, eqb-true n isNumber e)
 answer-by n false true z e f g h = omega (arith, eqb-true n isConstructor f)
-answer-by n false false true e f g h = omega (arith, within-by numberWanted noField n g .greatest)
+answer-by n false false true e f g h = omega (arith, within-by numberWanted overflow n g .greatest)
 answer-by n false false false e f g h = absurd (true≢false (sym h))
 
 pub answer-limit : (n : ℕ) → isAnswer n ≡ true → n ≤ isConstructor

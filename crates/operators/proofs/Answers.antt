@@ -3,7 +3,7 @@ use mathlib.Core.Path.{_≡_, refl, sym, ap, _∙_}
 use Prim.Native.Nat.{ℕ, suc, _-_, _^_, _≤_, _<_}
 use mathlib.Core.Bool.{Bool, true, false, not, _&&_}
 use native.Mathlib.Omega.{arith}
-use lib.IntN.{ℤ, pos, negsuc, _+ℤ_, _-ℤ_, _*ℤ_}
+use lib.IntN.{ℤ, pos, negsuc, _+ℤ_, _-ℤ_}
 use lib.Signed.{mag, ltZ}
 use lib.Dec.{ltb}
 use borrow.Author.Tests.{ne-eqb, le-ltb, lt-ltb, ltb-false}
@@ -11,7 +11,7 @@ use mir.Syntax.{Width, w32}
 use mir.Val.{bits, hbits, toZ, ofZ, SFits}
 use mir.ValLaws.{toZ-ofZ}
 use Rattle.definitions.specs.OperatorCodes
-use Rattle.definitions.specs.Operators.{gives, reduced, quotient, truth, equal, computed}
+use Rattle.definitions.specs.Operators.{gives, reduced, product, quotient, truth, equal, computed}
 
 -- numbers as they are read back
 module _ (w : Width) (x y : ℤ) (f : SFits w x) (g : SFits w y) where
@@ -74,7 +74,7 @@ module _ (code : ℕ) (x y : ℤ) where
   unfolding computed
   code-subtract e = rw e refl
 
-  pub code-multiply : code ≡ OperatorCodes.multiply → gives (reduced w32 (x *ℤ y)) ≡ computed code x y
+  pub code-multiply : code ≡ OperatorCodes.multiply → product w32 x y ≡ computed code x y
   unfolding computed
   code-multiply e = rw e refl
 

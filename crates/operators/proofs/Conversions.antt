@@ -1,18 +1,18 @@
 -- How numbers and their bits go through 64 bits, and how an operator on the bits gives the number.
 use mathlib.Core.Path.{_≡_, refl, sym, ap, _∙_, subst}
-use Prim.Native.Nat.{ℕ, suc, _+_, _-_, _*_, _%_, _^_, _≤_, _<_}
+use Prim.Native.Nat.{ℕ, suc, _+_, _-_, _%_, _^_, _≤_, _<_}
 use mathlib.Core.Bool.{Bool, true, false}
 use native.Mathlib.Omega.{arith}
-use native.Mathlib.Nat.{mod-eq-of-lt, mul-le-mul}
-use lib.IntN.{ℤ, pos, negsuc, natAbs, _+ℤ_, _-ℤ_, _*ℤ_}
+use native.Mathlib.Nat.{mod-eq-of-lt}
+use lib.IntN.{ℤ, pos, negsuc, natAbs, _+ℤ_, _-ℤ_}
 use lib.Signed.{ltZ, nonNeg}
 use lib.Dec.{T}
 use borrow.Author.Tests.{le-ltb, lt-ltb, ltb-true}
 use mir.Syntax.{Width, w32, w64}
-use mir.Val.{bits, toZ, ofZ, Fits, SFits}
+use mir.Val.{bits, hbits, toZ, ofZ, Fits, SFits}
 use mir.ValLaws.{toZ-ofZ, toZ-fits}
 use Rattle.definitions.specs.Operators.{residue, reduced}
-use Rattle.operators.proofs.Residues.{residue-below, residue-sum, residue-product, residue-difference}
+use Rattle.operators.proofs.Residues.{residue-below, residue-sum, residue-difference}
 
 -- a number from 2 ^ 31 on, read as signed 32 bits, is 2 ^ 32 less; the 64-bit difference that says so, and its range
 wide-difference : (n : ℕ) → n < 4294967296 → toZ w64 n -ℤ pos 4294967296 ≡ negsuc (4294967296 - suc n)
@@ -27,12 +27,13 @@ high-fits n h k = rw (wide-difference n k) (record { sfits = omega arith })
 pub wide-fits : (n : ℕ) → n < 4294967296 → SFits w64 (toZ w64 n -ℤ pos 4294967296)
 wide-fits n k = rw (wide-difference n k) (record { sfits = omega arith })
 
--- a number of 32 bits is one of 64
-pub widened : (x : ℤ) → SFits w32 x → SFits w64 (toZ w32 (ofZ w32 x))
-widened x f = rw (toZ-ofZ w32 x f) (record { sfits = let h = f .sfits in omega arith })
+-- a number of a width is one of a wider width
+module _ (w v : Width) (wide : 2 ^ hbits w ≤ 2 ^ hbits v) (x : ℤ) (f : SFits w x) where
+  pub widened : SFits v (toZ w (ofZ w x))
+  widened = rw (toZ-ofZ w x f) (record { sfits = let h = f .sfits in omega arith })
 
-wide-back : (x : ℤ) → SFits w32 x → toZ w64 (ofZ w64 (toZ w32 (ofZ w32 x))) ≡ x
-wide-back x f = toZ-ofZ w64 (toZ w32 (ofZ w32 x)) (widened x f) ∙ toZ-ofZ w32 x f
+  pub wide-back : toZ v (ofZ v (toZ w (ofZ w x))) ≡ x
+  wide-back = toZ-ofZ v (toZ w (ofZ w x)) widened ∙ toZ-ofZ w x f
 
 -- 2 ^ 32 above a negative number are its bits
 negative-bits : (x : ℤ) → SFits w32 x → ltZ x (pos 0) ≡ true → x +ℤ pos 4294967296 ≡ pos (residue w32 x)
@@ -62,10 +63,10 @@ module _ (x : ℤ) (f : SFits w32 x) where
 
   -- the sum in 64 bits of a negative number and 2 ^ 32
   wide-sum : ltZ (toZ w32 (ofZ w32 x)) (pos 0) ≡ true → toZ w64 (ofZ w64 (toZ w32 (ofZ w32 x))) +ℤ pos 4294967296 ≡ pos (residue w32 x)
-  wide-sum e = ap (λ (z : ℤ). z +ℤ pos 4294967296) (wide-back x f) ∙ negative-bits x f (low-test e)
+  wide-sum e = ap (λ (z : ℤ). z +ℤ pos 4294967296) (wide-back w32 w64 (omega arith) x f) ∙ negative-bits x f (low-test e)
 
   pub sum-fits : (n : ℕ) → 2147483648 ≤ n → n ≤ 8589934592 → SFits w64 (toZ w64 (ofZ w64 (toZ w32 (ofZ w32 x))) +ℤ pos n)
-  sum-fits n h k = subst (λ (z : ℤ). SFits w64 (z +ℤ pos n)) (sym (wide-back x f)) (sum-narrow x n f h k)
+  sum-fits n h k = subst (λ (z : ℤ). SFits w64 (z +ℤ pos n)) (sym (wide-back w32 w64 (omega arith) x f)) (sum-narrow x n f h k)
 
   pub sum-bits : ltZ (toZ w32 (ofZ w32 x)) (pos 0) ≡ true
       → toZ w64 (ofZ w64 (toZ w64 (ofZ w64 (toZ w32 (ofZ w32 x))) +ℤ pos 4294967296)) ≡ pos (residue w32 x)
@@ -90,14 +91,6 @@ high-number n h k =
     ∙ wide-difference n k
     ∙ high-signed n h
 
--- a product of 32-bit numbers has 64 bits
-pub product-fits : (a b : ℕ) → a < 4294967296 → b < 4294967296 → Fits w64 (a * b)
-product-fits a b h k =
-    let p : a ≤ 4294967295 = omega arith in
-    let q : b ≤ 4294967295 = omega arith in
-    let m : a * b ≤ 4294967295 * 4294967295 = mul-le-mul p q in
-    record { fits = omega arith }
-
 -- the operators on bits, at every width: what a number's bits were is read back, and the result's bits are the number's
 module _ (w : Width) where
   bits-read : (x : ℤ) (a : ℕ) → SFits w x → a ≡ residue w (toZ w (ofZ w x)) → a ≡ residue w x
@@ -116,12 +109,6 @@ module _ (w : Width) where
         number-read (x +ℤ y) r n
         (e ∙ ap (λ (v : ℕ). (v + b) % 2 ^ bits w) (bits-read x a f ea) ∙ ap (λ (v : ℕ). (residue w x + v) % 2 ^ bits w) (bits-read y b g eb)
         ∙ residue-sum w x y)
-
-    pub product-number : n ≡ a * b % 2 ^ bits w → r ≡ toZ w n → toZ w (ofZ w r) ≡ reduced w (x *ℤ y)
-    product-number e =
-        number-read (x *ℤ y) r n
-        (e ∙ ap (λ (v : ℕ). v * b % 2 ^ bits w) (bits-read x a f ea) ∙ ap (λ (v : ℕ). residue w x * v % 2 ^ bits w) (bits-read y b g eb)
-        ∙ residue-product w x y)
 
     pub difference-number : n < 2 ^ bits w → (n + b) % 2 ^ bits w ≡ a → r ≡ toZ w n → toZ w (ofZ w r) ≡ reduced w (x -ℤ y)
     difference-number h e =

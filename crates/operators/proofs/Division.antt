@@ -16,7 +16,7 @@ use Rattle.definitions.specs.Operators.{gives, faults, residue, reduced, isZero
 use Rattle.operators.proofs.Residues.{reduced-held}
 
 -- the size of a number that is negated
-negated-size : (r a : ℕ) → r ≤ suc a → mag (negℤ (pos r)) ≤ a
+pub negated-size : (r a : ℕ) → r ≤ suc a → mag (negℤ (pos r)) ≤ a
 negated-size zero a h = omega arith
 negated-size (suc r) a h = omega arith
 

@@ -2,3 +2,4 @@ pub mod Residues
 pub mod Conversions
 pub mod Division
 pub mod Answers
+pub mod Products

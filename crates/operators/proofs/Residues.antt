@@ -1,13 +1,13 @@
--- Remainders modulo 2 ^ w: how they go through sums, differences and products, at every width.
+-- Remainders modulo 2 ^ w: how they go through sums and differences, at every width.
 use mathlib.Core.Path.{_≡_, refl, sym, ap, _∙_}
-use Prim.Native.Nat.{ℕ, zero, suc, _+_, _-_, _*_, _/_, _%_, _^_, _≤_, _<_}
+use Prim.Native.Nat.{ℕ, suc, _+_, _-_, _%_, _^_, _≤_, _<_}
 use mathlib.Core.Bool.{Bool, true, false, cond}
 use native.Mathlib.Omega.{arith}
-use native.Mathlib.Nat.{mod-lt, mod-mod, mod-eq-of-lt, mod-self, zero-mod, add-mod, add-mul-mod-self-right, mod-add-div'}
-use native.Mathlib.Nat.{add-assoc, add-comm, add-zero, zero-add, mul-comm, mul-add, add-mul, mul-zero, zero-mul, mul-right-comm}
+use native.Mathlib.Nat.{mod-lt, mod-mod, mod-eq-of-lt, mod-self, zero-mod, add-mod}
+use native.Mathlib.Nat.{add-assoc, add-comm, add-zero}
 use native.Mathlib.Numerals.{add-one}
 use lib.Pow.{pow-pos}
-use lib.IntN.{ℤ, pos, negsuc, negℤ, subℕ, _+ℤ_, _-ℤ_, _*ℤ_, -ℤ-+ℤ-cancel}
+use lib.IntN.{ℤ, pos, negsuc, subℕ, _+ℤ_, _-ℤ_, -ℤ-+ℤ-cancel}
 use lib.Dec.{ltb}
 use borrow.Author.Tests.{ltb-true, ltb-false}
 use mir.Syntax.{Width}
@@ -26,7 +26,7 @@ module _ {m a b : ℕ} where
   then : {c : ℕ} → Congruent m a b → Congruent m b c → Congruent m a c
   then p q = record { same = p .same ∙ q .same }
 
-  -- sums and products of numbers with the same remainders have the same remainder
+  -- sums of numbers with the same remainders have the same remainder
   plus : {c d : ℕ} → Congruent m a b → Congruent m c d → Congruent m (a + c) (b + d)
   plus {c} {d} p q =
       record { same = add-mod a c m ∙ ap (λ (x : ℕ). (x + c % m) % m) (p .same) ∙ ap (λ (x : ℕ). (b % m + x) % m) (q .same) ∙ sym (add-mod b d m) }
@@ -34,25 +34,9 @@ module _ {m a b : ℕ} where
 equal-same : {m a b : ℕ} → a ≡ b → Congruent m a b
 equal-same {m} e = record { same = ap (λ (x : ℕ). x % m) e }
 
--- a number's remainder, by its quotient
+-- a number and its remainder
 remainder-same : (m a : ℕ) → Congruent m (a % m) a
 remainder-same m a = record { same = mod-mod a m }
-
-times-remainder : (m a c : ℕ) → Congruent m (a * c) (a % m * c)
-times-remainder m a c =
-    let e : a * c ≡ a % m * c + a / m * c * m =
-    sym (ap (λ (x : ℕ). x * c) (mod-add-div' a m))
-    ∙ add-mul (a % m) (a / m * m) c
-    ∙ ap (λ (x : ℕ). a % m * c + x) (mul-right-comm (a / m) m c) in
-    record { same = ap (λ (x : ℕ). x % m) e ∙ add-mul-mod-self-right (a % m * c) (a / m * c) m }
-
-times : {m a b : ℕ} (c : ℕ) → Congruent m a b → Congruent m (a * c) (b * c)
-times {m} {a} {b} c p =
-    then (times-remainder m a c)
-    (then (equal-same (ap (λ (x : ℕ). x * c) (p .same))) (back (times-remainder m b c)))
-
-times-left : {m a b : ℕ} (c : ℕ) → Congruent m a b → Congruent m (c * a) (c * b)
-times-left {m} {a} {b} c p = then (equal-same (mul-comm c a)) (then (times c p) (equal-same (mul-comm b c)))
 
 -- a multiple of m goes
 add-none : {m c : ℕ} (a : ℕ) → Congruent m c 0 → Congruent m (a + c) a
@@ -89,10 +73,6 @@ stands-once m (pos n) h p q = then (back p) q
 stands-once m (negsuc n) {r} {s} h p q =
     cancel (suc n) h (then (equal-same (add-comm r (suc n))) (then p (then (back q) (equal-same (add-comm (suc n) s)))))
 
-negated-stands : (m n r : ℕ) → Congruent m (n + r) 0 → ResidueOf m (negℤ (pos n)) r
-negated-stands m zero r p = back (then (equal-same (sym (zero-add r))) p)
-negated-stands m (suc n) r p = p
-
 -- sums
 difference-by : (m a b r s : ℕ) → Congruent m a r → Congruent m (b + s) 0 → (t : Bool) → ltb a b ≡ t
     → ResidueOf m (cond t (negsuc (b - suc a)) (pos (a - b))) (r + s)
@@ -107,29 +87,11 @@ difference-by m a b r s p q false e =
 difference-stands : (m a b r s : ℕ) → Congruent m a r → Congruent m (b + s) 0 → ResidueOf m (subℕ a b) (r + s)
 difference-stands m a b r s p q = difference-by m a b r s p q (ltb a b) refl
 
-sum-stands : (m : ℕ) → 0 < m → (x y : ℤ) (r s : ℕ) → ResidueOf m x r → ResidueOf m y s → ResidueOf m (x +ℤ y) (r + s)
-sum-stands m h (pos a) (pos b) r s p q = plus p q
-sum-stands m h (pos a) (negsuc b) r s p q = difference-stands m a (suc b) r s p q
-sum-stands m h (negsuc a) (pos b) r s p q = rw (add-comm r s) (difference-stands m b (suc a) s r q p)
-sum-stands m h (negsuc a) (negsuc b) r s p q = then (equal-same (omega arith)) (plus p q)
-
--- products
-product-stands : (m : ℕ) → 0 < m → (x y : ℤ) (r s : ℕ) → ResidueOf m x r → ResidueOf m y s → ResidueOf m (x *ℤ y) (r * s)
-product-stands m h (pos a) (pos b) r s p q = then (times b p) (times-left r q)
-product-stands m h (pos a) (negsuc b) r s p q =
-    negated-stands m (a * suc b) (r * s)
-    (then (plus (equal-same refl) (times s (back p)))
-    (then (equal-same (sym (mul-add a (suc b) s))) (then (times-left a q) (equal-same (mul-zero a)))))
-product-stands m h (negsuc a) (pos b) r s p q =
-    negated-stands m (suc a * b) (r * s)
-    (then (plus (equal-same refl) (times-left r (back q)))
-    (then (equal-same (sym (add-mul (suc a) r b))) (then (times b p) (equal-same (zero-mul b)))))
-product-stands m h (negsuc a) (negsuc b) r s p q =
-    cancel (suc a * s) h
-    (then (equal-same (sym (mul-add (suc a) (suc b) s)))
-    (then (times-left (suc a) q)
-    (then (equal-same (mul-zero (suc a) ∙ sym (zero-mul s)))
-    (then (times s (back p)) (equal-same (add-mul (suc a) r s ∙ add-comm (suc a * s) (r * s)))))))
+sum-stands : (m : ℕ) (x y : ℤ) (r s : ℕ) → ResidueOf m x r → ResidueOf m y s → ResidueOf m (x +ℤ y) (r + s)
+sum-stands m (pos a) (pos b) r s p q = plus p q
+sum-stands m (pos a) (negsuc b) r s p q = difference-stands m a (suc b) r s p q
+sum-stands m (negsuc a) (pos b) r s p q = rw (add-comm r s) (difference-stands m b (suc a) s r q p)
+sum-stands m (negsuc a) (negsuc b) r s p q = then (equal-same (omega arith)) (plus p q)
 
 -- remainders modulo 2 ^ w
 module _ (w : Width) where
@@ -152,22 +114,13 @@ module _ (w : Width) where
   residue-is : (z : ℤ) (r : ℕ) → r < 2 ^ bits w → ResidueOf (2 ^ bits w) z r → r ≡ residue w z
   residue-is z r h p = below-same h (residue-below z) (stands-once (2 ^ bits w) z (pow-pos (bits w)) p (residue-stands z))
 
-  -- an operator on the bits that stands for an operator on numbers works on remainders
-  over-operator : (f : ℕ → ℕ → ℕ) (g : ℤ → ℤ → ℤ)
-      → ((m : ℕ) → 0 < m → (x y : ℤ) (r s : ℕ) → ResidueOf m x r → ResidueOf m y s → ResidueOf m (g x y) (f r s))
-      → (x y : ℤ) → f (residue w x) (residue w y) % 2 ^ bits w ≡ residue w (g x y)
-  over-operator f g stands x y =
-      let m = 2 ^ bits w in
-      let v = f (residue w x) (residue w y) in
-      residue-is (g x y) (v % m) (mod-lt v (pow-pos (bits w)))
-      (stands-same m (g x y) (stands m (pow-pos (bits w)) x y (residue w x) (residue w y) (residue-stands x) (residue-stands y))
-      (back (remainder-same m v)))
-
   pub residue-sum : (x y : ℤ) → (residue w x + residue w y) % 2 ^ bits w ≡ residue w (x +ℤ y)
-  residue-sum = over-operator (λ a b. a + b) (λ a b. a +ℤ b) sum-stands
-
-  pub residue-product : (x y : ℤ) → residue w x * residue w y % 2 ^ bits w ≡ residue w (x *ℤ y)
-  residue-product = over-operator (λ a b. a * b) (λ a b. a *ℤ b) product-stands
+  residue-sum x y =
+      let m = 2 ^ bits w in
+      let v = residue w x + residue w y in
+      residue-is (x +ℤ y) (v % m) (mod-lt v (pow-pos (bits w)))
+      (stands-same m (x +ℤ y) (sum-stands m x y (residue w x) (residue w y) (residue-stands x) (residue-stands y))
+      (back (remainder-same m v)))
 
   -- the number that, with the second's remainder added, wraps back to the first's
   pub residue-difference : (x y : ℤ) (r : ℕ) → r < 2 ^ bits w → (r + residue w y) % 2 ^ bits w ≡ residue w x → r ≡ residue w (x -ℤ y)

@@ -1,10 +1,9 @@
-// The six operators. A sum, a difference and a product are worked out on the bits and wrap there.
+// The six operators. A sum and a difference are worked out on the bits and wrap there; a product is looked at in 64 bits.
 ghost use mathlib.Core.Path.{_≡_};
-ghost use Prim.Native.Nat.{_*_, _%_, _^_};
 ghost use lib.IntN.{_+ℤ_, _-ℤ_, _*ℤ_};
 ghost use lib.Signed.{ltZ};
 ghost use mir.Syntax.{w32};
-ghost use Rattle.definitions.specs.Operators.{reduced, quotient, truth, equal};
+ghost use Rattle.definitions.specs.Operators.{reduced, inSignedRange, product, quotient, truth, equal};
 ghost use Rattle.operators.specs.Results.{computedOf};
 use crate::Computed;
 use crate::bits::bits_of;
@@ -23,17 +22,32 @@ pub(crate) fn subtract(x: i32, y: i32) -> i32
     number_of(std::num::wrapping_sub_u32(bits_of(x), bits_of(y)))
 }
 
-// The product of two unsigned numbers modulo 2 ^ 32, which `std::num` does not have.
-pub(crate) fn wrapping_mul_u32(a: u32, b: u32) -> u32
-    ensures { λ r. ⌜ r ≡ (a * b) % 2 ^ 32 ⌝ }
+// The exact product, in 64 bits.
+pub(crate) fn exact_product(x: i32, y: i32) -> i64
+    ensures { λ r. ⌜ r ≡ x *ℤ y ⌝ }
 {
-    (a as u64 * b as u64 % 0x1_0000_0000) as u32
+    x as i64 * y as i64
 }
 
-pub(crate) fn multiply(x: i32, y: i32) -> i32
-    ensures { λ r. ⌜ r ≡ reduced w32 (x *ℤ y) ⌝ }
+// Whether a number is in the range of signed 32 bits.
+pub(crate) fn in_signed_range(z: i64) -> bool
+    ensures { λ r. ⌜ r ≡ inSignedRange w32 z ⌝ }
 {
-    number_of(wrapping_mul_u32(bits_of(x), bits_of(y)))
+    if z < -0x8000_0000 {
+        return false;
+    }
+    z < 0x8000_0000
+}
+
+// The product; one outside the range is a fault.
+pub(crate) fn multiply(x: i32, y: i32) -> Computed
+    ensures { λ r. ⌜ computedOf r ≡ product w32 x y ⌝ }
+{
+    let exact = exact_product(x, y);
+    if in_signed_range(exact) {
+        return Computed::Number(exact as i32);
+    }
+    Computed::Fault(numbers::OVERFLOW)
 }
 
 // Division towards zero. A zero divisor is a fault, and the lowest number by -1 gives itself.

@@ -14,21 +14,21 @@ pub enum Computed {
     Fault(u16),
 }
 
-// The operator of a code; a code above the greatest gives 0.
+// The operator of a code, first the two that may fault; a code above the greatest gives 0.
 pub fn compute(code: u16, x: i32, y: i32) -> Computed
     ensures { λ r. ⌜ computedOf r ≡ computed code x y ⌝ }
 {
+    if code == operator_codes::MULTIPLY {
+        return arithmetic::multiply(x, y);
+    }
+    if code == operator_codes::DIVIDE {
+        return arithmetic::divide(x, y);
+    }
     if code == operator_codes::ADD {
         return Computed::Number(arithmetic::add(x, y));
     }
     if code == operator_codes::SUBTRACT {
         return Computed::Number(arithmetic::subtract(x, y));
-    }
-    if code == operator_codes::MULTIPLY {
-        return Computed::Number(arithmetic::multiply(x, y));
-    }
-    if code == operator_codes::DIVIDE {
-        return arithmetic::divide(x, y);
     }
     if code == operator_codes::LESS {
         return Computed::Number(arithmetic::less(x, y));

@@ -53,6 +53,12 @@ faultLine =
     101 ∷ 110 ∷ 100 ∷ 32 ∷ 49 ∷ 55 ∷ 32 ∷ 115 ∷ 116 ∷ 101 ∷ 112 ∷ 115 ∷ 32 ∷ 51 ∷ 32 ∷ 99 ∷ 101 ∷ 108 ∷ 108 ∷ 115
     ∷ 32 ∷ 48 ∷ 10 ∷ []
 
+-- 46,341 times 46,341: `end 20 steps 3 cells 0`
+abbrev overflowLine : List ℕ
+overflowLine =
+    101 ∷ 110 ∷ 100 ∷ 32 ∷ 50 ∷ 48 ∷ 32 ∷ 115 ∷ 116 ∷ 101 ∷ 112 ∷ 115 ∷ 32 ∷ 51 ∷ 32 ∷ 99 ∷ 101 ∷ 108 ∷ 108 ∷ 115
+    ∷ 32 ∷ 48 ∷ 10 ∷ []
+
 -- the empty file: `refused 1 place 0`
 abbrev emptyLine : List ℕ
 emptyLine = 114 ∷ 101 ∷ 102 ∷ 117 ∷ 115 ∷ 101 ∷ 100 ∷ 32 ∷ 49 ∷ 32 ∷ 112 ∷ 108 ∷ 97 ∷ 99 ∷ 101 ∷ 32 ∷ 48 ∷ 10 ∷ []
@@ -70,10 +76,11 @@ lines : map line
     ∷ answer 100 (pos 63) 1 0
     ∷ answer 11 (pos 0) 12 2
     ∷ answer 17 (pos 0) 3 0
+    ∷ answer 20 (pos 0) 3 0
     ∷ answer 1 (pos 0) 0 0
     ∷ answer 6 (pos 18446744073709551615) 0 0
     ∷ [])
-    ≡ sLine ∷ negativeLine ∷ longestLine ∷ constructorLine ∷ stopLine ∷ faultLine ∷ emptyLine ∷ placeLine ∷ []
+    ≡ sLine ∷ negativeLine ∷ longestLine ∷ constructorLine ∷ stopLine ∷ faultLine ∷ overflowLine ∷ emptyLine ∷ placeLine ∷ []
 unfolding digit digitsWithin decimal signed integer numberWord constructorWord endWord refusedWord stepsWord cellsWord placeWord lineEnd counts countedLine refusalLine lineOf line isRefusal within
 lines = refl
 

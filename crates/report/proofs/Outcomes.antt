@@ -10,7 +10,7 @@ use borrow.Author.Tests.{ltb-true}
 use mir.Syntax.{w32, w64}
 use mir.Val.{toZ, ofZ, Fits, SFits}
 use mir.ValLaws.{toZ-ofZ}
-use Rattle.operators.proofs.Conversions.{widened, low-test}
+use Rattle.operators.proofs.Conversions.{wide-back, low-test}
 use Rattle.answer.specs.Answers.{outcomeOf, valueOf}
 use Rattle.answer.specs.declared.Outcome.{Outcome}
 use Rattle.answer.specs.declared.Outcome.the-variants.{Number, Constructor, Ended, Refused}
@@ -33,7 +33,7 @@ size-bound (negsuc n) f = let h : n < 2147483648 = f .sfits in omega arith
 
 module _ (x : ℤ) (f : SFits w32 x) where
   difference : ltZ (toZ w32 (ofZ w32 x)) (pos 0) ≡ true → pos 0 -ℤ toZ w64 (ofZ w64 (toZ w32 (ofZ w32 x))) ≡ pos (natAbs x)
-  difference e = ap (λ (z : ℤ). pos 0 -ℤ z) (toZ-ofZ w64 (toZ w32 (ofZ w32 x)) (widened x f) ∙ toZ-ofZ w32 x f) ∙ negated x (low-test x f e)
+  difference e = ap (λ (z : ℤ). pos 0 -ℤ z) (wide-back w32 w64 (omega arith) x f) ∙ negated x (low-test x f e)
 
   -- the size in 64 bits of a negative number
   pub difference-fits : ltZ (toZ w32 (ofZ w32 x)) (pos 0) ≡ true → SFits w64 (pos 0 -ℤ toZ w64 (ofZ w64 (toZ w32 (ofZ w32 x))))

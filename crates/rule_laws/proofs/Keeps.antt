@@ -16,7 +16,7 @@ use Rattle.definitions.specs.Rule.{Ending, ended, State, Reached, Visit, Contex
 use Rattle.accepted.specs.Mention as Mention
 use Rattle.rule_laws.specs.Keeps.{Keeps, Proper, an-integer, a-constructor, an-end, Kept, Keeping, KeepingHooks}
 use Rattle.rule_laws.proofs.Mentions.{branch-mentioned, clause-mentioned}
-use Rattle.rule_laws.proofs.Computing.{Result, a-number, no-divisor, computed-result}
+use Rattle.rule_laws.proofs.Computing.{Result, a-number, out-of-range, no-divisor, computed-result}
 
 module _ {t : List ℕ} {rs : List ℤ} {C S : Type 0} (K : Keeps t rs C S) where
   open Keeps K using (Becomes, stays, onward, At, at-onward, at-mentioned, Built, built-tuple, built-field, Number, number-literal, number-reading, number-tag, number-computed, stop-ends, fault-ends)
@@ -65,9 +65,10 @@ module _ {t : List ℕ} {rs : List ℤ} {C S : Type 0} (K : Keeps t rs C S) wher
   kept-node s none n go h f = kept-fault s n h
   kept-node s (some k) n go h f = f k refl
 
-  kept-result : (s : State S) {x : Computed} → Result x → ((z : ℤ) → x ≡ gives z → Number z) → Kept K s (resultOf x s)
+  kept-result : (s : State S) {o : ℕ} {x y : ℤ} {c : Computed} → Result o x y c → ((z : ℤ) → c ≡ gives z → Number z) → Kept K s (resultOf c s)
   unfolding resultOf isFault within
   kept-result s (a-number {z}) f = kept-here s (an-integer (f z refl))
+  kept-result s (out-of-range e h) f = kept-fault s _ refl
   kept-result s no-divisor f = kept-fault s _ refl
 
   module _ (M : Contexts C S) (hooks : KeepingHooks K M) where

@@ -22,6 +22,7 @@ use Rattle.definitions.specs.Run
 use Rattle.evaluator.specs.Evaluator
 use Rattle.sheets.specs.Sheets
 use Rattle.sheets.specs.Starred
+use Rattle.sheets.specs.Products
 
 unfoldable pub opened : Unit {0}
 unfolding
@@ -40,8 +41,8 @@ unfolding
     Checks.treeRight Checks.tree Checks.parentOf Checks.clauseOf Checks.clauseWithin Checks.belowArity
     Checks.patternRight Checks.pattern Checks.sheetVerdict Checks.translationVerdict
     NodeFields.fieldsFrom NodeFields.clauseList NodeFields.chosen
-    Operators.residue Operators.reduced Operators.isZero Operators.equal Operators.truth Operators.quotient
-    Operators.computed
+    Operators.residue Operators.reduced Operators.inSignedRange Operators.isZero Operators.equal Operators.truth
+    Operators.product Operators.quotient Operators.computed
     Outcomes.numberOutcome Outcomes.constructorOutcome Outcomes.endOutcome
     SheetNodes.sheetNode SheetNodes.sheetNodeOf
     Meaning.closureAt Meaning.argumentOf Meaning.heldField Meaning.endOf Meaning.outcomeOf
@@ -58,8 +59,9 @@ unfolding
     Run.refusal Run.runVerdict Run.answerAfter Run.runAnswer Run.cellsOver Run.bytesAfter Run.runCells
     Evaluator.numberDue Evaluator.constructorDue Evaluator.clauseDue Evaluator.closureDue Evaluator.endBy
     Evaluator.endWithin Evaluator.ownWithin
-    Sheets.S Sheets.unusedDivision Sheets.divisionByZero Sheets.headOfOnes Sheets.negativeDivision Sheets.overflow
-    Sheets.loop Sheets.nestedCalls Sheets.boxes Sheets.callerArgument Sheets.builtField Sheets.bytesOfS
+    Sheets.S Sheets.unusedDivision Sheets.divisionByZero Sheets.headOfOnes Sheets.negativeDivision Sheets.reducedSum
+    Sheets.loop Sheets.nestedCalls Sheets.boxes Sheets.callerArgument Sheets.builtField Sheets.onReadings Sheets.constructorFactor Sheets.bytesOfS
     Sheets.translationOfS
     Starred.answering Starred.trialWith Starred.trial Starred.starred Starred.further
+    Products.onNumbers Products.products
 opened = tt

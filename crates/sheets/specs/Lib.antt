@@ -1,4 +1,5 @@
 pub mod Sheets
 pub mod Trial
 pub mod Starred
+pub mod Products
 pub mod Orders

@@ -1,9 +1,9 @@
--- The starred sheets of document 01, "Sheets to try", as bytes, and four more; then S and its translation byte by byte. Above
+-- The starred sheets of document 01, "Sheets to try", as bytes, and six more; then S and its translation byte by byte. Above
 -- each sheet stand its functions, whose nodes follow in that order. A number's two fields are its lower and its upper 16 bits.
 use Prim.Native.Nat.{ℕ}
 use mathlib.Core.List.{List, [], _∷_, _++_}
 use Rattle.definitions.specs.Bytes.{bytesOf}
-use Rattle.definitions.specs.SheetKinds.{head, constructor, function, number, parameter, patternVariable, operator, call, build, caseOf}
+use Rattle.definitions.specs.SheetKinds.{head, constructor, function, number, reading, parameter, patternVariable, operator, call, build, caseOf}
 use Rattle.definitions.specs.Translate.{recordWords}
 
 -- result = g(7) - g(2)
@@ -79,8 +79,8 @@ negativeDivision =
     ++ recordWords operator (3 ∷ 0 ∷ 1 ∷ []))
 
 -- result = 2147483647 + 1
-unfoldable pub overflow : List ℕ
-overflow =
+unfoldable pub reducedSum : List ℕ
+reducedSum =
     bytesOf
     (recordWords head (0 ∷ 0 ∷ 1 ∷ 3 ∷ [])
     ++ recordWords function (0 ∷ 3 ∷ [])
@@ -188,6 +188,27 @@ builtField =
     ++ recordWords parameter (1 ∷ [])
     ++ recordWords patternVariable (0 ∷ [])
     ++ recordWords caseOf (6 ∷ 0 ∷ 7 ∷ []))
+
+-- result = the operator of a code, on reading 0 and reading 1
+unfoldable pub onReadings : ℕ → List ℕ
+onReadings code =
+    bytesOf
+    (recordWords head (2 ∷ 0 ∷ 1 ∷ 3 ∷ [])
+    ++ recordWords function (0 ∷ 3 ∷ [])
+    ++ recordWords reading (0 ∷ [])
+    ++ recordWords reading (1 ∷ [])
+    ++ recordWords operator (code ∷ 0 ∷ 1 ∷ []))
+
+-- result = 65536 * C
+unfoldable pub constructorFactor : List ℕ
+constructorFactor =
+    bytesOf
+    (recordWords head (0 ∷ 1 ∷ 1 ∷ 3 ∷ [])
+    ++ recordWords constructor (0 ∷ [])
+    ++ recordWords function (0 ∷ 3 ∷ [])
+    ++ recordWords number (0 ∷ 1 ∷ [])
+    ++ recordWords build (0 ∷ [])
+    ++ recordWords operator (2 ∷ 0 ∷ 1 ∷ []))
 
 -- S's 92 bytes, a record to a line
 unfoldable pub bytesOfS : List ℕ

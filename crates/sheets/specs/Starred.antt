@@ -13,7 +13,7 @@ use Rattle.definitions.specs.Outcomes.{Outcome, numberOutcome, endOutcome}
 use Rattle.definitions.specs.Translate.{translation}
 use Rattle.definitions.specs.Run.{Answer}
 use Rattle.definitions.specs.declared.Layout.the-variants.{Translation}
-use Rattle.sheets.specs.Sheets.{S, unusedDivision, divisionByZero, headOfOnes, negativeDivision, overflow, loop, nestedCalls, boxes, callerArgument, builtField, bytesOfS, translationOfS}
+use Rattle.sheets.specs.Sheets.{S, unusedDivision, divisionByZero, headOfOnes, negativeDivision, reducedSum, loop, nestedCalls, boxes, callerArgument, builtField, bytesOfS, translationOfS}
 use Rattle.sheets.specs.Trial.{Trial, Holds}
 
 -- an outcome with its value after a number of steps, with a number of cells made; it is no constructor
@@ -71,7 +71,7 @@ starred =
     ∷ trial negativeDivision 1000 100 100
     (answering (numberOutcome (negsuc 2)) 3 0) [] (some (numberOutcome (negsuc 2)))
     -- 2,147,483,647 + 1 = -2,147,483,648
-    ∷ trial overflow 1000 100 100
+    ∷ trial reducedSum 1000 100 100
     (answering (numberOutcome (negsuc 2147483647)) 3 0) [] (some (numberOutcome (negsuc 2147483647)))
     -- loop with 3 steps, nesting 9, 9 cells: 11
     ∷ trial loop 3 9 9

@@ -47,7 +47,7 @@ pub enum Stop {
 impl Stop {
     pub const ALL: [Stop; 3] = [Stop::NoStep, Stop::NoNesting, Stop::NoCell];
 
-    /// Its number in document 01's table.
+    /// Its number in the table.
     pub fn number(self) -> u16 {
         match self {
             Stop::NoStep => numbers::NO_STEP,
@@ -66,19 +66,21 @@ pub enum Fault {
     ZeroDivisor,
     NoActual,
     NoField,
+    Overflow,
 }
 
 impl Fault {
-    pub const ALL: [Fault; 6] = [
+    pub const ALL: [Fault; 7] = [
         Fault::NumberWanted,
         Fault::ConstructorWanted,
         Fault::NoClause,
         Fault::ZeroDivisor,
         Fault::NoActual,
         Fault::NoField,
+        Fault::Overflow,
     ];
 
-    /// Its number in document 01's table.
+    /// Its number in the table.
     pub fn number(self) -> u16 {
         match self {
             Fault::NumberWanted => numbers::NUMBER_WANTED,
@@ -87,6 +89,7 @@ impl Fault {
             Fault::ZeroDivisor => numbers::ZERO_DIVISOR,
             Fault::NoActual => numbers::NO_ACTUAL,
             Fault::NoField => numbers::NO_FIELD,
+            Fault::Overflow => numbers::OVERFLOW,
         }
     }
 }
@@ -205,7 +208,7 @@ mod tests {
                 }
                 Some(Answer::Stopped(stop)) => numbers::is_stop(number) && stop.number() == number,
                 Some(Answer::Fault(fault)) => numbers::is_fault(number) && fault.number() == number,
-                None => number > numbers::NO_FIELD && !value,
+                None => number > numbers::OVERFLOW && !value,
             };
             assert!(expected, "number {number}");
         }

@@ -1,5 +1,5 @@
-//! The numbers of document 01's table, with the paper's word for each, and
-//! the two outcomes that are values.
+//! The numbers of document 01's table and those that document 02 adds, with
+//! the paper's word for each, and the two outcomes that are values.
 
 /// Refusal: "cut". A file ends inside a record, or before the last one due.
 pub const TRUNCATED: u16 = 1;
@@ -44,6 +44,8 @@ pub const ZERO_DIVISOR: u16 = 17;
 pub const NO_ACTUAL: u16 = 18;
 /// Run fault: "no field". An index beyond the tuple.
 pub const NO_FIELD: u16 = 19;
+/// Run fault: "overflow". A product outside signed 32 bits.
+pub const OVERFLOW: u16 = 20;
 
 /// The outcome of a number.
 pub const NUMBER: u16 = 0;
@@ -62,7 +64,7 @@ pub fn is_stop(outcome: u16) -> bool {
 
 /// A run of this outcome ended with a run fault.
 pub fn is_fault(outcome: u16) -> bool {
-    (NUMBER_WANTED..=NO_FIELD).contains(&outcome)
+    (NUMBER_WANTED..=OVERFLOW).contains(&outcome)
 }
 
 /// A run of this outcome ended with a number or a constructor.

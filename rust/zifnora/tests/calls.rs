@@ -125,6 +125,10 @@ fn faults_of_sheets() {
     let none = || build(0, vec![]);
     let divided = operator(DIVIDE, number(1), number(0));
     assert_eq!(fault_of(divided), Answer::Fault(Fault::ZeroDivisor));
+    let product = operator(MULTIPLY, number(46_341), number(46_341));
+    assert_eq!(fault_of(product), Answer::Fault(Fault::Overflow));
+    let of_constructor = operator(MULTIPLY, number(46_341), none());
+    assert_eq!(fault_of(of_constructor), Answer::Fault(Fault::NumberWanted));
     let sum = operator(ADD, none(), number(1));
     assert_eq!(fault_of(sum), Answer::Fault(Fault::NumberWanted));
     let of_number = case(number(1), vec![(0, number(2))]);

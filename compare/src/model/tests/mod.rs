@@ -198,7 +198,14 @@ fn operators() {
     assert_eq!(of(ADD, i32::MAX, 1), answered(i32::MIN, 3, 0));
     assert_eq!(of(DIVIDE, i32::MIN, -1), answered(i32::MIN, 3, 0));
     assert_eq!(of(SUBTRACT, i32::MIN, 1), answered(i32::MAX, 3, 0));
-    assert_eq!(of(MULTIPLY, 65536, 65536), answered(0, 3, 0));
+    assert_eq!(of(MULTIPLY, 65536, 65536), ended(OVERFLOW, 3, 0));
+    assert_eq!(of(MULTIPLY, i32::MAX, 1), answered(i32::MAX, 3, 0));
+    assert_eq!(of(MULTIPLY, 65536, 32768), ended(OVERFLOW, 3, 0));
+    assert_eq!(of(MULTIPLY, -65536, 32768), answered(i32::MIN, 3, 0));
+    assert_eq!(of(MULTIPLY, 715_827_883, -3), ended(OVERFLOW, 3, 0));
+    assert_eq!(of(MULTIPLY, i32::MIN, -1), ended(OVERFLOW, 3, 0));
+    assert_eq!(of(MULTIPLY, 46340, 46340), answered(2_147_395_600, 3, 0));
+    assert_eq!(of(MULTIPLY, 46341, 46341), ended(OVERFLOW, 3, 0));
     assert_eq!(of(LESS, -1, 0), answered(1, 3, 0));
     assert_eq!(of(EQUAL, 3, 4), answered(0, 3, 0));
 }

@@ -2,12 +2,13 @@
 use lib.IntN.{natAbs}
 use native.Mathlib.Omega.{arith}
 use mathlib.Core.Path.{ap}
+use mir.Syntax.{w32, w64}
 use Rattle.operators.proofs.Conversions.{widened, sum-fits, sum-bits, own-bits, bits-cast}
 use Rattle.operators.proofs.bits.bits_of.Statement.{statement}
 use Rattle.operators.proofs.bits.bits_of.Tie as tie
 
 cast-result : tie.Need-cast-result
-cast-result c = widened _ (c .before .fits .x)
+cast-result c = widened w32 w64 (omega arith) _ (c .before .fits .x)
 
 add-result : tie.Need-add-result
 add-result c = sum-fits _ (c .before .fits .x) _ (omega arith) (omega arith)

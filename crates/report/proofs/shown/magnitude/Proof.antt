@@ -1,6 +1,8 @@
 -- `report::shown::magnitude` meets its contract: 0 less a negative number is its size, and any other number is its own.
 use lib.IntN.{natAbs}
 use mathlib.Core.Path.{ap}
+use native.Mathlib.Omega.{arith}
+use mir.Syntax.{w32, w64}
 use Rattle.operators.proofs.Conversions.{widened}
 use Rattle.report.proofs.Outcomes.{difference-fits, negative-size, positive-size, size-cast}
 use borrow.Author.Needs.{needs}
@@ -8,7 +10,7 @@ use Rattle.report.proofs.shown.magnitude.Statement.{statement}
 use Rattle.report.proofs.shown.magnitude.Tie as tie
 
 cast-result : tie.Need-cast-result
-cast-result c = widened _ (c .before .fits .x)
+cast-result c = widened w32 w64 (omega arith) _ (c .before .fits .x)
 
 sub-result : tie.Need-sub-result
 sub-result c = difference-fits _ (c .before .fits .x) (c .if1 .taken)
