@@ -8,11 +8,11 @@
  * Platform: x86-64, System V calling convention; the archive is ELF. Build it with `rt staticlib zifnora_c`, and link
  * target/staticlib/libzifnora_c.a. It needs `memcpy` and `memset` from what it is linked with, and nothing else (`nm -u`).
  *
- * Stack: a run takes less than 96 KiB, on one row of readings or on several, the joined call less than 144 KiB, the other calls
- * less than 32 KiB. These bounds are measured, not proved. `bench` measures on files that nest in each way in which visits can
- * nest, to 1,024 open visits, and prints: a run 12,688 bytes, 80 more for each visit that stays open, 90,824 at nesting 1,024;
- * on several rows 12,736 and 90,872; the joined call 66,416 and 131,736; translating 16,672; listing a context 24. Another build
- * of the archive has to be measured again.
+ * Stack: a run takes less than 96 KiB, on one row of readings or on several and in the joined call, the other calls less than 32
+ * KiB. These bounds are measured, not proved. `bench` measures on files that nest in each way in which visits can nest, to 1,024
+ * open visits, and prints: a run 12,688 bytes, 80 more for each visit that stays open, 90,824 at nesting 1,024; on several rows
+ * 12,736 and 90,872; the joined call 25,936 and 90,776; translating 17,152; asking for a translation's length 12,544; listing a
+ * context 24. Another build of the archive has to be measured again.
  */
 #ifndef ZIFNORA_H
 #define ZIFNORA_H
@@ -157,6 +157,11 @@ static inline int zifnora_decode_record(const uint8_t *bytes, struct zifnora_rec
 /* Translates a sheet. Returns the translation's length; `out` starts with the translation and stays as it was past it. A refusal
  * (1 to 8) leaves all of `out` as it was. */
 uint64_t zifnora_translate(const uint8_t *sheet, size_t sheet_length, uint8_t *out, size_t out_length);
+
+/* How long the translation would be: returns what zifnora_translate would return for an `out` of `out_length` bytes, with none
+ * lent. That is the translation's length, or the refusal: 1 to 7 with its place, then 8 where the translation is longer. Any
+ * number of 64 bits may be stated, also one that no buffer has. Nothing is written. */
+uint64_t zifnora_translated_length(const uint8_t *sheet, size_t sheet_length, uint64_t out_length);
 
 /* The three calls that run, as they stand in the archive: the lent cells are a pair of address and length behind a pointer. The
  * pair is as it was after the call, and must not overlap any buffer of the call. zifnora_run, zifnora_run_rows and

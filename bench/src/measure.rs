@@ -142,12 +142,22 @@ pub fn translated(on: &dyn Interface, sheet: &[u8]) -> Vec<u8> {
     out
 }
 
-/// Nanoseconds of one translation, by both.
-pub fn translate_cost(on: &dyn Interface, model: &dyn Interface, sheet: &[u8]) -> [f64; 2] {
+/// Nanoseconds of one translation into a buffer of the greatest length, of one
+/// into a buffer of just its length, of asking for that length, and of one by
+/// the model.
+pub fn translate_cost(on: &dyn Interface, model: &dyn Interface, sheet: &[u8]) -> [f64; 4] {
     let (mut one, mut two) = (vec![0; TRANSLATION_BYTES], vec![0; TRANSLATION_BYTES]);
+    let mut just = translated(on, sheet);
+    let room = just.len() as u64;
     times([
         &mut || {
             black_box(on.translate(black_box(sheet), &mut one));
+        },
+        &mut || {
+            black_box(on.translate(black_box(sheet), &mut just));
+        },
+        &mut || {
+            black_box(on.translated_length(black_box(sheet), black_box(room)));
         },
         &mut || {
             black_box(model.translate(black_box(sheet), &mut two));

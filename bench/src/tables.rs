@@ -95,13 +95,16 @@ pub fn sizes(subject: &dyn Interface) {
     }
 }
 
-/// Accepting and translating a sheet, beside the model's translator.
+/// Accepting and translating a sheet, beside the model's translator, and asking
+/// for its length, beside translating.
 pub fn translations(subject: &dyn Interface) {
     println!("Accepting and translating a sheet (model: the independent one of compare)");
-    println!("sheet                   nodes  bytes        ns  ns/node     model  ratio");
+    println!("just: into a buffer of just its length; length: asked with none lent");
+    print!("sheet                   nodes  bytes        ns  ns/node     model  ratio");
+    println!("      just  ratio    length  ratio");
     let row = |name: &str, count: usize, sheet: &[u8]| {
-        let [ours, theirs] = translate_cost(subject, correct(), sheet);
-        println!(
+        let [ours, just, length, theirs] = translate_cost(subject, correct(), sheet);
+        print!(
             "{:<22} {:>6} {:>6} {:>9.0} {:>8.1} {:>9.0} {:>6.2}",
             name,
             count,
@@ -111,6 +114,8 @@ pub fn translations(subject: &dyn Interface) {
             theirs,
             ours / theirs
         );
+        let [more, part] = [just, length].map(|time| time / ours);
+        println!(" {just:>9.0} {more:>6.2} {length:>9.0} {part:>6.2}");
     };
     let program = programs::fib(12);
     for count in [20, 100, 300, 1000] {
@@ -183,6 +188,9 @@ pub fn stack(subject: &dyn Interface) {
     }
     stack_line("translate", "(sheet at all limits)", &mut || {
         subject.translate(&greatest, &mut out);
+    });
+    stack_line("translated length", "(sheet at all limits)", &mut || {
+        subject.translated_length(&greatest, u64::MAX);
     });
     stack_line("list context", "", &mut || {
         subject.list_context(&cells, 1, &mut out);

@@ -10,6 +10,10 @@ impl Interface for Archive {
         raw::translate(sheet, out)
     }
 
+    fn translated_length(&self, sheet: &[u8], room: u64) -> u64 {
+        raw::translated_length(sheet, room)
+    }
+
     fn run(
         &self,
         translation: &[u8],

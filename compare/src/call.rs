@@ -20,6 +20,11 @@ pub enum Call {
         sheet: Vec<u8>,
         out: Vec<u8>,
     },
+    /// The stated length in place of an output.
+    Length {
+        sheet: Vec<u8>,
+        room: u64,
+    },
     /// `of` is the sheet whose unchanged translation `file` is, if any.
     Run {
         of: Option<Vec<u8>>,
@@ -92,6 +97,7 @@ impl Call {
     pub fn name(&self) -> &'static str {
         match self {
             Call::Translate { .. } => "translate",
+            Call::Length { .. } => "translated_length",
             Call::Run { .. } => "run",
             Call::Rows { .. } => "run_rows",
             Call::Joined { .. } => "translate_and_run",
@@ -103,6 +109,7 @@ impl Call {
     pub fn perform(&self, on: &dyn Interface) -> After {
         match self {
             Call::Translate { sheet, out } => translate(on, sheet, out),
+            Call::Length { sheet, room } => translated_length(on, sheet, *room),
             Call::Run { file, input, .. } => run(on, file, input),
             Call::Rows {
                 file, rows, input, ..
@@ -117,7 +124,7 @@ impl Call {
         match self {
             Call::Run { of, .. } | Call::Rows { of, .. } => of.as_deref(),
             Call::Joined { sheet, .. } => Some(sheet),
-            Call::Translate { .. } | Call::List { .. } => None,
+            Call::Translate { .. } | Call::Length { .. } | Call::List { .. } => None,
         }
     }
 
@@ -126,7 +133,7 @@ impl Call {
         let (rows, input) = match self {
             Call::Run { input, .. } | Call::Joined { input, .. } => (1, input),
             Call::Rows { rows, input, .. } => (*rows as usize, input),
-            Call::Translate { .. } | Call::List { .. } => return vec![],
+            Call::Translate { .. } | Call::Length { .. } | Call::List { .. } => return vec![],
         };
         if refusal(after.code) != 0 || rows == 0 {
             return vec![];
@@ -150,6 +157,18 @@ fn translate(on: &dyn Interface, sheet: &[u8], out: &[u8]) -> After {
     After {
         code,
         out,
+        cells: vec![],
+        record: vec![],
+        input_kept: black_box(copy) == sheet,
+    }
+}
+
+fn translated_length(on: &dyn Interface, sheet: &[u8], room: u64) -> After {
+    let copy = sheet.to_vec();
+    let code = on.translated_length(&copy, room);
+    After {
+        code,
+        out: vec![],
         cells: vec![],
         record: vec![],
         input_kept: black_box(copy) == sheet,

@@ -43,6 +43,8 @@ impl Examiner<'_> {
             out,
         })?;
 
+        self.lengths(sheet, length)?;
+
         let room = sizes::room(random, length.unwrap_or(100));
         let joined = Call::Joined {
             sheet: sheet.to_vec(),
@@ -65,6 +67,21 @@ impl Examiner<'_> {
             None if random.chance(5) => self.translation(random, sheet, None),
             None => Ok(()),
         }
+    }
+
+    /// Asks for the length of a sheet's translation: at the length, one below
+    /// and one above, 0, the greatest number, and one that is 0 on 32 bits.
+    fn lengths(&mut self, sheet: &[u8], length: Option<usize>) -> Result<(), Difference> {
+        let mut rooms = vec![0, 1 << 32, u64::MAX];
+        if let Some(length) = length {
+            let length = length as u64;
+            rooms.extend([length - 1, length, length + 1]);
+        }
+        for room in rooms {
+            let sheet = sheet.to_vec();
+            self.check(&Call::Length { sheet, room })?;
+        }
+        Ok(())
     }
 
     /// A translation; `of` is the sheet that it is the translation of.

@@ -9,6 +9,8 @@ pub use zifnora::Allowances;
 pub trait Interface {
     fn translate(&self, sheet: &[u8], out: &mut [u8]) -> u64;
 
+    fn translated_length(&self, sheet: &[u8], room: u64) -> u64;
+
     fn run(
         &self,
         translation: &[u8],

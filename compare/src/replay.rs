@@ -8,6 +8,7 @@ use std::collections::HashMap;
 use std::fs;
 use std::io::{Error, ErrorKind, Result};
 use std::path::Path;
+use std::str::FromStr;
 
 pub fn write(folder: &Path, difference: &Difference, origin: &str) -> Result<()> {
     fs::create_dir_all(folder)?;
@@ -17,6 +18,10 @@ pub fn write(folder: &Path, difference: &Difference, origin: &str) -> Result<()>
         Call::Translate { sheet, out } => {
             put("sheet.bin", sheet)?;
             put("out.bin", out)?;
+        }
+        Call::Length { sheet, room } => {
+            put("sheet.bin", sheet)?;
+            text += &format!("room {room}\n");
         }
         Call::Run { of, file, input }
         | Call::Rows {
@@ -69,7 +74,7 @@ fn wrong(what: &str) -> Error {
     Error::new(ErrorKind::InvalidData, format!("call.txt: {what}"))
 }
 
-fn number(words: &Words, name: &str) -> Result<u32> {
+fn number<N: FromStr>(words: &Words, name: &str) -> Result<N> {
     let word = words.get(name).ok_or_else(|| wrong(name))?;
     word.parse().map_err(|_| wrong(name))
 }
@@ -102,6 +107,10 @@ pub fn read(folder: &Path) -> Result<Call> {
         Some("translate") => Ok(Call::Translate {
             sheet: get("sheet.bin")?,
             out: get("out.bin")?,
+        }),
+        Some("translated_length") => Ok(Call::Length {
+            sheet: get("sheet.bin")?,
+            room: number(&words, "room")?,
         }),
         Some("run") => Ok(Call::Run {
             of: get("sheet.bin").ok(),

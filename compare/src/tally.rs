@@ -3,8 +3,9 @@
 use crate::call::{After, Call};
 use crate::interface::refusal;
 
-const KINDS: [&str; 5] = [
+const KINDS: [&str; 6] = [
     "translate",
+    "translated_length",
     "run",
     "run_rows",
     "translate_and_run",
@@ -13,7 +14,7 @@ const KINDS: [&str; 5] = [
 
 pub struct Tally {
     /// By kind of call and number (outcome for the two single runs).
-    counts: [[u64; 128]; 5],
+    counts: [[u64; 128]; KINDS.len()],
     /// Rows of batches by outcome.
     rows: [u64; 128],
     pub steps: u64,
@@ -24,7 +25,7 @@ pub struct Tally {
 impl Default for Tally {
     fn default() -> Tally {
         Tally {
-            counts: [[0; 128]; 5],
+            counts: [[0; 128]; KINDS.len()],
             rows: [0; 128],
             steps: 0,
             by_name: 0,
@@ -36,10 +37,11 @@ impl Tally {
     pub fn add(&mut self, call: &Call, after: &After) {
         let kind = match call {
             Call::Translate { .. } => 0,
-            Call::Run { .. } => 1,
-            Call::Rows { .. } => 2,
-            Call::Joined { .. } => 3,
-            Call::List { .. } => 4,
+            Call::Length { .. } => 1,
+            Call::Run { .. } => 2,
+            Call::Rows { .. } => 3,
+            Call::Joined { .. } => 4,
+            Call::List { .. } => 5,
         };
         let mut number = refusal(after.code) as usize;
         for run in call.runs(after) {

@@ -37,6 +37,11 @@ pub enum Fault {
     AllowanceFirst,
     JoinedReadingsFirst,
     RefusedStillWrites,
+    LengthJustEnough,
+    LengthOneShort,
+    LengthPlaceLost,
+    LengthIn32Bits,
+    LengthShortFirst,
     ListOldestFirst,
     ListPlace,
     ListPartCell,
@@ -186,6 +191,31 @@ pub const ALL: &[(Fault, &str, u64)] = &[
     (
         Fault::RefusedStillWrites,
         "a refused translation writes",
+        500,
+    ),
+    (
+        Fault::LengthJustEnough,
+        "8 for a stated length that is just enough",
+        500,
+    ),
+    (
+        Fault::LengthOneShort,
+        "no 8 for a stated length one byte below",
+        500,
+    ),
+    (
+        Fault::LengthPlaceLost,
+        "a refusal at place 0 where the length is asked",
+        500,
+    ),
+    (
+        Fault::LengthIn32Bits,
+        "the stated length cut to 32 bits",
+        500,
+    ),
+    (
+        Fault::LengthShortFirst,
+        "8 before the sheet's own refusal where the length is asked",
         500,
     ),
     (Fault::ListOldestFirst, "labels listed oldest first", 500),

@@ -130,6 +130,16 @@ impl Behaviour for Faulty {
         }
     }
 
+    fn translated_length(&self, file: &[u8], room: u64) -> Result<usize, Refusal> {
+        let room = translating::stated(self.0, room);
+        let result = joined::translated_length(self, file, room);
+        match self.0 {
+            Fault::LengthPlaceLost => translating::at_zero(result),
+            Fault::LengthShortFirst => translating::short_first(result, room),
+            _ => result,
+        }
+    }
+
     fn translate_and_run(
         &self,
         file: &[u8],

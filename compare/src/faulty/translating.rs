@@ -1,5 +1,7 @@
-//! Faults in translating, in the joined call and in listing a context.
+//! Faults in translating, in asking for the length, in the joined call and in
+//! listing a context.
 
+use super::fault::Fault;
 use super::Faulty;
 use crate::model::answer::Answer;
 use crate::model::records::two_bytes;
@@ -54,6 +56,29 @@ pub fn write_what_fits(
         out.copy_from_slice(&whole[..out.len()]);
     }
     result
+}
+
+/// The stated length as a fault takes it.
+pub fn stated(fault: Fault, room: u64) -> u64 {
+    match fault {
+        Fault::LengthJustEnough => room.saturating_sub(1),
+        Fault::LengthOneShort => room.saturating_add(1),
+        Fault::LengthIn32Bits => room as u32 as u64,
+        _ => room,
+    }
+}
+
+/// A refusal without its place.
+pub fn at_zero(result: Result<usize, Refusal>) -> Result<usize, Refusal> {
+    result.map_err(|refusal| Refusal::new(refusal.number, 0))
+}
+
+/// 8 in place of any refusal for a buffer of no bytes.
+pub fn short_first(result: Result<usize, Refusal>, room: u64) -> Result<usize, Refusal> {
+    match room {
+        0 => Err(Refusal::new(SHORT_OUTPUT, 0)),
+        _ => result,
+    }
 }
 
 /// Writes the translation of a sheet whose run is refused.

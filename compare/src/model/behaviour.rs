@@ -70,6 +70,10 @@ pub trait Behaviour: Sized {
         joined::translate_into(self, file, out)
     }
 
+    fn translated_length(&self, file: &[u8], room: u64) -> Result<usize, Refusal> {
+        joined::translated_length(self, file, room)
+    }
+
     fn translate_and_run(
         &self,
         file: &[u8],

@@ -23,6 +23,10 @@ impl<B: BatchBehaviour> Interface for Model<B> {
         code(self.0.translate_into(sheet, out))
     }
 
+    fn translated_length(&self, sheet: &[u8], room: u64) -> u64 {
+        code(self.0.translated_length(sheet, room))
+    }
+
     fn run(
         &self,
         translation: &[u8],

@@ -4,19 +4,25 @@ use Prim.Native.Nat.{ℕ, suc, _+_, _*_}
 use mathlib.Core.List.{List, [], _∷_, _++_}
 use mathlib.Core.Bool.{Bool, cond, _&&_}
 use lib.ListN.{length}
-use lib.Dec.{eqb}
+use lib.Dec.{leb, eqb}
 use mir.Syntax.{w32}
 use Rattle.definitions.specs.Bytes.{words32, bytesOf}
+use Rattle.definitions.specs.Numbers.{shortOutput}
+use Rattle.definitions.specs.Verdicts.{_andThen_, require}
+use Rattle.definitions.specs.Output.{writtenOf}
 use Rattle.definitions.specs.Records.{kindOf, field}
 use Rattle.definitions.specs.Lists.{joined, sumOf, countOf}
 use Rattle.definitions.specs.Layouts.{readings, functions, nodes, nodeCount, nodeRecord, bodyOf, ownerOf}
 use Rattle.definitions.specs.References.{parameters}
+use Rattle.definitions.specs.Checks.{sheetVerdict}
 use Rattle.definitions.specs.Operators.{residue}
 use Rattle.definitions.specs.SheetKinds
 use Rattle.definitions.specs.TranslationKinds
 use Rattle.definitions.specs.NodeFields.{Clause}
 use Rattle.definitions.specs.SheetNodes.{SheetNode, number, reading, parameter, patternVariable, operator, conditional, call, build, caseOf, sheetNodeOf}
 use Rattle.definitions.specs.declared.Layout.the-variants.{Sheet}
+use Rattle.definitions.specs.declared.Verdict.{Verdict}
+use Rattle.definitions.specs.declared.Written.{Written}
 
 -- a record: its length, its kind and its fields, each of two bytes
 unfoldable pub recordWords : ℕ → List ℕ → List ℕ
@@ -85,3 +91,13 @@ translationWords b =
 
 unfoldable pub translation : List ℕ → List ℕ
 translation b = bytesOf (translationWords b)
+
+-- translating into an output of `room` bytes: the first refusal, which is the reader's own, then 8 with place 0 where the output is
+-- shorter than the translation ("Order")
+unfoldable pub translationRefusal : List ℕ → ℕ → Verdict
+translationRefusal sheet room = sheetVerdict sheet andThen require (leb (length (translation sheet)) room) shortOutput 0
+
+-- and the answer, which document 02, request 3, also asks for with no output lent: "length or refusal with place, for a stated
+-- buffer length"
+unfoldable pub translationAnswer : List ℕ → ℕ → Written
+translationAnswer sheet room = writtenOf (translationRefusal sheet room) (length (translation sheet))

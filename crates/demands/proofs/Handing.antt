@@ -15,14 +15,14 @@ use Rattle.definitions.specs.Verdicts.{_andThen_, require}
 use Rattle.definitions.specs.Layouts.{readings}
 use Rattle.definitions.specs.Checks.{sheetVerdict}
 use Rattle.definitions.specs.Outcomes.{Outcome}
-use Rattle.definitions.specs.Translate.{translation}
+use Rattle.definitions.specs.Translate.{translation, translationRefusal, translationAnswer}
 use Rattle.agreement.specs.Meaning.{OwnAnswer}
 use Rattle.definitions.specs.Run.{ruleAnswer, allowancesFit, answerAfter, runAnswer}
 use Rattle.definitions.specs.declared.Verdict.{Verdict}
 use Rattle.definitions.specs.declared.Verdict.the-variants as verdicts
 use Rattle.definitions.specs.declared.Verdict.the-variants.{Accepted}
 use Rattle.laws.proofs.Verdicts.{both-accepted}
-use Rattle.translator.specs.Promise.{translationRefusal, Translates}
+use Rattle.translator.specs.Promise.{Translates}
 use Rattle.definitions.specs.declared.Written.{Written}
 use Rattle.definitions.specs.declared.Written.the-variants.{Length, Refused}
 use Rattle.run.specs.Promise.{Runs}
@@ -48,7 +48,7 @@ written-handed sheet out n out′ e m w =
     record { accepted = both-accepted _ _ e .0; is = rw (m, s) (take-append-seam (translation sheet) (drop (length (translation sheet)) out)) }
 
 handed-by : (sheet out : List ℕ) (n : ℕ) (out′ : List ℕ) (v : Verdict) → translationRefusal sheet (length out) ≡ v → Translates sheet out (Length n) out′ → Handed sheet n out′
-unfolding writtenOf
+unfolding translationAnswer writtenOf
 handed-by sheet out n out′ (verdicts.Refused m p) e t = absurd (refused-length {n = m} {p = p} (sym (t .answer ∙ rw e refl)))
 handed-by sheet out n out′ Accepted e t =
     let s : _≡_ {A = Written} (Length n) (Length (length (translation sheet))) = t .answer ∙ rw e refl in
@@ -64,7 +64,7 @@ withheld true n p m e = absurd (refused-length (sym e))
 withheld false n p m e = cc
 
 pub only-short : (sheet out : List ℕ) (n p : ℕ) (out′ : List ℕ) → Translates sheet out (Refused n p) out′ → sheetVerdict sheet ≡ Accepted → n ≡ shortOutput
-unfolding translationRefusal _andThen_
+unfolding translationAnswer translationRefusal _andThen_
 only-short sheet out n p out′ t a =
     withheld (leb (length (translation sheet)) (length out)) n p (length (translation sheet)) (sym (t .answer ∙ rw a refl))
 

@@ -7,13 +7,12 @@ use native.Mathlib.Omega.{arith}
 use lib.ListN.{length}
 use Rattle.definitions.specs.Numbers.{truncated, badAllowance, isRefusal}
 use Rattle.definitions.specs.Output.{outputOf}
-use Rattle.definitions.specs.Translate.{translation}
+use Rattle.definitions.specs.Translate.{translation, translationRefusal}
 use Rattle.definitions.specs.declared.Verdict.{Verdict}
 use Rattle.definitions.specs.declared.Verdict.the-variants.{Accepted, Refused}
 use Rattle.laws.proofs.Ranges.{within-by}
 use Rattle.laws.proofs.Verdicts.{both-accepted}
 use Rattle.readback.proofs.Size.{translation-limit}
-use Rattle.translator.specs.Promise.{translationRefusal}
 use Rattle.zifnora_c.specs.Codes.{code, codeOf, codeNumber, codeValue}
 use Rattle.zifnora_c.specs.Promise.{TranslatesC}
 use Rattle.demands.specs.Demands.{Handed}

@@ -1,18 +1,18 @@
 -- How calls are met: an answer, a stop or a numbered refusal; and what a run that is not refused gives.
 use mathlib.Core.Path.{_≡_, refl, sym, _∙_}
 use Prim.Native.Nat.{ℕ}
-use mathlib.Core.List.{List}
+use mathlib.Core.List.{List, []}
 use mathlib.Core.Bool.{Bool, true, false, _||_, true≢false}
 use lib.IntN.{ℤ}
 use lib.ListN.{length}
 use Rattle.definitions.specs.Output.{writtenOf, outputOf}
-use Rattle.definitions.specs.Translate.{translation}
+use Rattle.definitions.specs.Translate.{translation, translationRefusal, translationAnswer}
 use Rattle.definitions.specs.Run as Run
 use Rattle.definitions.specs.Run.{runVerdict, answerAfter, bytesAfter, ruleAnswer, runAnswer, runCells}
 use Rattle.definitions.specs.declared.Verdict.{Verdict}
 use Rattle.definitions.specs.declared.Verdict.the-variants as verdicts
 use Rattle.definitions.specs.declared.Verdict.the-variants.{Accepted}
-use Rattle.translator.specs.Promise.{translationRefusal, Translates}
+use Rattle.translator.specs.Promise.{Translates}
 use Rattle.definitions.specs.declared.Written.{Written}
 use Rattle.run.specs.Promise.{Runs}
 use Rattle.answer.specs.declared.Answer.{Answer}
@@ -24,15 +24,21 @@ use Rattle.demands.specs.Demands.{TranslatingMet, Met, RunExact}
 use Rattle.demands.proofs.Refusals.{NumberedIn, translating-numbered, running-numbered, joining-numbered}
 use Rattle.agreement.proofs.KnownEnds.{rule-known}
 
-translating-by : (sheet out : List ℕ) (r : Written) (out′ : List ℕ) (v : Verdict) → NumberedIn v → translationRefusal sheet (length out) ≡ v
-    → Translates sheet out r out′ → TranslatingMet sheet out r out′
-unfolding writtenOf outputOf
-translating-by sheet out r out′ Accepted k e t = Demands.TranslatingMet.translates (t .answer ∙ rw e refl)
-translating-by sheet out r out′ (verdicts.Refused n p) k e t = Demands.TranslatingMet.refuses n p (t .answer ∙ rw e refl) k (t .output ∙ rw e refl)
+-- the answer of translating into an output of `room` bytes, where a refusal leaves the output as it was
+translating-by : (sheet out : List ℕ) (room : ℕ) (r : Written) (out′ : List ℕ) (v : Verdict) → NumberedIn v → translationRefusal sheet room ≡ v
+    → r ≡ translationAnswer sheet room → ((n p : ℕ) → v ≡ verdicts.Refused n p → out′ ≡ out) → TranslatingMet sheet out r out′
+unfolding translationAnswer writtenOf
+translating-by sheet out room r out′ Accepted k e a u = Demands.TranslatingMet.translates (a ∙ rw e refl)
+translating-by sheet out room r out′ (verdicts.Refused n p) k e a u = Demands.TranslatingMet.refuses n p (a ∙ rw e refl) k (u n p refl)
 
 pub translating-met : (sheet out : List ℕ) (r : Written) (out′ : List ℕ) → Translates sheet out r out′ → TranslatingMet sheet out r out′
+unfolding outputOf
 translating-met sheet out r out′ t =
-    translating-by sheet out r out′ (translationRefusal sheet (length out)) (translating-numbered sheet (length out)) refl t
+    translating-by sheet out (length out) r out′ _ (translating-numbered sheet (length out)) refl (t .answer) (λ n p e. t .output ∙ rw e refl)
+
+-- and with no output lent
+pub length-met : (sheet : List ℕ) (room : ℕ) (r : Written) → r ≡ translationAnswer sheet room → TranslatingMet sheet [] r []
+length-met sheet room r e = translating-by sheet [] room r [] _ (translating-numbered sheet room) refl e (λ n p f. refl)
 
 -- the rule's answer is an answer or a stop
 rule-met : (a : Run.Answer) (untouched : Type 0) (x y : Bool) → isAnswer (a .outcome) ≡ x → isStop (a .outcome) ≡ y → (x || y) ≡ true → Met a untouched

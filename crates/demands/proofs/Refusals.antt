@@ -11,12 +11,12 @@ use Rattle.definitions.specs.Layouts.{due, nodes}
 use Rattle.definitions.specs.Shape.{shapeAt, shape, fileShape}
 use Rattle.definitions.specs.References.{references}
 use Rattle.definitions.specs.Checks.{arguments, tree, pattern, sheetVerdict, translationVerdict}
+use Rattle.definitions.specs.Translate.{translationRefusal}
 use Rattle.definitions.specs.Run.{runVerdict}
 use Rattle.definitions.specs.declared.Layout.{Layout}
 use Rattle.definitions.specs.declared.Layout.the-variants.{Sheet, Translation}
 use Rattle.definitions.specs.declared.Verdict.{Verdict}
 use Rattle.definitions.specs.declared.Verdict.the-variants.{Accepted, Refused}
-use Rattle.translator.specs.Promise.{translationRefusal}
 use Rattle.batch.specs.Promise.{rowsChecks, rowsVerdict}
 use Rattle.join.specs.Promise.{joinVerdict}
 

@@ -1,28 +1,34 @@
 -- The requests of document 02, each in its words, over what the public calls promise: `RunsRows` of `batch::run_rows`, `Translates` of
--- `translator::translate`, `Runs` of `run::run`, and for callers in C `RunsRowsC`, `TranslatesC` and `RunsC`.
-use mathlib.Core.Path.{_≡_, refl, ap, _∙_}
+-- `translator::translate`, `translationAnswer` of `translation_length::translated_length`, `Runs` of `run::run`, and for callers in C
+-- `RunsRowsC`, `TranslatesC`, `translationCode` and `RunsC`.
+use mathlib.Core.Path.{_≡_, refl, sym, ap, _∙_}
 use mathlib.Core.Logic.{_↔_}
-use Prim.Native.Nat.{ℕ, suc, _*_, _<_}
+use Prim.Native.Nat.{ℕ, suc, _*_, _≤_, _<_}
 use mathlib.Core.List.{List, [], _++_}
 use mathlib.Core.Bool.{true, false}
 use lib.IntN.{ℤ, _+ℤ_, _-ℤ_, _*ℤ_}
 use lib.ListN.{length, take, drop}
 use mir.Syntax.{w32}
+use borrow.Author.Tests.{le-leb, lt-leb}
 use Rattle.definitions.specs.Sizes.{answerSize}
-use Rattle.definitions.specs.Numbers.{overflow, isFault, isAnswer, isStop}
+use Rattle.definitions.specs.Numbers.{shortOutput, overflow, isFault, isAnswer, isStop}
+use Rattle.definitions.specs.Verdicts.{_andThen_, require}
+use Rattle.definitions.specs.Output.{writtenOf}
 use Rattle.definitions.specs.Ranges.{within}
 use Rattle.definitions.specs.Layouts.{readings}
 use Rattle.definitions.specs.OperatorCodes.{add, subtract, multiply}
 use Rattle.definitions.specs.Operators.{gives, faults, reduced, inSignedRange, product, computed}
 use Rattle.definitions.specs.Lists.{joined}
-use Rattle.definitions.specs.Checks.{translationVerdict}
+use Rattle.definitions.specs.Checks.{sheetVerdict, translationVerdict}
+use Rattle.definitions.specs.Translate.{translation, translationRefusal, translationAnswer}
 use Rattle.definitions.specs.Outcomes.{Outcome, endOutcome}
 use Rattle.definitions.specs.Run.{allowancesFit}
 use Rattle.definitions.specs.AnswerRecord.{answerBytes}
 use Rattle.definitions.specs.RunsInTurn.{rowOf}
+use Rattle.definitions.specs.declared.Verdict.the-variants as verdicts
 use Rattle.definitions.specs.declared.Verdict.the-variants.{Accepted}
 use Rattle.definitions.specs.declared.Written.{Written}
-use Rattle.definitions.specs.declared.Written.the-variants.{Length}
+use Rattle.definitions.specs.declared.Written.the-variants.{Length, Refused}
 use Rattle.agreement.specs.Meaning.{OwnAnswer}
 use Rattle.agreement.specs.Overflows.{SheetOverflows}
 use Rattle.agreement.specs.Answers.{RuleGives, answerOutcome}
@@ -35,10 +41,12 @@ use Rattle.run.specs.Promise.{Runs}
 use Rattle.batch.specs.Promise.{RunsRows}
 use Rattle.zifnora_c.specs.Codes.{codeNumber, codeValue}
 use Rattle.zifnora_c.specs.Records.{recorded}
-use Rattle.zifnora_c.specs.Promise.{TranslatesC, RunsC, RunsRowsC}
+use Rattle.zifnora_c.specs.Promise.{translationCode, TranslatesC, RunsC, RunsRowsC}
+use Rattle.demands.specs.Demands.{TranslatingMet}
 use Rattle.demands.specs.InC.{SignedReadings}
 use Rattle.demands.specs.Rows.{rowRecorded, RowsMet, RowsMetInC, RowExact}
 use Rattle.demands.proofs.Refusals.{batch-numbered}
+use Rattle.demands.proofs.Meeting.{length-met}
 use Rattle.demands.proofs.Handing.{handed}
 use Rattle.demands.proofs.HandingInC.{handed-in-C}
 use Rattle.demands.proofs.RunningRows.{row-exact}
@@ -167,3 +175,35 @@ module _ (sheet out : List ℕ) (code : ℕ) (out′ : List ℕ) (translated : T
   request-2-run-in-C steps nesting cellsAllowed before room code′ after room′ run recording h =
       request-2-answer sheet rs _
       (demand-3-own-in-C sheet out code out′ translated not-refused rs steps nesting cellsAllowed before room code′ after room′ run recording signed h)
+
+-- Request 3. "It wants to hear what translating would answer, length or refusal with place, for a stated buffer length, with no buffer lent."
+-- `translation_length::translated_length` promises `translationAnswer`
+module _ (sheet : List ℕ) (room : ℕ) (r : Written) (asked : r ≡ translationAnswer sheet room) where
+  -- "The answer equals that of translating into a buffer so long.": of every sheet and every length
+  pub request-3-equal : (out : List ℕ) → length out ≡ room → (t : Written) (out′ : List ℕ) → Translates sheet out t out′ → r ≡ t
+  request-3-equal out long t out′ translated = asked ∙ rw (← long) (sym (translated .answer))
+
+  -- demand 1 for this call: the length, or a numbered refusal; nothing is lent
+  pub request-3-met : TranslatingMet sheet [] r []
+  request-3-met = length-met sheet room r asked
+
+  -- the reader's refusal, with its place, whatever the length
+  pub request-3-refused : {n p : ℕ} → sheetVerdict sheet ≡ verdicts.Refused n p → r ≡ Refused n p
+  unfolding translationAnswer translationRefusal _andThen_ writtenOf
+  request-3-refused v = asked ∙ rw v refl
+
+  module _ (accepted : sheetVerdict sheet ≡ Accepted) where
+    -- the length for every buffer from it on, however long, also where no buffer is so long
+    pub request-3-length : length (translation sheet) ≤ room → r ≡ Length (length (translation sheet))
+    unfolding translationAnswer translationRefusal _andThen_ require writtenOf
+    request-3-length h = asked ∙ rw (accepted, le-leb (length (translation sheet)) room h) refl
+
+    -- and 8, place 0, for every shorter one, 0 included
+    pub request-3-short : room < length (translation sheet) → r ≡ Refused shortOutput 0
+    unfolding translationAnswer translationRefusal _andThen_ require writtenOf
+    request-3-short h = asked ∙ rw (accepted, lt-leb (length (translation sheet)) room h) refl
+
+-- and for a caller in C
+pub request-3-equal-in-C : (sheet : List ℕ) (room code : ℕ) → code ≡ translationCode sheet room
+    → (out : List ℕ) → length out ≡ room → (code′ : ℕ) (out′ : List ℕ) → TranslatesC sheet out code′ out′ → code ≡ code′
+request-3-equal-in-C sheet room code asked out long code′ out′ translated = asked ∙ rw (← long) (sym (translated .answer))

@@ -8,7 +8,7 @@ use Rattle.definitions.specs.Sizes.{mostRecords}
 use Rattle.definitions.specs.SheetKinds
 use Rattle.definitions.specs.TranslationKinds
 use Rattle.definitions.specs.Records.{recordAt, recordOf, kindOf, field}
-use Rattle.definitions.specs.Layouts.{due}
+use Rattle.definitions.specs.Layouts.{due, nodes, firstNode, nodeRecord}
 use Rattle.definitions.specs.declared.Layout.{Layout}
 use Rattle.definitions.specs.declared.Layout.the-variants.{Sheet, Translation}
 use Rattle.laws.proofs.Names.{sheet-kind, translation-kind}
@@ -58,6 +58,11 @@ fewer b starts n m h i = record { entry = λ r k. i .entry r (omega arith); room
 -- the kind of a record that an opened file's index reaches
 pub opened-record : (y : Layout) (b starts : List ℕ) (r : ℕ) (rec : List ℕ) → Opened y b starts → r < due b → rec ≡ recordAt b (startIn starts r) → rec ≡ recordOf b r
 opened-record y b starts r rec o h e = indexed-record b starts (due b) r rec (o .index) h e
+
+-- the record of node k, as an index reaches it
+pub node-reached : (y : Layout) (b starts : List ℕ) (k first : ℕ) (rec : List ℕ) → Opened y b starts → k < nodes b → first ≡ firstNode b
+    → rec ≡ recordAt b (startIn starts (first + k)) → rec ≡ nodeRecord b k
+node-reached y b starts k first rec o h e f = opened-record y b starts (first + k) rec o (omega (arith, h, e)) f ∙ rw e refl
 
 pub opened-translation-kind : {b starts : List ℕ} {r : ℕ} {rec : List ℕ} → Opened Translation b starts → r < due b
     → rec ≡ recordAt b (startIn starts r) → TranslationKinds.head ≤ kindOf rec

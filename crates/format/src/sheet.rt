@@ -50,7 +50,7 @@ fn checks(b: &[u8], starts: &Starts, ends: &Ends, owners: &Owners) -> Verdict
 
 // Reads a sheet into tables that the caller lends: where its records start, where the runs of its functions end, and which
 // function owns each node. Of a refused file only the verdict counts.
-fn fill_sheet(b: &[u8], starts: &mut Starts, ends: &mut Ends, owners: &mut Owners) -> Verdict
+pub fn fill_sheet(b: &[u8], starts: &mut Starts, ends: &mut Ends, owners: &mut Owners) -> Verdict
     requires { ⌜ LentSheetTables (now starts) (now ends) (now owners) ⌝ }
     ensures { λ v. ⌜ ReadSheet (now (b .entry)) v (now (starts .exit)) (now (ends .exit)) (now (owners .exit)) ⌝ }
 {

@@ -1,18 +1,16 @@
 // Translating a sheet and running it, in one call.
 ghost use mathlib.Core.Path.{_≡_};
 ghost use lib.ListN.{length};
-ghost use Rattle.definitions.specs.Checks.{sheetVerdict};
-ghost use Rattle.definitions.specs.Translate.{translation};
-ghost use Rattle.definitions.specs.declared.Verdict.the-variants.{Accepted};
+ghost use Rattle.join.specs.Fitting.{Fits};
 ghost use Rattle.join.specs.Promise.{Joins};
 use allowances::allowed;
 use answer::Answer;
 use answer::refused;
 use definitions::Written;
 use definitions::numbers;
-use definitions::sizes::TRANSLATION_BYTES;
 use file_layout::layout;
 use run::run;
+use translation_length::translated_length;
 use translator::translate;
 use widths::wide;
 
@@ -30,12 +28,11 @@ pub fn translate_and_run(
     ensures { λ r. ⌜ Joins (now (sheet .entry)) (now (out .entry)) (now (readings .entry)) steps nesting «cells_allowed» (now (now (cells .entry))) r (now (out .exit)) (now (now (cells .exit)))
         × (now (cells .exit) .ptr ≡ now (cells .entry) .ptr) ⌝ }
 {
-    let mut own = [0u8; TRANSLATION_BYTES];
-    let translated = translate(sheet, &mut own);
-    match translated {
+    let expected = translated_length(sheet, out.len());
+    match expected {
         Written::Refused { number, place } => refused(number, place),
         Written::Length(size) => {
-            run_accepted(
+            run_translated(
                 sheet,
                 size,
                 out,
@@ -49,8 +46,8 @@ pub fn translate_and_run(
     }
 }
 
-// The same of an accepted sheet, whose translation has a known length.
-fn run_accepted(
+// The same of an accepted sheet, whose translation has this length and fits.
+fn run_translated(
     sheet: &[u8],
     size: usize,
     out: &mut [u8],
@@ -60,13 +57,10 @@ fn run_accepted(
     cells_allowed: u32,
     cells: &mut &mut [u8],
 ) -> Answer
-    requires { ⌜ (sheetVerdict (now sheet) ≡ Accepted) × (size ≡ length (translation (now sheet))) ⌝ }
+    requires { ⌜ Fits (now sheet) (length (now out)) size ⌝ }
     ensures { λ r. ⌜ Joins (now (sheet .entry)) (now (out .entry)) (now (readings .entry)) steps nesting «cells_allowed» (now (now (cells .entry))) r (now (out .exit)) (now (now (cells .exit)))
         × (now (cells .exit) .ptr ≡ now (cells .entry) .ptr) ⌝ }
 {
-    if out.len() < size {
-        return refused(numbers::SHORT_OUTPUT, 0);
-    }
     if readings.len() != wide(layout::readings(sheet)) {
         return refused(numbers::BAD_READINGS, 0);
     }

@@ -2,13 +2,14 @@
 -- word more than in the sheet, its arguments counted where the formals list them, and a pattern variable a word more too;
 -- each formal costs two words, and the rest no more than in the sheet.
 use mathlib.Core.Path.{_≡_, refl, _∙_}
-use Prim.Native.Nat.{ℕ, _+_, _*_, _-_, _≤_, _<_}
+use Prim.Native.Nat.{ℕ, _+_, _*_, _-_, _/_, _≤_, _<_}
 use mathlib.Core.List.{List, [], _∷_, _++_}
-use mathlib.Core.Bool.{true, false, cond, _&&_}
+use mathlib.Core.Bool.{Bool, true, false, cond, _&&_, _||_}
 use native.Mathlib.Omega.{arith}
 use native.Mathlib.Nat.{mul-add}
 use lib.ListN.{length, length-append}
 use lib.Dec.{eqb}
+use borrow.Author.Tests.{eqb-true}
 use Rattle.definitions.specs.Bytes.{words32}
 use Rattle.definitions.specs.Records.{recordOf, kindOf, field, fieldCount}
 use Rattle.definitions.specs.SheetKinds
@@ -54,46 +55,72 @@ pub call-arguments : (m : ℕ) (p : ℕ → ℕ) (rec : List ℕ) → eqb (kindO
     → sumOf m (λ f. cond (eqb (kindOf rec) SheetKinds.call && eqb (field rec 0) f) (p f) 0) ≤ p (field rec 0)
 call-arguments m p rec e = rw e (sum-chosen m (field rec 0) p)
 
--- with them a node's translation has at most one field more than the node
-module _ (b : List ℕ) (k : ℕ) where
-  abbrev arguments : List ℕ → ℕ
-  arguments rec = sumOf (functions b) (λ f. cond (eqb (kindOf rec) SheetKinds.call && eqb (field rec 0) f) (parameters b f) 0)
+-- whether a node's translation has two fields, whatever the node has: a call's are label and function, a pattern variable's scrutinee and index
+abbrev pub twoFields : List ℕ → Bool
+twoFields rec = eqb (kindOf rec) SheetKinds.call || eqb (kindOf rec) SheetKinds.patternVariable
 
-  node-fields : (rec : List ℕ) {nd : SheetNode} → SheetRecord rec nd
-      → (kindOf rec ≡ SheetKinds.call → fieldCount rec - 1 ≡ parameters b (field rec 0))
-      → length (translatedFields b k nd) + arguments rec ≤ fieldCount rec + 1
+module _ (b : List ℕ) (k : ℕ) where
+  -- another node keeps its number of fields, and no node is without
+  record Fields (rec : List ℕ) (nd : SheetNode) : Type 0 where
+    pub translated : length (translatedFields b k nd) ≡ cond (twoFields rec) 2 (fieldCount rec)
+    pub some : 1 ≤ fieldCount rec
+
+  fields-of : (rec : List ℕ) {nd : SheetNode} → SheetRecord rec nd → Fields rec nd
   unfolding translatedFields words32 fieldsFrom clauseList
-  node-fields rec (is-number e c) p = omega (arith, c, no-arguments (functions b) (parameters b) rec (rw e refl))
-  node-fields rec (is-reading e c) p = omega (arith, c, no-arguments (functions b) (parameters b) rec (rw e refl))
-  node-fields rec (is-parameter e c) p = omega (arith, c, no-arguments (functions b) (parameters b) rec (rw e refl))
-  node-fields rec (is-patternVariable e c) p = omega (arith, c, no-arguments (functions b) (parameters b) rec (rw e refl))
-  node-fields rec (is-operator e c) p = omega (arith, c, no-arguments (functions b) (parameters b) rec (rw e refl))
-  node-fields rec (is-conditional e c) p = omega (arith, c, no-arguments (functions b) (parameters b) rec (rw e refl))
-  node-fields rec (is-call e l g) p = omega (arith, l, p e, call-arguments (functions b) (parameters b) rec (rw e refl))
-  node-fields rec (is-build e l g) p =
-      omega (arith, l, no-arguments (functions b) (parameters b) rec (rw e refl), listed-length (fieldCount rec - 1) (λ i. field rec (1 + i)))
-  node-fields rec (is-case e c l g) p =
-      omega (
-        arith,
-        c,
-        no-arguments (functions b) (parameters b) rec (rw e refl),
-        clause-words (clauseList rec),
-        listed-length {A = Clause} (clauses rec) (λ j. record { constructor = clauseConstructor rec j; node = field rec (2 + 2 * j) }),
-      )
+  fields-of rec (is-number e c) = record { translated = rw (e, c) refl; some = omega (arith, c) }
+  fields-of rec (is-reading e c) = record { translated = rw (e, c) refl; some = omega (arith, c) }
+  fields-of rec (is-parameter e c) = record { translated = rw (e, c) refl; some = omega (arith, c) }
+  fields-of rec (is-patternVariable e c) = record { translated = rw e refl; some = omega (arith, c) }
+  fields-of rec (is-operator e c) = record { translated = rw (e, c) refl; some = omega (arith, c) }
+  fields-of rec (is-conditional e c) = record { translated = rw (e, c) refl; some = omega (arith, c) }
+  fields-of rec (is-call e l g) = record { translated = rw e refl; some = omega (arith, l) }
+  fields-of rec (is-build e l g) =
+      record { translated = rw e (omega (arith, l, listed-length (fieldCount rec - 1) (λ i. field rec (1 + i)))); some = omega (arith, l) }
+  fields-of rec (is-case e c l g) =
+      let n = listed-length {A = Clause} (clauses rec) (λ j. record { constructor = clauseConstructor rec j; node = field rec (2 + 2 * j) }) in
+      record { translated = rw e (omega (arith, c, clause-words (clauseList rec), n)); some = omega (arith, c) }
+
+  -- with the arguments of a call a node's translation has at most one field more than the node
+  module _ (rec : List ℕ) where
+    abbrev arguments : ℕ
+    arguments = sumOf (functions b) (λ f. cond (eqb (kindOf rec) SheetKinds.call && eqb (field rec 0) f) (parameters b f) 0)
+
+    one-more : (x y : Bool) → eqb (kindOf rec) SheetKinds.call ≡ x → eqb (kindOf rec) SheetKinds.patternVariable ≡ y → 1 ≤ fieldCount rec
+        → (kindOf rec ≡ SheetKinds.call → fieldCount rec - 1 ≡ parameters b (field rec 0)) → cond (x || y) 2 (fieldCount rec) + arguments ≤ fieldCount rec + 1
+    one-more true y e f l p = omega (arith, l, p (eqb-true (kindOf rec) SheetKinds.call e), call-arguments (functions b) (parameters b) rec e)
+    one-more false true e f l p = omega (arith, l, no-arguments (functions b) (parameters b) rec e)
+    one-more false false e f l p = omega (arith, no-arguments (functions b) (parameters b) rec e)
+
+    node-fields : {nd : SheetNode} → SheetRecord rec nd → (kindOf rec ≡ SheetKinds.call → fieldCount rec - 1 ≡ parameters b (field rec 0))
+        → length (translatedFields b k nd) + arguments ≤ fieldCount rec + 1
+    node-fields s p = let w = fields-of rec s in omega (arith, w .translated, one-more _ _ refl refl (w .some) p)
 
 module _ (b : List ℕ) (accepted : sheetVerdict b ≡ Accepted) where
+  words-of-fields : (k : ℕ) → length (nodeWords b k) ≡ 2 + length (translatedFields b k (sheetNodeOf b k))
+  words-of-fields k =
+      let nd = sheetNodeOf b k in
+      rw (node-words b k) (words-length (translatedKind nd) (translatedFields b k nd))
+
   node-size : (k : ℕ) → k < nodes b → (length (nodeWords b k) + listedArguments b k) * 2 ≤ length (nodeRecord b k) + 2
   unfolding calls
   node-size k h =
       let s = sheet-shape b accepted in
-      let nd = sheetNodeOf b k in
-      let w : length (nodeWords b k) ≡ 2 + length (translatedFields b k nd) = rw (node-words b k) (words-length (translatedKind nd) (translatedFields b k nd)) in
       omega (
         arith,
-        w,
+        words-of-fields k,
         record-fields Sheet b s (firstNode b + k) (omega arith),
         node-fields b k (nodeRecord b k) (node-record b s k h) (call-fields b accepted k h),
       )
+
+  -- exactly, by its record
+  halved : (t : Bool) (n : ℕ) {m : ℕ} → m ≡ 4 + 2 * n → 2 + cond t 2 n ≡ cond t 4 (m / 2)
+  halved true n e = refl
+  halved false n e = omega (arith, e)
+
+  pub node-length : (k : ℕ) → k < nodes b → length (nodeWords b k) ≡ cond (twoFields (nodeRecord b k)) 4 (length (nodeRecord b k) / 2)
+  node-length k h =
+      let s = sheet-shape b accepted in
+      words-of-fields k ∙ rw (fields-of b k (nodeRecord b k) (node-record b s k h) .translated) (halved (twoFields (nodeRecord b k)) _ (record-fields Sheet b s (firstNode b + k) (omega arith)))
 
   nodes-size : 2 * (sumOf (nodes b) (λ k. length (nodeWords b k)) + sumOf (nodes b) (listedArguments b))
       ≤ sumOf (nodes b) (λ k. length (nodeRecord b k)) + nodes b * 2
@@ -106,7 +133,7 @@ module _ (b : List ℕ) (accepted : sheetVerdict b ≡ Accepted) where
       omega (arith, x, y, z, u, sum-constant n 2)
 
   -- the formals cost two words each, and a word for each argument of a call
-  formal-size : (f : ℕ) → length (formalWords b f) ≡ parameters b f * 2 + parameters b f * countOf (nodes b) (calls b f)
+  pub formal-size : (f : ℕ) → length (formalWords b f) ≡ parameters b f * 2 + parameters b f * countOf (nodes b) (calls b f)
   unfolding formalWords
   formal-size f =
       let c = countOf (nodes b) (calls b f) in
@@ -132,8 +159,8 @@ module _ (b : List ℕ) (accepted : sheetVerdict b ≡ Accepted) where
       sum-same (functions b) (λ f. length (functionWords b f)) (λ f. 3) (λ f h. words-length TranslationKinds.function (nodeCount Sheet b f ∷ []))
       ∙ sum-constant (functions b) 3
 
-  words-size : length (translationWords b)
-      ≡ 6 + functions b * 3 + (2 * formals b + sumOf (nodes b) (listedArguments b)) + sumOf (nodes b) (λ k. length (nodeWords b k))
+  pub words-size : length (translationWords b)
+      ≡ 6 + functions b * 3 + sumOf (functions b) (λ f. length (formalWords b f)) + sumOf (nodes b) (λ k. length (nodeWords b k))
   unfolding translationWords headWords
   words-size =
       let h = headWords b in
@@ -142,7 +169,7 @@ module _ (b : List ℕ) (accepted : sheetVerdict b ≡ Accepted) where
       let ns = joined (nodes b) (nodeWords b) in
       let w = words-length TranslationKinds.head (readings b ∷ formals b ∷ functions b ∷ nodes b ∷ []) in
       let x = joined-length (functionWords b) (functions b) ∙ functions-size in
-      let y = joined-length (formalWords b) (functions b) ∙ formals-size in
+      let y = joined-length (formalWords b) (functions b) in
       let z = joined-length (nodeWords b) (nodes b) in
       let u = length-append h fs in
       let v = length-append (h ++ fs) ps in
@@ -170,7 +197,7 @@ module _ (b : List ℕ) (accepted : sheetVerdict b ≡ Accepted) where
   translation-length = bytes-length (translationWords b)
 
   pub translation-growth : length (translation b) ≤ length b + 4 * formals b + 2 * nodes b
-  translation-growth = omega (arith, translation-length, words-size, nodes-size, sheet-size)
+  translation-growth = omega (arith, translation-length, words-size, formals-size, nodes-size, sheet-size)
 
   -- so it is never oversize
   pub translation-limit : length (translation b) ≤ 36864

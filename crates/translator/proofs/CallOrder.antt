@@ -24,8 +24,9 @@ use Rattle.accepted.proofs.Head.{nodes-limit}
 use Rattle.readback.proofs.Picked.{picked-tabled}
 use Rattle.readback.proofs.Totals.{count-weighed}
 use Rattle.readback.proofs.Size.{no-arguments, call-arguments}
-use Rattle.translator.specs.Tables.{Counts, callCount, firstCall, CallOrder, Placing}
-use Rattle.translator.proofs.CallLabels.{calls-same, CallOf}
+use Rattle.call_labels.specs.Tables.{Counts, callCount}
+use Rattle.call_labels.proofs.CallLabels.{calls-same, CallOf}
+use Rattle.translator.specs.Tables.{firstCall, CallOrder, Placing}
 
 -- the calls are no more than the nodes
 module _ (b : List ℕ) where

@@ -47,7 +47,8 @@ unfolding
     Translate.recordWords Translate.calls Translate.labelOf Translate.formalOf Translate.formals Translate.actuals
     Translate.translated Translate.headWords Translate.functionWords Translate.formalWords Translate.nodeWords
     Translate.translationWords Translate.translation
-    Output.writtenOf Output.outputOf Promise.translationRefusal
+    Translate.translationRefusal Translate.translationAnswer
+    Output.writtenOf Output.outputOf
 opened = tt
 
 unfoldable pub sheet : List ℕ

@@ -16,11 +16,11 @@ use Rattle.laws.proofs.Lists.{sum-more}
 use Rattle.accepted.proofs.Head.{nodes-limit}
 use Rattle.readback.proofs.Picked.{picked-length}
 use Rattle.file_records.specs.Index.{Opened, startIn}
-use Rattle.file_records.proofs.Indices.{indexed-field}
+use Rattle.file_records.proofs.Indices.{indexed-field, node-reached}
 use Rattle.translation_words.specs.Writing.{WroteWords}
-use Rattle.translator.specs.Tables.{Sums, callCount, firstCall, FormalAt}
+use Rattle.call_labels.specs.Tables.{callCount}
+use Rattle.translator.specs.Tables.{Sums, firstCall, FormalAt}
 use Rattle.translation_words.proofs.Writing.{wrote-then, wrote-record}
-use Rattle.translator.proofs.SheetTables.{node-reached}
 use Rattle.translator.proofs.CallOrder.{place-within, ordered-node, ordered-actuals}
 
 -- the argument at position i of the call in a place
@@ -51,7 +51,7 @@ module _ {b starts firsts order : List ℕ} {f i x y : ℕ} (w : FormalAt b star
   argument-read {j} {first} {node} {rec} h p q r s t =
       let n : node ≡ getD order (firstCall b f + j) 0 = q ∙ ap (λ (m : ℕ). getD order (m + j) 0) first-is in
       let l : node < nodes b = omega (arith, n, ordered-node b order (w .tables .ordered) f j (omega (arith, count-is, h))) in
-      rw (t, s, node-reached b starts node first rec (w .tables .file) l p r, q) refl
+      rw (t, s, node-reached Sheet b starts node first rec (w .tables .file) l p r, q) refl
 
   -- all of them
   pub actuals-are : joined (y - x) (λ j. argumentOf b order i (x + j)) ≡ actuals b f i

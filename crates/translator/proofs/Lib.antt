@@ -1,5 +1,4 @@
 pub mod SheetTables
-pub mod CallLabels
 pub mod CallOrder
 pub mod FormalSteps
 pub mod NodeSteps

@@ -21,11 +21,11 @@ use Rattle.accepted.proofs.Head.{nodes-limit}
 use Rattle.accepted.proofs.SheetRecords.{SheetRecord, is-number, is-reading, is-parameter, is-patternVariable, is-operator, is-conditional, is-call, is-build, is-case, node-record}
 use Rattle.operators.proofs.Residues.{residue-read}
 use Rattle.file_records.specs.Index.{startIn}
+use Rattle.file_records.proofs.Indices.{node-reached}
+use Rattle.call_labels.proofs.CallLabels.{calls-named}
 use Rattle.translation_words.specs.Writing.{fieldWords}
 use Rattle.translator.specs.Tables.{NodeTables, NodeRead, OwnerFormals}
 use Rattle.translation_words.proofs.Writing.{fields-listed}
-use Rattle.translator.proofs.SheetTables.{node-reached}
-use Rattle.translator.proofs.CallLabels.{calls-named}
 
 -- a number that was read is written as its two fields
 number-fields : (rec : List ℕ) (x y : ℕ) → x ≡ field rec 0 → y ≡ field rec 1 → x < 65536 → y < 65536 → words32 (residue w32 (signed rec 4)) ≡ x ∷ y ∷ []
@@ -150,5 +150,5 @@ node-read {b} {starts} {k} {first} {rec} w h e f =
       tables = w;
       below = h;
       narrow = omega (arith, h, nodes-limit Sheet b (w .read .sheet .file .accepted));
-      there = node-reached b starts k first rec (w .read .sheet .file) h e f;
+      there = node-reached Sheet b starts k first rec (w .read .sheet .file) h e f;
     }

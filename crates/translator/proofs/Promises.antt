@@ -14,14 +14,15 @@ use Rattle.definitions.specs.Sizes.{translationBytes}
 use Rattle.definitions.specs.Numbers.{shortOutput}
 use Rattle.definitions.specs.Verdicts.{require}
 use Rattle.definitions.specs.Checks.{sheetVerdict}
-use Rattle.definitions.specs.Translate.{translationWords, translation}
+use Rattle.definitions.specs.Translate.{translationWords, translation, translationRefusal, translationAnswer}
 use Rattle.definitions.specs.declared.Verdict.{Verdict}
 use Rattle.definitions.specs.declared.Verdict.the-variants.{Accepted, Refused}
 use Rattle.laws.proofs.Verdicts.{then-accepted, then-refused}
-use Rattle.accepted.proofs.Checks.{sheet-shape}
 use Rattle.readback.proofs.Size.{translation-length, translation-limit}
 use Rattle.format.specs.Readers.{ReadSheet}
-use Rattle.translator.specs.Promise.{translationRefusal, Translates}
+use Rattle.call_labels.proofs.CallLabels as CallLabels
+use Rattle.translation_length.proofs.WordCounts as WordCounts
+use Rattle.translator.specs.Promise.{Translates}
 use Rattle.translation_words.specs.Writing.{WroteWords}
 use Rattle.translator.specs.Tables.{ReadTables}
 use Rattle.definitions.specs.declared.Written.the-variants as answers
@@ -29,20 +30,18 @@ use Rattle.definitions.specs.declared.Written.the-variants as answers
 -- the reader's refusal
 pub reader-refuses : {b out starts ends owners : List ℕ} {v : Verdict} {n p : ℕ} → ReadSheet b v starts ends owners → v ≡ Refused n p
     → Translates b out (answers.Refused n p) out
-unfolding translationRefusal writtenOf outputOf
-reader-refuses {b} {n} {p} w e =
-    let r : sheetVerdict b ≡ Refused n p = sym (w .verdict) ∙ e in
-    record { answer = rw (then-refused (sheetVerdict b) _ n p r) refl; output = rw (then-refused (sheetVerdict b) _ n p r) refl }
+unfolding translationRefusal outputOf
+reader-refuses {b} {out} {n} {p} w e =
+    record { answer = WordCounts.reader-refuses (length out) w e; output = rw (then-refused (sheetVerdict b) _ n p (sym (w .verdict) ∙ e)) refl }
 
 -- the tables of an accepted sheet
 pub reader-accepts : {b starts ends owners : List ℕ} {v : Verdict} → ReadSheet b v starts ends owners → v ≡ Accepted → ReadTables b starts ends owners
-reader-accepts {b} w e =
-    let a : sheetVerdict b ≡ Accepted = sym (w .verdict) ∙ e in
-    record {
-      sheet = record { accepted = a; file = record { accepted = sheet-shape b a; index = w .index e } };
-      runs = w .runs e;
-      owned = w .owned e;
-    }
+reader-accepts w e =
+    record { sheet = CallLabels.reader-accepts w e; runs = w .runs e; owned = w .owned e }
+
+-- a length that is counted
+pub counted-fits : {n m : ℕ} (room : ℕ) → n ≡ m → leb n room ≡ leb m room
+counted-fits room e = ap (λ (n : ℕ). leb n room) e
 
 -- an accepted sheet: the length that the writer answers, and the output that it leaves
 module _ (b : List ℕ) (accepted : sheetVerdict b ≡ Accepted) where
@@ -55,22 +54,19 @@ module _ (b : List ℕ) (accepted : sheetVerdict b ≡ Accepted) where
   pub greatest-fits : (room : ℕ) → translationBytes ≤ room → true ≡ leb (length (translation b)) room
   greatest-fits room h = sym (le-leb (length (translation b)) room (omega (arith, h, counted, translation-length b accepted)))
 
-  pub length-fits : {o : List ℕ} {n : ℕ} {p : List ℕ} (room : ℕ) → WroteWords o 0 (translationWords b) n p → leb n room ≡ leb (length (translation b)) room
-  length-fits {o} {n} {p} room v = ap (λ (m : ℕ). leb m room) (length-answered o n p v)
-
   refusal-by : (out : List ℕ) (t : Bool) → t ≡ leb (length (translation b)) (length out) → translationRefusal b (length out) ≡ require t shortOutput 0
   unfolding translationRefusal
   refusal-by out t e = then-accepted (sheetVerdict b) _ accepted ∙ rw (← e) refl
 
   pub output-short : (out : List ℕ) (t : Bool) → t ≡ leb (length (translation b)) (length out) → t ≡ false → Translates b out (answers.Refused shortOutput 0) out
-  unfolding writtenOf outputOf require
+  unfolding translationAnswer writtenOf outputOf require
   output-short out t e f =
       let r : translationRefusal b (length out) ≡ Refused shortOutput 0 = refusal-by out t e ∙ rw f refl in
       record { answer = rw r refl; output = rw r refl }
 
   pub output-written : {out : List ℕ} {t : Bool} {n : ℕ} {o : List ℕ} → t ≡ leb (length (translation b)) (length out) → t ≡ true → WroteWords out 0 (translationWords b) n o
       → Translates b out (answers.Length n) o
-  unfolding writtenOf outputOf require translation
+  unfolding translationAnswer writtenOf outputOf require translation
   output-written {out} {t} {n} {o} e f v =
       let r : translationRefusal b (length out) ≡ Accepted = refusal-by out t e ∙ rw f refl in
       let k : 0 + length (translation b) ≤ length out = omega (arith, leb-true (length (translation b)) (length out) (sym e ∙ f)) in

@@ -7,7 +7,7 @@ use lib.ListN.{length, getD, set, length-set}
 use Rattle.definitions.specs.Sizes.{mostFunctions, mostNodes, mostFormals, mostFields}
 use Rattle.definitions.specs.Records.{recordAt, field}
 use Rattle.definitions.specs.Lists.{sumOf}
-use Rattle.definitions.specs.Layouts.{functions, nodes, firstFunction, firstNode, nodeRecord, ownerOf, bodyOf}
+use Rattle.definitions.specs.Layouts.{functions, nodes, firstFunction, firstNode, ownerOf, bodyOf}
 use Rattle.definitions.specs.References.{parameters}
 use Rattle.definitions.specs.Translate.{formalOf, scrutineeOf}
 use Rattle.definitions.specs.declared.Layout.the-variants.{Sheet}
@@ -17,15 +17,10 @@ use Rattle.accepted.proofs.Head.{nodes-limit, functions-limit}
 use Rattle.accepted.proofs.Sections.{parameters-limit}
 use Rattle.accepted.proofs.Owners.{owner-below, body-before-end, body-below}
 use Rattle.file_records.specs.Index.{Opened, startIn}
-use Rattle.file_records.proofs.Indices.{opened-record}
+use Rattle.file_records.proofs.Indices.{node-reached}
 use Rattle.format.proofs.RunTables.{entry-more}
 use Rattle.format.proofs.SheetTables.{opened-parameters}
 use Rattle.translator.specs.Tables.{Sums, ReadTables, OwnerFormals}
-
--- the record of node k, as an index reaches it
-pub node-reached : (b starts : List ℕ) (k first : ℕ) (rec : List ℕ) → Opened Sheet b starts → k < nodes b → first ≡ firstNode b
-    → rec ≡ recordAt b (startIn starts (first + k)) → rec ≡ nodeRecord b k
-node-reached b starts k first rec o h e f = opened-record Sheet b starts (first + k) rec o (omega (arith, h, e)) f ∙ rw e refl
 
 -- a parameter count, of a function that the index shows
 module _ {b starts : List ℕ} {f count x : ℕ} (o : Opened Sheet b starts) (h : f < count) (e : count ≡ functions b)
@@ -123,4 +118,4 @@ module _ {b starts ends owners : List ℕ} {k : ℕ} (w : ReadTables b starts en
   unfolding scrutineeOf
   scrutinee-read {x} {y} {first} {rec} e f g p q =
       let n : y - 1 ≡ bodyOf Sheet b (ownerOf Sheet b k) = omega (arith, scrutinee-end x y e f) in
-      q ∙ rw (node-reached b starts (y - 1) first rec (w .sheet .file) (omega (arith, n, body-below Sheet b (w .sheet .file .accepted) (ownerOf Sheet b k) owner-few)) g p, n) refl
+      q ∙ rw (node-reached Sheet b starts (y - 1) first rec (w .sheet .file) (omega (arith, n, body-below Sheet b (w .sheet .file .accepted) (ownerOf Sheet b k) owner-few)) g p, n) refl

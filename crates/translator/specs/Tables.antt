@@ -1,45 +1,27 @@
--- The translator's tables of an accepted sheet (document 01, "Translation"): the label of each call, the calls in order, and
+-- The translator's tables of an accepted sheet (document 01, "Translation"), beside those of `call_labels`: the calls in order, and
 -- the first formal of each function.
 use mathlib.Core.Path.{_≡_}
 use Prim.Native.Nat.{ℕ, _+_, _≤_, _<_}
 use mathlib.Core.List.{List}
 use mathlib.Core.Bool.{true}
-use lib.ListN.{length, getD, set}
+use lib.ListN.{length, getD}
 use Rattle.definitions.specs.Sizes.{mostFunctions, mostNodes}
-use Rattle.definitions.specs.Lists.{sumOf, countOf}
+use Rattle.definitions.specs.Lists.{sumOf}
 use Rattle.definitions.specs.Layouts.{functions, nodes, nodeRecord}
 use Rattle.definitions.specs.References.{parameters}
 use Rattle.definitions.specs.Shape.{fileShape}
-use Rattle.definitions.specs.Checks.{sheetVerdict}
 use Rattle.definitions.specs.Translate.{calls, labelOf}
 use Rattle.definitions.specs.declared.Layout.the-variants.{Sheet}
 use Rattle.definitions.specs.declared.Verdict.the-variants.{Accepted}
 use Rattle.file_records.specs.Index.{Opened}
 use Rattle.format.specs.Readers.{RunEndTable, Owners}
-
--- "Calls of one function are labelled 0, 1, .. in node order": of the first n nodes, entry k is the label of the call k
-pub record Labels (b labels : List ℕ) (n : ℕ) : Type 0 where
-  pub size : length labels ≡ mostNodes
-  pub entry : (f k : ℕ) → k < n → calls b f k ≡ true → getD labels k 0 ≡ labelOf b f k
-
--- entry f is the number of calls of function f among the first n nodes
-pub record Counts (b counts : List ℕ) (n : ℕ) : Type 0 where
-  pub size : length counts ≡ mostFunctions
-  pub entry : (f : ℕ) → f < functions b → getD counts f 0 ≡ countOf n (calls b f)
-
--- call k of function f labelled: its label is the count of that function, which is then one more
-pub record LabelledOne (f k : ℕ) (labels counts labels′ counts′ : List ℕ) : Type 0 where
-  pub label : labels′ ≡ set labels k (getD counts f 0)
-  pub count : counts′ ≡ set counts f (getD counts f 0 + 1)
+use Rattle.call_labels.specs.Tables.{AcceptedSheet, Labels, Counts, callCount}
 
 -- entry f is the sum of the terms before f; entry n is the sum of all n
 pub record Sums (n : ℕ) (at : ℕ → ℕ) (sums : List ℕ) : Type 0 where
   pub entry : (f : ℕ) → f ≤ n → getD sums f 0 ≡ sumOf f at
 
--- the number of calls of function f, and of the functions before it
-abbrev pub callCount : List ℕ → ℕ → ℕ
-callCount b f = countOf (nodes b) (calls b f)
-
+-- the number of calls of the functions before function f
 abbrev pub firstCall : List ℕ → ℕ → ℕ
 firstCall b f = sumOf f (callCount b)
 
@@ -48,20 +30,7 @@ pub record CallOrder (b order : List ℕ) (n : ℕ) : Type 0 where
   pub size : length order ≡ mostNodes
   pub entry : (f k : ℕ) → k < n → calls b f k ≡ true → getD order (firstCall b f + labelOf b f k) 0 ≡ k
 
--- an accepted sheet with the index of its records
-pub record AcceptedSheet (b starts : List ℕ) : Type 0 where
-  pub accepted : sheetVerdict b ≡ Accepted
-  pub file : Opened Sheet b starts
-
--- node k of such a sheet, where the nodes before it are labelled
-pub record LabelAt (b starts labels counts : List ℕ) (k : ℕ) : Type 0 where
-  pub sheet : AcceptedSheet b starts
-  pub labelled : Labels b labels k
-  pub counted : Counts b counts k
-  pub below : k < nodes b
-  pub narrow : k < mostNodes
-
--- such a sheet with labels and the first call of each function
+-- an accepted sheet with labels and the first call of each function
 pub record Placing (b starts labels firsts : List ℕ) : Type 0 where
   pub sheet : AcceptedSheet b starts
   pub labelled : Labels b labels (nodes b)
@@ -93,7 +62,13 @@ pub record ReadTables (b starts ends owners : List ℕ) : Type 0 where
   pub runs : RunEndTable Sheet b ends
   pub owned : Owners b owners
 
--- and with the labels and first formals
+-- and with the labels and the number of calls of each function
+pub record CallTables (b starts ends owners labels counts : List ℕ) : Type 0 where
+  pub read : ReadTables b starts ends owners
+  pub labelled : Labels b labels (nodes b)
+  pub counted : Counts b counts (nodes b)
+
+-- or with the labels and first formals
 pub record NodeTables (b starts ends owners labels formals : List ℕ) : Type 0 where
   pub read : ReadTables b starts ends owners
   pub labelled : Labels b labels (nodes b)

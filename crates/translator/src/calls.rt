@@ -1,16 +1,15 @@
-// The tables of calls: the label of each call, how many calls each function has, and the calls in order of function and label.
+// The calls in order of function and label, and where those of each function start.
 ghost use mathlib.Core.Path.{_≡_};
-ghost use Prim.Native.Nat.{_+_, _<_};
-ghost use lib.ListN.{getD};
-ghost use Rattle.definitions.specs.Sizes.{mostFunctions, mostNodes};
+ghost use Prim.Native.Nat.{_+_};
 ghost use Rattle.definitions.specs.Layouts.{functions, nodes};
 ghost use Rattle.definitions.specs.Shape.{fileShape};
 ghost use Rattle.definitions.specs.declared.Layout.the-variants.{Sheet};
 ghost use Rattle.definitions.specs.declared.Verdict.the-variants.{Accepted};
-ghost use Rattle.translator.specs.Tables.{callCount, Sums, AcceptedSheet, Labels, Counts, LabelledOne, LabelAt, CallOrder, Placing, PlaceAt};
-use crate::tables::OfFunctions;
-use crate::tables::OfNodes;
+ghost use Rattle.call_labels.specs.Tables.{callCount, Counts};
+ghost use Rattle.translator.specs.Tables.{Sums, CallOrder, Placing, PlaceAt};
 use crate::tables::Sums;
+use call_labels::OfFunctions;
+use call_labels::OfNodes;
 use definitions::sheet_kinds;
 use definitions::sizes::MOST_FUNCTIONS;
 use definitions::sizes::Starts;
@@ -21,39 +20,6 @@ use file_records::records::field;
 use file_records::records::indexed;
 use file_records::records::kind;
 use widths::wide;
-
-// Labels node `k`, a call of function `f`, by the number of calls of that function before it.
-fn label_call(f: usize, k: usize, labels: &mut OfNodes, counts: &mut OfFunctions)
-    requires { ⌜ (f < mostFunctions) × (k < mostNodes) × (getD (now counts) f 0 < 65535) ⌝ }
-    ensures { λ r. ⌜ LabelledOne f k (now (labels .entry)) (now (counts .entry)) (now (labels .exit)) (now (counts .exit)) ⌝ }
-{
-    labels[k] = counts[f];
-    counts[f] += 1;
-}
-
-// Labels node `k`, where it is a call.
-fn label_node(b: &[u8], starts: &Starts, k: usize, labels: &mut OfNodes, counts: &mut OfFunctions)
-    requires { ⌜ LabelAt (now b) (now starts) (now labels) (now counts) k ⌝ }
-    ensures { λ r. ⌜ Labels (now (b .entry)) (now (labels .exit)) (k + 1) × Counts (now (b .entry)) (now (counts .exit)) (k + 1) ⌝ }
-{
-    let rec = indexed(b, starts, first_node(b) + k);
-    if kind(rec) == sheet_kinds::CALL {
-        label_call(wide(field(rec, 0)), k, labels, counts);
-    }
-}
-
-// Labels the calls, and counts those of each function.
-pub(crate) fn label_nodes(b: &[u8], starts: &Starts, labels: &mut OfNodes, counts: &mut OfFunctions)
-    requires { ⌜ AcceptedSheet (now b) (now starts) × Labels (now b) (now labels) 0 × Counts (now b) (now counts) 0 ⌝ }
-    ensures { λ r. ⌜ Labels (now (b .entry)) (now (labels .exit)) (nodes (now (b .entry))) × Counts (now (b .entry)) (now (counts .exit)) (nodes (now (b .entry))) ⌝ }
-{
-    let count = wide(nodes(b));
-    let mut k: usize = 0;
-    while k < count {
-        label_node(b, starts, k, labels, counts);
-        k += 1;
-    }
-}
 
 // Where the calls of each function start.
 pub(crate) fn first_calls(b: &[u8], counts: &OfFunctions) -> Sums

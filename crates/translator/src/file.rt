@@ -10,14 +10,16 @@ ghost use Rattle.definitions.specs.Translate.{headWords, functionWords, transla
 ghost use Rattle.definitions.specs.declared.Layout.the-variants.{Sheet};
 ghost use Rattle.definitions.specs.declared.Verdict.the-variants.{Accepted};
 ghost use Rattle.file_records.specs.Index.{Opened};
+ghost use Rattle.translation_length.specs.Words.{CountedCalls};
 ghost use Rattle.translation_words.specs.Writing.{WroteWords};
 ghost use Rattle.translator.specs.Tables.{Sums, Tables};
 use crate::formals::put_formals;
 use crate::kinds::FUNCTION;
 use crate::kinds::HEAD;
 use crate::nodes::put_nodes;
-use crate::tables::OfNodes;
 use crate::tables::Sums;
+use call_labels::OfFunctions;
+use call_labels::OfNodes;
 use definitions::Layout;
 use definitions::sizes::Ends;
 use definitions::sizes::Owners;
@@ -29,6 +31,7 @@ use file_layout::layout::nodes;
 use file_layout::layout::readings;
 use file_records::records::field;
 use file_records::records::indexed;
+use translation_length::counting::count_bytes;
 use translation_words::put;
 use translation_words::put_one;
 use translation_words::put_start;
@@ -89,36 +92,14 @@ pub(crate) fn put_file(
     put_nodes(b, starts, ends, owners, labels, formals, out, first_node)
 }
 
-// Whether an output of `room` bytes holds the translation. One of the greatest length holds every translation; for another
-// the same writer finds the length, on an output of its own.
-pub(crate) fn fits(
-    b: &[u8],
-    starts: &Starts,
-    ends: &Ends,
-    owners: &Owners,
-    labels: &OfNodes,
-    firsts: &Sums,
-    order: &OfNodes,
-    formals: &Sums,
-    room: usize,
-) -> bool
-    requires { ⌜ Tables (now b) (now starts) (now ends) (now owners) (now labels) (now firsts) (now order) (now formals) ⌝ }
+// Whether an output of `room` bytes holds the translation. One of the greatest length holds every translation; for another its
+// length is counted.
+pub(crate) fn fits(b: &[u8], starts: &Starts, counts: &OfFunctions, room: usize) -> bool
+    requires { ⌜ CountedCalls (now b) (now starts) (now counts) ⌝ }
     ensures { λ r. ⌜ r ≡ leb (length (translation (now (b .entry)))) room ⌝ }
 {
     if TRANSLATION_BYTES <= room {
         return true;
     }
-    let mut own = [0u8; 1];
-    let length = put_file(
-        b,
-        starts,
-        ends,
-        owners,
-        labels,
-        firsts,
-        order,
-        formals,
-        &mut own,
-    );
-    length <= room
+    count_bytes(b, starts, counts) <= room
 }

@@ -1,23 +1,16 @@
-// The table of first formals, and the types of the translator's tables.
+// The table of first formals, and the type of a table of sums.
 ghost use Rattle.definitions.specs.Layouts.{functions};
 ghost use Rattle.definitions.specs.References.{parameters};
 ghost use Rattle.definitions.specs.declared.Layout.the-variants.{Sheet};
 ghost use Rattle.file_records.specs.Index.{Opened};
 ghost use Rattle.translator.specs.Tables.{Sums};
 use definitions::sizes::MOST_FUNCTIONS;
-use definitions::sizes::MOST_NODES;
 use definitions::sizes::Starts;
 use file_layout::layout::functions;
 use file_records::declared_counts::parameters;
 use widths::wide;
 
-// A number for each node.
-pub(crate) type OfNodes = [u16; MOST_NODES];
-
-// A number for each function.
-pub(crate) type OfFunctions = [u16; MOST_FUNCTIONS];
-
-// The sum of such numbers before each function, and last the sum of all.
+// The sum of a number of each function before each function, and last the sum of all.
 pub(crate) type Sums = [u16; MOST_FUNCTIONS + 1];
 
 // The table of first formals.

@@ -1,7 +1,8 @@
-// The readers, the translator, the run, the run on rows and the context listing on the files that standard input lists.
+// The readers, the translator, the length that is asked, the run, the run on rows and the context listing on the files that standard
+// input lists.
 //
-// The file `stdin` beside src/ has the trials; the file `stdout` has what each should answer by document 01, and for rows by
-// request 1 of document 02.
+// The file `stdin` beside src/ has the trials; the file `stdout` has what each should answer by document 01, for rows by request
+// 1 of document 02 and for the length that is asked by request 3.
 // A line of `stdin` does what its first byte says, and goes on over the lines after it that begin with a blank:
 //   =  a new trial, or trials of one file, and its name; no word is written yet
 //   -  a heading
@@ -10,7 +11,10 @@
 //   S  the sheet's file is read: how many bytes of it, and the words that are changed for this trial, as `r.j=w`
 //   T  the same with the translation's file
 //   c  words of the cells that runs should make, or that are listed: for each cell its label and the cell before
-//   r  the sheet is translated: how many bytes of it, and into how many bytes of output; the translation's file is expected
+//   r  the sheet is translated: how many bytes of it, and into how many bytes of output; the translation's file is expected, and
+//      asking for the length is to answer the same
+//   m  the length of the translation is asked: how many bytes of the sheet, and the stated length; with a minus before it, as many
+//      below the greatest number of 64 bits
 //   j  the sheet is translated and run, in one call and in two: steps, nesting, cells, bytes lent for cells, bytes of the sheet,
 //      bytes of output, changes as above, and after a bar the readings
 //   u  the translation is run: steps, nesting, cells, bytes lent for cells, bytes of the translation, changes, and the readings
@@ -27,6 +31,7 @@
 // never has.
 // The interpreter with which `rt try` begins ends at its limit of steps, and the compiled runs go through.
 mod files;
+mod length_trial;
 mod listing_trial;
 mod reader_trial;
 mod rows_trial;
@@ -37,6 +42,7 @@ mod translator_trial;
 
 use crate::files::fill;
 use crate::files::put_entry;
+use crate::length_trial::try_length;
 use crate::listing_trial::try_listing;
 use crate::reader_trial::try_reader;
 use crate::rows_trial::try_rows;
@@ -128,6 +134,9 @@ fn tried(
         let size = numbered(text, from, 0) as usize;
         let room = numbered(text, from, 1) as usize;
         try_translator(sheet, size, room, translation, sizes.translation);
+    }
+    if letter == b'm' {
+        try_length(text, from, sheet);
     }
     if letter == b'j' {
         try_joined(text, from, sheet, cells);

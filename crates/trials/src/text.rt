@@ -156,13 +156,19 @@ pub(crate) fn numbered(text: &[u8], from: usize, k: u32) -> u32 {
     number(text, place(text, from, k))
 }
 
+// Whether a minus stands before a place.
+pub(crate) fn is_negative(text: &[u8], at: usize) -> bool {
+    if 0 < at {
+        return has(text, at - 1, MINUS);
+    }
+    false
+}
+
 // The bits of the number whose digits start at a place, which is negative where a minus stands before them.
 pub(crate) fn signed_bits(text: &[u8], at: usize) -> u32 {
     let bits = number(text, at);
-    if 0 < at {
-        if has(text, at - 1, MINUS) {
-            return wrapping_sub_u32(0, bits);
-        }
+    if is_negative(text, at) {
+        return wrapping_sub_u32(0, bits);
     }
     bits
 }

@@ -1,8 +1,10 @@
-// A trial of the translator: a sheet is translated, and a line says what was answered and whether the output is what it should
-// be.
+// A trial of the translator: a sheet is translated, and a line says what was answered, whether the output is what it should
+// be, and where asking for the length answers otherwise.
 use crate::files::copy;
 use crate::files::filled;
 use crate::files::within;
+use crate::length_trial::asked_in;
+use crate::length_trial::same_answer;
 use crate::shown::show_number;
 use crate::shown::show_refusal;
 use crate::shown::show_whether;
@@ -49,6 +51,7 @@ pub(crate) fn try_translator(
     show_number(b"  ", size, b" bytes");
     show_number(b" into ", room, b": ");
     let answer = translated_in(sheet, size, &mut out, room);
+    let asked = asked_in(sheet, size, room);
     let right = match answer {
         Written::Length(n) => {
             show_number(b"length ", n, b"");
@@ -59,5 +62,10 @@ pub(crate) fn try_translator(
             agree(&out, &before)
         }
     };
+    show_whether(
+        same_answer(answer, asked),
+        b"",
+        b", LENGTH ASKED: OTHERWISE",
+    );
     show_whether(right, b", output as it should be\n", b", OUTPUT WRONG\n");
 }

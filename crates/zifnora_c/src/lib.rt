@@ -1,7 +1,7 @@
 // The calls for programs in C and Rust: numbers, slices of numbers, and a reference to a slice of cells, which stays the same
 // slice. include/zifnora.h says the same for C.
 ghost use mathlib.Core.Path.{_≡_};
-ghost use Rattle.zifnora_c.specs.Promise.{TranslatesC, RunsC, RunsRowsC, JoinsC, ListsC};
+ghost use Rattle.zifnora_c.specs.Promise.{translationCode, TranslatesC, RunsC, RunsRowsC, JoinsC, ListsC};
 
 mod codes;
 
@@ -13,6 +13,7 @@ use batch::run_rows;
 use cells::listing::list_context;
 use join::translate_and_run;
 use run::run;
+use translation_length::translated_length;
 use translator::translate;
 
 // Translates a sheet into a lent output.
@@ -21,6 +22,14 @@ pub extern "C" fn zifnora_translate(sheet: &[u8], out: &mut [u8]) -> u64
     ensures { λ r. ⌜ TranslatesC (now (sheet .entry)) (now (out .entry)) r (now (out .exit)) ⌝ }
 {
     written_code(translate(sheet, out))
+}
+
+// What translating a sheet into an output of `room` bytes would answer.
+#[no_mangle]
+pub extern "C" fn zifnora_translated_length(sheet: &[u8], room: u64) -> u64
+    ensures { λ r. ⌜ r ≡ translationCode (now (sheet .entry)) room ⌝ }
+{
+    written_code(translated_length(sheet, room as usize))
 }
 
 // Runs a translation, and writes the answer's record.

@@ -11,6 +11,12 @@ pub fn translate(sheet: &[u8], out: &mut [u8]) -> Result<usize, Refusal> {
     raw::result(raw::translate(sheet, out))
 }
 
+/// What `translate` would answer for a buffer of `room` bytes, with none lent:
+/// the translation's length, or the refusal. Nothing is written.
+pub fn translated_length(sheet: &[u8], room: u64) -> Result<usize, Refusal> {
+    raw::result(raw::translated_length(sheet, room))
+}
+
 /// Runs a translation on readings, in lent cells of 4 bytes each. `cells`
 /// starts with the cells made and stays as it was past them; a refusal leaves
 /// all of it as it was.

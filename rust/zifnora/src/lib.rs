@@ -4,7 +4,7 @@
 //! repository; nothing here but `build_sheet` and the decoding of records is
 //! code of its own.
 //!
-//! `translate`, `run`, `run_rows`, `translate_and_run` and `list_context` have
+//! `translate`, `translated_length`, `run`, `run_rows`, `translate_and_run` and `list_context` have
 //! typed results; the module `raw` has the same calls with the codes and record
 //! bytes as the archive gives them.
 
@@ -20,7 +20,9 @@ pub mod sizes;
 
 pub use answer::{Allowances, Answer, Ended, Fault, Record, Refusal, Stop};
 #[cfg(feature = "archive")]
-pub use calls::{list_context, list_context_into, run, run_rows, translate, translate_and_run};
+pub use calls::{
+    list_context, list_context_into, run, run_rows, translate, translate_and_run, translated_length,
+};
 
 /// The example of the README, which `cargo test` runs.
 #[cfg(all(doctest, feature = "archive"))]

@@ -30,6 +30,8 @@ extern "C" {
         out_length: usize,
     ) -> u64;
 
+    fn zifnora_translated_length(sheet: *const u8, sheet_length: usize, room: u64) -> u64;
+
     fn zifnora_run_slice(
         translation: *const u8,
         translation_length: usize,
@@ -81,7 +83,7 @@ extern "C" {
     ) -> u64;
 }
 
-// Safety of the five calls: every pointer comes from a live slice of the
+// Safety of the six calls: every pointer comes from a live slice of the
 // stated length; slices that are written are borrowed mutably, so that they
 // overlap no other; the pair of the cells is a local variable.
 
@@ -89,6 +91,12 @@ extern "C" {
 #[inline]
 pub fn translate(sheet: &[u8], out: &mut [u8]) -> u64 {
     unsafe { zifnora_translate(sheet.as_ptr(), sheet.len(), out.as_mut_ptr(), out.len()) }
+}
+
+/// What translating a sheet into a buffer of `room` bytes would return.
+#[inline]
+pub fn translated_length(sheet: &[u8], room: u64) -> u64 {
+    unsafe { zifnora_translated_length(sheet.as_ptr(), sheet.len(), room) }
 }
 
 /// Runs a translation and writes the answer record.

@@ -3,6 +3,7 @@
 
 use zifnora::build_sheet::*;
 use zifnora::sizes::{ANSWER_BYTES, CELL_BYTES, MOST_ROWS, TRANSLATION_BYTES};
+use zifnora::translated_length;
 use zifnora::{kinds, numbers, raw};
 use zifnora::{list_context, list_context_into, run, run_rows, translate, translate_and_run};
 use zifnora::{Allowances, Answer, Ended, Fault, Record, Refusal, Stop};
@@ -255,6 +256,23 @@ fn a_translation_and_a_short_output() {
     assert_eq!(translate(&sheet, &mut short), Err(refusal));
     assert_eq!(short, [UNTOUCHED; 95]);
     assert_eq!(refusal.to_string(), "refused 8 place 0");
+}
+
+#[test]
+fn the_length_of_a_translation() {
+    let sheet = sheet_s();
+    let short = Err(Refusal::new(numbers::SHORT_OUTPUT, 0));
+    assert_eq!(translated_length(&sheet, 96), Ok(96));
+    assert_eq!(translated_length(&sheet, 95), short);
+    assert_eq!(translated_length(&sheet, 97), Ok(96));
+    assert_eq!(translated_length(&sheet, 0), short);
+    assert_eq!(translated_length(&sheet, u64::MAX), Ok(96));
+    // A length whose low 32 bits are 0.
+    assert_eq!(translated_length(&sheet, 1 << 32), Ok(96));
+    // The sheet's own refusal comes before 8.
+    let cut = Err(Refusal::new(numbers::TRUNCATED, 10));
+    assert_eq!(translated_length(&sheet[..91], 0), cut);
+    assert_eq!(translated_length(&sheet[..91], u64::MAX), cut);
 }
 
 #[test]

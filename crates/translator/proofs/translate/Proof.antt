@@ -4,8 +4,8 @@ use borrow.Author.Needs.{needs}
 use Rattle.translator.proofs.translate.Statement.{statement}
 use Rattle.translator.proofs.translate.Tie as tie
 
-read-sheet-requires : tie.Need-read-sheet-requires
-read-sheet-requires c κs = search needs
+fill-sheet-requires : tie.Need-fill-sheet-requires
+fill-sheet-requires c κs = search needs
 
 enum-known-verdict : tie.Need-enum-known-verdict
 enum-known-verdict c = search needs
@@ -15,14 +15,14 @@ enum-told c = search needs
 
 translate-accepted-requires : tie.Need-translate-accepted-requires
 translate-accepted-requires c κs =
-    let at-enum-told = c .before .before .before .before .before in
-    let at-read-sheet = at-enum-told .before .before in
-    reader-accepts (at-read-sheet .read-sheet .ensures) (at-enum-told .enum-told .given .1)
+    let at-enum-told = c .before .before .before .before in
+    let at-fill-sheet = at-enum-told .before .before in
+    reader-accepts (at-fill-sheet .fill-sheet .ensures) (at-enum-told .enum-told .given .1)
 
 returns : tie.Need-returns
 returns c =
-    let read-sheet = c .before .before .before .read-sheet in
-    reader-refuses (read-sheet .ensures) (c .before .verdict .given .1)
+    let fill-sheet = c .before .before .before .fill-sheet in
+    reader-refuses (fill-sheet .ensures) (c .before .verdict .given .1)
 
 same-length : tie.Need-same-length
 same-length c = search needs
@@ -34,7 +34,7 @@ pub translate-spec : {M : Type 1} → statement M
 translate-spec =
     tie.close
     (tie.spec
-    read-sheet-requires
+    fill-sheet-requires
     enum-known-verdict
     enum-told
     translate-accepted-requires

@@ -4,7 +4,7 @@ use mathlib.Core.Path.{refl, _∙_}
 use native.Mathlib.Omega.{arith}
 use Rattle.definitions.specs.declared.Layout.the-variants.{Sheet}
 use Rattle.accepted.proofs.Head.{functions-limit}
-use Rattle.translator.specs.Tables.{callCount}
+use Rattle.call_labels.specs.Tables.{callCount}
 use Rattle.translator.proofs.SheetTables.{Summing, summing-begins, summing-goes-on, summing-done}
 use Rattle.translator.proofs.CallOrder.{count-is, total-few}
 use borrow.Author.Needs.{needs}

@@ -2,7 +2,7 @@
 use native.Mathlib.Omega.{arith}
 use Rattle.definitions.specs.declared.Layout.the-variants.{Sheet}
 use Rattle.accepted.proofs.Head.{nodes-limit}
-use Rattle.translator.proofs.CallLabels.{call-read, none-read}
+use Rattle.call_labels.proofs.CallLabels.{call-read, none-read}
 use Rattle.translator.proofs.CallOrder.{place-read, place-narrow, call-ordered, other-ordered}
 use borrow.Author.Needs.{needs}
 use Rattle.translator.proofs.calls.place_node.Statement.{statement}

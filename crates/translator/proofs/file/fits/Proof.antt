@@ -1,5 +1,5 @@
--- `translator::file::fits` meets its contract: the greatest length, or the length that the writer finds.
-use Rattle.translator.proofs.Promises.{greatest-fits, length-fits}
+-- `translator::file::fits` meets its contract: the greatest length, or the length that is counted.
+use Rattle.translator.proofs.Promises.{greatest-fits, counted-fits}
 use borrow.Author.Needs.{needs}
 use Rattle.translator.proofs.file.fits.Statement.{statement}
 use Rattle.translator.proofs.file.fits.Tie as tie
@@ -7,18 +7,13 @@ use Rattle.translator.proofs.file.fits.Tie as tie
 returns : tie.Need-returns
 returns c =
     let pre = c .before .before .pre in
-    greatest-fits _ (pre .node .read .sheet .accepted) _ (c .if1 .taken)
+    greatest-fits _ (pre .sheet .accepted) _ (c .if1 .taken)
 
-slice-aggregate-put-file : tie.Need-slice-aggregate-put-file
-slice-aggregate-put-file c = search needs
-
-put-file-requires : tie.Need-put-file-requires
-put-file-requires c κs = search needs
+count-bytes-requires : tie.Need-count-bytes-requires
+count-bytes-requires c κs = search needs
 
 returns-2 : tie.Need-returns-2
-returns-2 c =
-    let pre = c .before .before .before .before .before .pre in
-    length-fits _ (pre .node .read .sheet .accepted) _ (c .before .put-file .ensures)
+returns-2 c = counted-fits _ (c .count-bytes .ensures)
 
 pub fits-spec : {M : Type 1} → statement M
-fits-spec = tie.close (tie.spec returns slice-aggregate-put-file put-file-requires returns-2)
+fits-spec = tie.close (tie.spec returns count-bytes-requires returns-2)

@@ -6,7 +6,7 @@ use mathlib.Core.Bool.{Bool, true, false, and-eq-true-iff, true≢false}
 use native.Mathlib.Omega.{arith}
 use native.Mathlib.Nat.{not-suc-le-zero}
 use native.Mathlib.Decide.{ℕ-discrete}
-use lib.ListN.{length, getD, set, length-set}
+use lib.ListN.{getD, set, replicate, length-set, getD-replicate}
 use lib.Seq.{getD-set-same, getD-set-other}
 use lib.Dec.{eqb}
 use borrow.Author.Tests.{eq-eqb, ne-eqb, eqb-true}
@@ -15,17 +15,28 @@ use Rattle.definitions.specs.Records.{recordAt, kindOf, field}
 use Rattle.definitions.specs.SheetKinds
 use Rattle.definitions.specs.Lists.{countOf}
 use Rattle.definitions.specs.Layouts.{functions, nodes, firstNode, nodeRecord}
+use Rattle.definitions.specs.Checks.{sheetVerdict}
 use Rattle.definitions.specs.Translate.{calls, labelOf}
 use Rattle.definitions.specs.declared.Layout.the-variants.{Sheet}
+use Rattle.definitions.specs.declared.Verdict.{Verdict}
+use Rattle.definitions.specs.declared.Verdict.the-variants.{Accepted}
 use Rattle.laws.proofs.Lists.{below-suc, count-more, count-none}
 use Rattle.accepted.proofs.Counts.{count-limit}
 use Rattle.accepted.proofs.Head.{nodes-limit, functions-limit}
 use Rattle.accepted.proofs.Names.{call-below}
+use Rattle.accepted.proofs.Checks.{sheet-shape}
 use Rattle.readback.proofs.Labels.{calls-node}
 use Rattle.file_records.specs.Index.{startIn}
+use Rattle.file_records.proofs.Indices.{node-reached}
+use Rattle.format.specs.Readers.{ReadSheet}
 use Rattle.format.proofs.RunTables.{entry-more}
-use Rattle.translator.specs.Tables.{Labels, Counts, AcceptedSheet}
-use Rattle.translator.proofs.SheetTables.{node-reached}
+use Rattle.call_labels.specs.Tables.{Labels, Counts, AcceptedSheet}
+
+-- what a reader accepts
+pub reader-accepts : {b starts ends owners : List ℕ} {v : Verdict} → ReadSheet b v starts ends owners → v ≡ Accepted → AcceptedSheet b starts
+reader-accepts {b} w e =
+    let a : sheetVerdict b ≡ Accepted = sym (w .verdict) ∙ e in
+    record { accepted = a; file = record { accepted = sheet-shape b a; index = w .index e } }
 
 -- a node's record calls the function that it names, and no other
 pub calls-named : (b : List ℕ) (k kind f : ℕ) → kind ≡ kindOf (nodeRecord b k) → kind ≡ SheetKinds.call → f ≡ field (nodeRecord b k) 0 → calls b f k ≡ true
@@ -59,7 +70,7 @@ pub record CallOf (b : List ℕ) (f k : ℕ) : Type 0 where
 module _ {b starts : List ℕ} {k first kind : ℕ} {rec : List ℕ} (w : AcceptedSheet b starts) (h : k < nodes b)
     (p : first ≡ firstNode b) (q : rec ≡ recordAt b (startIn starts (first + k))) (e : kind ≡ kindOf rec) where
   there : rec ≡ nodeRecord b k
-  there = node-reached b starts k first rec (w .file) h p q
+  there = node-reached Sheet b starts k first rec (w .file) h p q
 
   pub call-read : {x f : ℕ} → kind ≡ SheetKinds.call → x ≡ field rec 0 → f ≡ x → CallOf b f k
   call-read {f} g y z =
@@ -131,12 +142,14 @@ module _ (b : List ℕ) (k : ℕ) (p : (f : ℕ) → calls b f k ≡ false) wher
   pub other-counted : (counts : List ℕ) → Counts b counts k → Counts b counts (k + 1)
   other-counted counts c = record { size = c .size; entry = λ f n. rw (count-more k (calls b f), p f) (c .entry f n) }
 
--- no node is passed
-pub none-labelled : (b labels : List ℕ) → length labels ≡ mostNodes → Labels b labels 0
-none-labelled b labels e = record { size = e; entry = λ f k h. absurd (not-suc-le-zero h) }
-
-pub none-counted : (b counts : List ℕ) → length counts ≡ mostFunctions → ((f : ℕ) → f < functions b → getD counts f 0 ≡ 0) → Counts b counts 0
-none-counted b counts e z = record { size = e; entry = λ f h. z f h ∙ sym (count-none (calls b f)) }
+-- no node is passed: tables of zeros
+pub none-passed : {b starts : List ℕ} → AcceptedSheet b starts → AcceptedSheet b starts × Labels b (replicate mostNodes 0) 0 × Counts b (replicate mostFunctions 0) 0
+none-passed {b} w =
+    let few = functions-limit Sheet b (w .file .accepted) in (
+      w,
+      record { size = refl; entry = λ f k h. absurd (not-suc-le-zero h) },
+      record { size = refl; entry = λ f h. getD-replicate mostFunctions f 0 0 (omega (arith, h, few)) ∙ sym (count-none (calls b f)) },
+    )
 
 -- all nodes are passed
 module _ (b : List ℕ) (table : List ℕ) (k n : ℕ) (e : n ≡ nodes b) (h : k ≤ n) (l : n ≤ k) where

@@ -1,9 +1,9 @@
--- `translator::calls::label_node` meets its contract: a call is labelled and counted, and another node leaves the tables.
+-- `call_labels::label_node` meets its contract: a call is labelled and counted, and another node leaves the tables.
 use native.Mathlib.Omega.{arith}
-use Rattle.translator.proofs.CallLabels.{call-read, none-read, count-small, call-labelled, call-counted, other-labelled, other-counted}
+use Rattle.call_labels.proofs.CallLabels.{call-read, none-read, count-small, call-labelled, call-counted, other-labelled, other-counted}
 use borrow.Author.Needs.{needs}
-use Rattle.translator.proofs.calls.label_node.Statement.{statement}
-use Rattle.translator.proofs.calls.label_node.Tie as tie
+use Rattle.call_labels.proofs.label_node.Statement.{statement}
+use Rattle.call_labels.proofs.label_node.Tie as tie
 
 first-node-requires : tie.Need-first-node-requires
 first-node-requires c κs = search needs

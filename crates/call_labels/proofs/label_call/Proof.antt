@@ -1,8 +1,8 @@
--- `translator::calls::label_call` meets its contract.
+-- `call_labels::label_call` meets its contract.
 use mathlib.Core.Path.{refl}
 use borrow.Author.Needs.{needs}
-use Rattle.translator.proofs.calls.label_call.Statement.{statement}
-use Rattle.translator.proofs.calls.label_call.Tie as tie
+use Rattle.call_labels.proofs.label_call.Statement.{statement}
+use Rattle.call_labels.proofs.label_call.Tie as tie
 
 mul-labels : tie.Need-mul-labels
 mul-labels c = search needs

@@ -1,14 +1,14 @@
--- `translator::calls::label_nodes` meets its contract. The loop's invariant: the nodes passed are labelled and counted.
+-- `call_labels::label_nodes` meets its contract. The loop's invariant: the nodes passed are labelled and counted.
 use Prim.Native.Nat.{_-_, _≤_}
 use mathlib.Core.Path.{_∙_}
 use native.Mathlib.Omega.{arith}
 use Rattle.definitions.specs.declared.Layout.the-variants.{Sheet}
 use Rattle.accepted.proofs.Head.{nodes-limit}
-use Rattle.translator.specs.Tables.{Labels, Counts}
-use Rattle.translator.proofs.CallLabels.{labels-all, counts-all}
+use Rattle.call_labels.specs.Tables.{Labels, Counts}
+use Rattle.call_labels.proofs.CallLabels.{labels-all, counts-all}
 use borrow.Author.Needs.{needs}
-use Rattle.translator.proofs.calls.label_nodes.Statement.{statement}
-use Rattle.translator.proofs.calls.label_nodes.Tie as tie
+use Rattle.call_labels.proofs.label_nodes.Statement.{statement}
+use Rattle.call_labels.proofs.label_nodes.Tie as tie
 
 abbrev Inv-loop : tie.InvT-loop
 Inv-loop b starts labels₀ counts₀ count k₀ labels counts k = (k ≤ count) × Labels b labels k × Counts b counts k
