@@ -154,8 +154,8 @@ static inline int zifnora_decode_record(const uint8_t *bytes, struct zifnora_rec
   return 1;
 }
 
-/* Translates a sheet. Returns the translation's length; `out` starts with the translation and stays as it was past it. A refusal
- * (1 to 8) leaves all of `out` as it was. */
+/* Translates a sheet; calls of one function with equal arguments share a label (document 02, request 4). Returns the translation's
+ * length; `out` starts with the translation and stays as it was past it. A refusal (1 to 8) leaves all of `out` as it was. */
 uint64_t zifnora_translate(const uint8_t *sheet, size_t sheet_length, uint8_t *out, size_t out_length);
 
 /* How long the translation would be: returns what zifnora_translate would return for an `out` of `out_length` bytes, with none

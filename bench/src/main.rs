@@ -11,6 +11,7 @@ mod programs;
 mod run;
 mod stack;
 mod tables;
+mod templates;
 
 use compare::interface::Interface;
 

@@ -144,10 +144,13 @@ pub fn translated(on: &dyn Interface, sheet: &[u8]) -> Vec<u8> {
 
 /// Nanoseconds of one translation into a buffer of the greatest length, of one
 /// into a buffer of just its length, of asking for that length, and of one by
-/// the model.
+/// the model. A sheet may be refused; both sides have to answer the same.
 pub fn translate_cost(on: &dyn Interface, model: &dyn Interface, sheet: &[u8]) -> [f64; 4] {
     let (mut one, mut two) = (vec![0; TRANSLATION_BYTES], vec![0; TRANSLATION_BYTES]);
-    let mut just = translated(on, sheet);
+    let answer = on.translate(sheet, &mut one);
+    assert_eq!(answer, model.translate(sheet, &mut two), "the same answer");
+    assert_eq!(one, two, "the same translation");
+    let mut just = vec![0; count(answer).unwrap_or(TRANSLATION_BYTES)];
     let room = just.len() as u64;
     times([
         &mut || {

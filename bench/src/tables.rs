@@ -5,14 +5,14 @@ use crate::measure::{
     MOST_RECORDS,
 };
 use crate::plain::two_bytes;
-use crate::{chains, pad, programs, stack};
-use compare::generate::{ceiling, random::Random};
+use crate::{chains, pad, programs, stack, templates};
+use compare::generate::{ceiling, damage::records, random::Random};
 use compare::interface::{Allowances, Interface};
 use compare::model::answer::RECORD;
 use compare::model::correct;
 use zifnora::build_sheet::Program;
 use zifnora::numbers;
-use zifnora::sizes::{MOST_NESTING, MOST_NODES, MOST_ROWS, TRANSLATION_BYTES};
+use zifnora::sizes::{MOST_NESTING, MOST_NODES, MOST_ROWS, SHEET_BYTES, TRANSLATION_BYTES};
 
 const MOST_STEPS: u32 = 20_000_000;
 
@@ -102,7 +102,8 @@ pub fn translations(subject: &dyn Interface) {
     println!("just: into a buffer of just its length; length: asked with none lent");
     print!("sheet                   nodes  bytes        ns  ns/node     model  ratio");
     println!("      just  ratio    length  ratio");
-    let row = |name: &str, count: usize, sheet: &[u8]| {
+    let mut greatest = 0.0;
+    let mut row = |name: &str, count: usize, sheet: &[u8]| {
         let [ours, just, length, theirs] = translate_cost(subject, correct(), sheet);
         print!(
             "{:<22} {:>6} {:>6} {:>9.0} {:>8.1} {:>9.0} {:>6.2}",
@@ -114,6 +115,7 @@ pub fn translations(subject: &dyn Interface) {
             theirs,
             ours / theirs
         );
+        greatest = f64::max(greatest, ours / theirs);
         let [more, part] = [just, length].map(|time| time / ours);
         println!(" {just:>9.0} {more:>6.2} {length:>9.0} {part:>6.2}");
     };
@@ -123,6 +125,14 @@ pub fn translations(subject: &dyn Interface) {
         row("fib 12, padded", nodes(&padded), &padded.encode());
     }
     row("greatest (all limits)", MOST_NODES, &greatest_sheet());
+    for (name, program) in templates::all() {
+        let sheet = program.encode();
+        assert!(!translated(subject, &sheet).is_empty(), "{name}");
+        row(name, nodes(&program), &sheet);
+    }
+    let refused = ceiling::long(&mut Random::new(1), SHEET_BYTES, false);
+    row("refused (6), longest", records(&refused).len(), &refused);
+    println!("the greatest ratio to the model's time: {greatest:.2} (goal: at most 3)");
 }
 
 fn greatest_sheet() -> Vec<u8> {

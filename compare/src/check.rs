@@ -1,11 +1,27 @@
-//! Compares one call: the answers and whole buffers of both sides, and the
-//! answers of a translated sheet's runs with call by name.
+//! Compares one call: the answers and whole buffers of both sides, the answers
+//! of a translated sheet's runs with call by name, and with those of the
+//! translation with a label for each call.
 
 use crate::call::{inner, After, Call, OneRun};
 use crate::interface::{shown, Interface};
+use crate::labelling::{differing_run, unshared};
 use crate::model::answer::{Answer, RECORD};
 use crate::model::sheet::Sheet;
 use crate::model::{name, Behaviour, Correct};
+
+/// What a sheet's runs are compared with beside the other side's.
+#[derive(Clone, Copy, Debug, PartialEq, Eq)]
+pub struct Yardsticks {
+    pub call_by_name: bool,
+    pub old_labelling: bool,
+}
+
+impl Yardsticks {
+    pub const ALL: Yardsticks = Yardsticks {
+        call_by_name: true,
+        old_labelling: true,
+    };
+}
 
 /// What differs, in words, and the call to try again.
 #[derive(Debug)]
@@ -14,24 +30,56 @@ pub struct Difference {
     pub call: Box<Call>,
 }
 
-/// Performs the call on both sides; what the reference left, if both agree.
+/// What the reference left of a call on which both sides agree.
+pub struct Agreed {
+    pub after: After,
+    /// Whether the call was compared with one of the old labelling.
+    pub old_labelling: bool,
+}
+
+/// Performs the call on both sides, and where two calls of its sheet share a
+/// label also with a label for each.
 pub fn check(
     call: &Call,
     subject: &dyn Interface,
     reference: &dyn Interface,
-) -> Result<After, Difference> {
+    by: Yardsticks,
+) -> Result<Agreed, Difference> {
+    let difference = |what: String| Difference {
+        what: format!("{}: {what}", call.name()),
+        call: Box::new(call.clone()),
+    };
+    let (theirs, after) = both(call, subject, reference, by).map_err(difference)?;
+    let each = by.old_labelling.then(|| unshared(call)).flatten();
+    if let Some(each) = &each {
+        let what = match both(each, subject, reference, by) {
+            Ok((before, _)) => differing_run(call, &theirs, each, &before),
+            Err(what) => Some(what),
+        };
+        if let Some(what) = what {
+            return Err(difference(format!("a label for each call: {what}")));
+        }
+    }
+    Ok(Agreed {
+        after,
+        old_labelling: each.is_some(),
+    })
+}
+
+/// What the subject and the reference left, if they agree with each other and
+/// with call by name; else what differs.
+fn both(
+    call: &Call,
+    subject: &dyn Interface,
+    reference: &dyn Interface,
+    by: Yardsticks,
+) -> Result<(After, After), String> {
     let ours = call.perform(reference);
     let theirs = call.perform(subject);
-    let what = match differs(&theirs, &ours) {
-        Some(what) => Some(what),
-        None => against_meaning(call, &theirs),
-    };
-    match what {
-        None => Ok(ours),
-        Some(what) => Err(Difference {
-            what: format!("{}: {what}", call.name()),
-            call: Box::new(call.clone()),
-        }),
+    let meaning = || by.call_by_name.then(|| against_meaning(call, &theirs));
+    match differs(&theirs, &ours).or_else(|| meaning().flatten()) {
+        Some(what) => Err(what),
+        None => Ok((theirs, ours)),
     }
 }
 

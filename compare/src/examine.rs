@@ -1,7 +1,7 @@
 //! Chooses the calls with which a file is examined, and compares them.
 
 use crate::call::{inner, After, Call, RunInput};
-use crate::check::{check, Difference};
+use crate::check::{check, Difference, Yardsticks};
 use crate::generate::random::Random;
 use crate::generate::sizes;
 use crate::interface::{count, Allowances, Interface};
@@ -13,6 +13,7 @@ use zifnora::sizes::{CELL_BYTES, LABEL_BYTES, MOST_CELLS, MOST_NESTING, TRANSLAT
 pub struct Examiner<'a> {
     pub subject: &'a dyn Interface,
     pub reference: &'a dyn Interface,
+    pub by: Yardsticks,
     pub tally: &'a mut Tally,
 }
 
@@ -27,9 +28,9 @@ fn readings_due(file: &[u8]) -> usize {
 
 impl Examiner<'_> {
     pub(crate) fn check(&mut self, call: &Call) -> Result<After, Difference> {
-        let after = check(call, self.subject, self.reference)?;
-        self.tally.add(call, &after);
-        Ok(after)
+        let agreed = check(call, self.subject, self.reference, self.by)?;
+        self.tally.add(call, &agreed);
+        Ok(agreed.after)
     }
 
     /// A sheet, well-formed or damaged.

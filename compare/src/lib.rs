@@ -13,6 +13,7 @@ mod examine_batch;
 pub mod faulty;
 pub mod generate;
 pub mod interface;
+mod labelling;
 pub mod model;
 pub mod replay;
 pub mod selftest;

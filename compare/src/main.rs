@@ -3,12 +3,13 @@
 //! compare replay DIR                  performs a saved call again
 //! compare case sheet|damaged NUMBER SEED   one case again
 
+use compare::check::{self, Yardsticks};
 use compare::generate::case::{damaged, well_formed};
 use compare::interface::{shown, Interface};
 use compare::model::correct;
+use compare::replay;
 use compare::selftest::{examine, selftest};
 use compare::tally::Tally;
-use compare::{check, replay};
 use std::fs::File;
 use std::io::{Seek, SeekFrom, Write};
 use std::path::{Path, PathBuf};
@@ -74,7 +75,7 @@ fn one(subject: &dyn Interface, kind: &str, number: u64, seed: u64, tally: &mut 
         "damaged" => damaged(seed, number),
         _ => usage(),
     };
-    let Err(difference) = examine(case, subject, correct(), tally) else {
+    let Err(difference) = examine(case, subject, correct(), Yardsticks::ALL, tally) else {
         return true;
     };
     let origin = format!("case {kind} {number} {seed}");
@@ -141,7 +142,7 @@ fn replay_call(subject: &dyn Interface, folder: &Path) -> bool {
         shown(theirs.code),
         shown(ours.code)
     );
-    match check::check(&call, subject, correct()) {
+    match check::check(&call, subject, correct(), Yardsticks::ALL) {
         Ok(_) => {
             println!("no difference");
             true

@@ -1,9 +1,9 @@
 //! The self-test: the comparison has to find each deliberate fault of the
 //! model within the stated number of sheets (and as many damaged files).
 
-use crate::check::Difference;
+use crate::check::{Difference, Yardsticks};
 use crate::examine::Examiner;
-use crate::faulty::fault::{AGAINST_MEANING, ALL};
+use crate::faulty::listed::{AGAINST_LABELLING, AGAINST_MEANING, ALL};
 use crate::faulty::Faulty;
 use crate::generate::case::{damaged, well_formed, Case};
 use crate::generate::random::Random;
@@ -16,12 +16,14 @@ pub fn examine(
     case: (Case, Random),
     subject: &dyn Interface,
     reference: &dyn Interface,
+    by: Yardsticks,
     tally: &mut Tally,
 ) -> Result<(), Difference> {
     let (case, mut random) = case;
     let mut examiner = Examiner {
         subject,
         reference,
+        by,
         tally,
     };
     match case {
@@ -35,17 +37,22 @@ pub fn examine(
 fn first_difference(
     subject: &dyn Interface,
     reference: &dyn Interface,
+    by: Yardsticks,
     seed: u64,
     limit: u64,
 ) -> Option<(u64, Difference)> {
     let mut tally = Tally::default();
     (0..limit).find_map(|number| {
-        examine(well_formed(seed, number), subject, reference, &mut tally)
-            .and_then(|()| examine(damaged(seed, number), subject, reference, &mut tally))
+        let mut compare = |case| examine(case, subject, reference, by, &mut tally);
+        compare(well_formed(seed, number))
+            .and_then(|()| compare(damaged(seed, number)))
             .err()
             .map(|difference| (number + 1, difference))
     })
 }
+
+/// How far is looked for a fault of both sides.
+const BOTH_WRONG: u64 = 20_000;
 
 /// Runs the self-test; true when every fault was found.
 pub fn selftest(subject: &dyn Interface, seed: u64) -> bool {
@@ -63,22 +70,33 @@ pub fn selftest(subject: &dyn Interface, seed: u64) -> bool {
         }
     };
     for &(fault, words, limit) in ALL {
-        let found = first_difference(subject, &Model(Faulty(fault)), seed, limit);
+        let found = first_difference(subject, &Model(Faulty(fault)), Yardsticks::ALL, seed, limit);
         report(words, limit, found);
     }
-    println!("With both sides wrong alike, by call by name:");
-    for &fault in AGAINST_MEANING {
-        let wrong = Model(Faulty(fault));
-        let (_, words, _) = ALL.iter().find(|known| known.0 == fault).expect("listed");
-        report(
-            words,
-            20_000,
-            first_difference(&wrong, &wrong, seed, 20_000),
-        );
+    let call_by_name = Yardsticks {
+        call_by_name: true,
+        old_labelling: false,
+    };
+    let old_labelling = Yardsticks {
+        call_by_name: false,
+        old_labelling: true,
+    };
+    let alone = [
+        ("call by name", call_by_name, AGAINST_MEANING),
+        ("the old labelling", old_labelling, AGAINST_LABELLING),
+    ];
+    for (title, by, faults) in alone {
+        println!("With both sides wrong alike, by {title}:");
+        for &fault in faults {
+            let wrong = Model(Faulty(fault));
+            let (_, words, _) = ALL.iter().find(|known| known.0 == fault).expect("listed");
+            let found = first_difference(&wrong, &wrong, by, seed, BOTH_WRONG);
+            report(words, BOTH_WRONG, found);
+        }
     }
     println!(
         "{} faults, {missed} missed",
-        ALL.len() + AGAINST_MEANING.len()
+        ALL.len() + AGAINST_MEANING.len() + AGAINST_LABELLING.len()
     );
     missed == 0
 }

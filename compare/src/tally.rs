@@ -1,7 +1,9 @@
 //! Counts of what the compared calls answered, to show what was covered.
 
-use crate::call::{After, Call};
+use crate::call::Call;
+use crate::check::Agreed;
 use crate::interface::refusal;
+use zifnora::numbers::SHORT_OUTPUT;
 
 const KINDS: [&str; 6] = [
     "translate",
@@ -20,6 +22,8 @@ pub struct Tally {
     pub steps: u64,
     /// Answers that were also compared with call by name.
     pub by_name: u64,
+    /// Runs that were also compared with those of the old labelling.
+    pub by_labelling: u64,
 }
 
 impl Default for Tally {
@@ -29,12 +33,14 @@ impl Default for Tally {
             rows: [0; 128],
             steps: 0,
             by_name: 0,
+            by_labelling: 0,
         }
     }
 }
 
 impl Tally {
-    pub fn add(&mut self, call: &Call, after: &After) {
+    pub fn add(&mut self, call: &Call, agreed: &Agreed) {
+        let after = &agreed.after;
         let kind = match call {
             Call::Translate { .. } => 0,
             Call::Length { .. } => 1,
@@ -52,6 +58,9 @@ impl Tally {
             }
             self.steps += run.answer.steps as u64;
             self.by_name += (call.sheet().is_some() && run.answer.is_own()) as u64;
+            // 8 is the translation's.
+            let fits = run.answer.outcome != SHORT_OUTPUT;
+            self.by_labelling += (agreed.old_labelling && fits) as u64;
         }
         self.counts[kind][number.min(127)] += 1;
     }
@@ -80,5 +89,9 @@ impl Tally {
             self.steps
         );
         println!("  answers compared with call by name {}", self.by_name);
+        println!(
+            "  runs compared with those of the old labelling {}",
+            self.by_labelling
+        );
     }
 }

@@ -4,8 +4,10 @@
 
 mod batch;
 pub mod fault;
+pub mod listed;
 mod reading;
 mod running;
+mod sharing;
 mod translating;
 
 use crate::interface::Allowances;
@@ -13,7 +15,9 @@ use crate::model::answer::Answer;
 use crate::model::records::{Record, Records};
 use crate::model::run::{self, Run, Value};
 use crate::model::sheet::{self, Sheet};
+use crate::model::translate::Labelling;
 use crate::model::translation::Translation;
+use crate::model::trees::Tree;
 use crate::model::{joined, listing, operator, rules, translate, Behaviour, Refusal};
 use fault::Fault;
 use zifnora::sizes::CELL_BYTES;
@@ -113,12 +117,22 @@ impl Behaviour for Faulty {
     }
 
     fn translate(&self, sheet: &Sheet) -> Translation {
-        let translation = translate::translate(sheet);
+        let labelling = match self.0 {
+            Fault::LabelForEachCall => Labelling::EachCall,
+            _ => Labelling::EqualCalls,
+        };
+        let translation = translate::translate(self, sheet, labelling);
         match self.0 {
-            Fault::LabelsRestart => translating::restart_labels(translation),
+            Fault::LabelsRestart => sharing::restart_labels(translation),
+            Fault::LabelSkipped => sharing::skip_labels(translation),
+            Fault::LastCallListed => sharing::list_last_calls(sheet, translation),
             Fault::IndexNotRaised => translating::lower_indices(translation),
             _ => translation,
         }
+    }
+
+    fn tree(&self, sheet: &Sheet, node: usize, tree: Tree) -> Tree {
+        sharing::wrong_tree(self.0, sheet, node, tree)
     }
 
     fn translate_into(&self, file: &[u8], out: &mut [u8]) -> Result<usize, Refusal> {

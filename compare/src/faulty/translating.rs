@@ -10,22 +10,6 @@ use crate::model::{joined, listing, Behaviour, Refusal};
 use zifnora::numbers::{is_refusal, BAD_READINGS, SHORT_OUTPUT};
 use zifnora::sizes::{CELL_BYTES, LABEL_BYTES, TRANSLATION_BYTES};
 
-/// Labels from 0 in each function.
-pub fn restart_labels(mut translation: Translation) -> Translation {
-    let functions = translation.counts.len();
-    let mut nodes = translation.nodes.iter_mut();
-    for &count in &translation.counts {
-        let mut next = vec![0; functions];
-        for node in nodes.by_ref().take(count as usize) {
-            if let Node::Call { label, function } = node {
-                *label = next[*function as usize];
-                next[*function as usize] += 1;
-            }
-        }
-    }
-    translation
-}
-
 /// Select's index is the position.
 pub fn lower_indices(mut translation: Translation) -> Translation {
     for node in &mut translation.nodes {

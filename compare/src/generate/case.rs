@@ -2,7 +2,7 @@
 //! odd files. A case depends on the seed and its number only.
 
 use super::random::Random;
-use super::{ceiling, damage, sheet, targeted, translation};
+use super::{ceiling, damage, sheet, targeted, template, translation};
 use crate::model::{Behaviour, Correct};
 use zifnora::sizes::{SHEET_BYTES, TRANSLATION_BYTES};
 
@@ -17,6 +17,7 @@ pub fn well_formed(seed: u64, number: u64) -> (Case, Random) {
     let file = match random.below(200) {
         0 => ceiling::greatest(&mut random),
         1 | 2 => sheet::counting(&mut random),
+        3..=22 => template::template(&mut random),
         _ => sheet::sheet(&mut random),
     };
     (Case::Sheet(file), random)

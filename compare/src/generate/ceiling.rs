@@ -3,8 +3,9 @@
 use super::expr::Grow;
 use super::plan::{plan, Limits, Plan};
 use super::random::Random;
+use super::repeat::Earlier;
 use super::sheet::encode;
-use zifnora::build_sheet::{build, number, operator, put_record, Expr, Program};
+use zifnora::build_sheet::{build, call, number, operator, put_record, Expr, Program};
 use zifnora::kinds::sheet as kinds;
 use zifnora::sizes::{MOST_CONSTRUCTORS, MOST_FIELDS, MOST_FUNCTIONS, MOST_NODES, MOST_READINGS};
 
@@ -27,9 +28,10 @@ pub fn greatest(random: &mut Random) -> Vec<u8> {
     let last = MOST_FUNCTIONS - 1;
     let wide = random.below(last);
     let mut left = MOST_NODES;
+    let mut earlier = Earlier::default();
     let mut functions = Vec::new();
     for function in 0..last {
-        let body = body(random, &plan, function, wide, left);
+        let body = body(random, (&plan, &mut earlier), function, wide, left);
         left -= body.size();
         functions.push((plan.functions[function].parameters.len() as u16, body));
     }
@@ -51,9 +53,15 @@ pub fn greatest(random: &mut Random) -> Vec<u8> {
 
 /// A body that keeps nodes for the wide case and the functions still to
 /// come, of those left.
-fn body(random: &mut Random, plan: &Plan, function: usize, wide: usize, left: usize) -> Expr {
+fn body(
+    random: &mut Random,
+    (plan, earlier): (&Plan, &mut Earlier),
+    function: usize,
+    wide: usize,
+    left: usize,
+) -> Expr {
     let spend = random.between(1, 14) as i32;
-    let mut grow = Grow::new(random, plan, function, spend);
+    let mut grow = Grow::new(random, plan, earlier, function, spend);
     if function == wide {
         return wide_case(&mut grow);
     }
@@ -95,14 +103,25 @@ fn build_any(grow: &mut Grow) -> Expr {
     )
 }
 
+/// Nodes of a call with the most arguments, each of one node.
+const CALL_NODES: usize = 1 + MOST_FIELDS;
+
 /// An expression of exactly `size` nodes; `single` is a constructor of arity
 /// 1. Without one a size of 2 comes out as 1.
 fn exact(random: &mut Random, size: usize, single: Option<u16>) -> Expr {
     match (size, single) {
         (2, Some(single)) => build(single, vec![number(random.number())]),
         (0..=2, _) => number(random.number()),
+        (CALL_NODES, _) => {
+            // One of few, so that some are equal.
+            let argument = number(random.below(2) as i32);
+            call(random.between(1, 3) as u16, vec![argument; MOST_FIELDS])
+        }
         _ => {
-            let left = random.between(1, size - 2);
+            let left = match size {
+                20.. if random.chance(30) => CALL_NODES,
+                _ => random.between(1, size - 2),
+            };
             let code = random.below(6) as u16;
             let low = exact(random, left, single);
             let high = exact(random, size - 1 - left, single);

@@ -2,6 +2,7 @@
 
 use super::plan::Plan;
 use super::random::Random;
+use super::repeat::{Earlier, Site};
 use zifnora::build_sheet::{
     build, call, case, if_else, number, operator, parameter, pattern, Expr,
 };
@@ -11,6 +12,8 @@ use zifnora::build_sheet::{ADD, DIVIDE, LESS, MULTIPLY, SUBTRACT};
 pub struct Grow<'a> {
     pub random: &'a mut Random,
     pub plan: &'a Plan,
+    /// What the sheet has already.
+    earlier: &'a mut Earlier,
     pub function: usize,
     /// Nodes still to be spent.
     pub left: i32,
@@ -34,15 +37,29 @@ const PRODUCTS: [(i32, i32); 5] = [
 ];
 
 impl<'a> Grow<'a> {
-    pub fn new(random: &'a mut Random, plan: &'a Plan, function: usize, left: i32) -> Grow<'a> {
+    pub fn new(
+        random: &'a mut Random,
+        plan: &'a Plan,
+        earlier: &'a mut Earlier,
+        function: usize,
+        left: i32,
+    ) -> Grow<'a> {
         Grow {
             random,
             plan,
+            earlier,
             function,
             left,
             clause: None,
             calls: true,
             upwards: false,
+        }
+    }
+
+    fn site(&self) -> Site {
+        Site {
+            function: self.function,
+            clause: self.clause,
         }
     }
 
@@ -66,11 +83,7 @@ impl<'a> Grow<'a> {
         let share = self.left / 4;
         let all = self.left - share;
         self.left = share;
-        let scrutinee = if self.calls {
-            self.busy(of)
-        } else {
-            self.expr(of, DEPTH)
-        };
+        let scrutinee = self.scrutinee(of);
         self.calls = true;
         self.upwards = false;
         let plan = self.plan;
@@ -91,6 +104,23 @@ impl<'a> Grow<'a> {
         }
         self.clause = None;
         case(scrutinee, clauses)
+    }
+
+    /// A new scrutinee, or one that the sheet has already.
+    fn scrutinee(&mut self, of: u16) -> Expr {
+        let site = self.site();
+        if self.random.chance(15) {
+            let again = self.earlier.scrutinee(self.random, self.plan, of, site);
+            if let Some(again) = again {
+                return again;
+            }
+        }
+        let scrutinee = match self.calls {
+            true => self.busy(of),
+            false => self.expr(of, DEPTH),
+        };
+        self.earlier.note_scrutinee(of, site, &scrutinee);
+        scrutinee
     }
 
     /// With fuel: `if 0 < fuel then (with calls) else (without)`.
@@ -218,8 +248,17 @@ impl<'a> Grow<'a> {
         (function > 0 || self.random.chance(5)).then_some(function)
     }
 
+    /// A new call, or one that the sheet has already.
     pub fn call(&mut self, function: usize, depth: u32) -> Expr {
-        let plan = self.plan;
+        let (plan, site) = (self.plan, self.site());
+        if !self.upwards && self.random.chance(20) {
+            let size = 4 + self.left.max(0) as usize;
+            let again = self.earlier.call(self.random, plan, function, site, size);
+            if let Some(again) = again {
+                self.left -= again.size() as i32;
+                return again;
+            }
+        }
         let mut arguments = Vec::new();
         for (position, &parameter) in plan.functions[function].parameters.iter().enumerate() {
             if plan.fuel && position == 0 {
@@ -228,7 +267,9 @@ impl<'a> Grow<'a> {
                 arguments.push(self.expr(parameter, depth.saturating_sub(1)));
             }
         }
-        call(function as u16, arguments)
+        let call = call(function as u16, arguments);
+        self.earlier.note_call(site, &call);
+        call
     }
 
     /// The fuel handed on: one less than the own, or a small number.

@@ -6,9 +6,11 @@ pub mod damage;
 pub mod expr;
 pub mod plan;
 pub mod random;
+pub mod repeat;
 pub mod sheet;
 pub mod sizes;
 pub mod targeted;
+pub mod template;
 pub mod translation;
 
 #[cfg(test)]

@@ -3,6 +3,7 @@
 use super::expr::Grow;
 use super::plan::{plan, Limits};
 use super::random::Random;
+use super::repeat::Earlier;
 use zifnora::build_sheet::*;
 use zifnora::sizes::MOST_NODES;
 
@@ -64,10 +65,11 @@ pub fn encode(random: &mut Random, program: &Program) -> Vec<u8> {
 
 pub fn program(random: &mut Random, limits: &Limits, budget: usize) -> Program {
     let plan = plan(random, limits);
+    let mut earlier = Earlier::default();
     let mut functions: Vec<(u16, Expr)> = Vec::new();
     for number in 0..plan.functions.len() {
         let left = random.between(1, 2 * budget) as i32;
-        let mut grow = Grow::new(random, &plan, number, left);
+        let mut grow = Grow::new(random, &plan, &mut earlier, number, left);
         let body = grow.body();
         functions.push((plan.functions[number].parameters.len() as u16, body));
     }

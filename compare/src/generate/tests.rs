@@ -2,7 +2,8 @@
 
 use super::case::{well_formed, Case};
 use super::random::Random;
-use super::{ceiling, translation};
+use super::{ceiling, sheet, template, translation};
+use crate::model::translate::{translate, Labelling};
 use crate::model::translation as read_translation;
 use crate::model::{Behaviour, Correct};
 use zifnora::numbers::BAD_TREE;
@@ -19,6 +20,23 @@ fn well_formed_sheets_are_accepted() {
         let length = length.expect("accepted and short enough");
         assert!(read_translation::read(&Correct, &out[..length]).is_ok());
     }
+}
+
+#[test]
+fn calls_share_labels_often() {
+    let sharing = |make: fn(&mut Random) -> Vec<u8>| {
+        let shares = |seed: &u64| {
+            let file = make(&mut Random::new(*seed));
+            let sheet = Correct.read_sheet(&file).expect("accepted");
+            let [now, each] = [Labelling::EqualCalls, Labelling::EachCall]
+                .map(|labelling| translate(&Correct, &sheet, labelling));
+            now != each
+        };
+        (0..200).filter(shares).count()
+    };
+    assert!(sharing(template::template) >= 190);
+    assert!(sharing(ceiling::greatest) >= 150);
+    assert!(sharing(sheet::sheet) >= 50);
 }
 
 #[test]

@@ -6,7 +6,9 @@ use super::batch::{self, Rows};
 use super::records::{Record, Records};
 use super::run::{Run, Value};
 use super::sheet::Sheet;
+use super::translate::Labelling;
 use super::translation::Translation;
+use super::trees::Tree;
 use super::{joined, listing, operator, rules, run, sheet, translate, Refusal};
 use crate::interface::Allowances;
 
@@ -63,7 +65,12 @@ pub trait Behaviour: Sized {
 
     // Translating.
     fn translate(&self, sheet: &Sheet) -> Translation {
-        translate::translate(sheet)
+        translate::translate(self, sheet, Labelling::EqualCalls)
+    }
+
+    /// What a node counts as where trees are compared.
+    fn tree(&self, _sheet: &Sheet, _node: usize, tree: Tree) -> Tree {
+        tree
     }
 
     fn translate_into(&self, file: &[u8], out: &mut [u8]) -> Result<usize, Refusal> {

@@ -17,6 +17,7 @@ pub mod run;
 pub mod sheet;
 pub mod translate;
 pub mod translation;
+pub mod trees;
 
 #[cfg(test)]
 mod tests;

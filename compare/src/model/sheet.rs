@@ -6,7 +6,7 @@ use super::{Behaviour, Refusal};
 use zifnora::kinds::sheet as kinds;
 use zifnora::numbers::{BAD_COUNT, OVERSIZE};
 
-#[derive(Clone, Debug, PartialEq, Eq)]
+#[derive(Clone, Debug, PartialEq, Eq, Hash)]
 pub enum Node {
     Number(i32),
     Reading(u16),
@@ -56,6 +56,15 @@ impl Sheet {
     /// Record number of a node.
     pub fn record_of(&self, node: usize) -> u32 {
         (1 + self.arities.len() + self.counts.len() + node) as u32
+    }
+
+    /// The scrutinee of the case that is a function's body; an accepted sheet
+    /// has pattern variables only below such a case.
+    pub fn scrutinee(&self, function: u16) -> u16 {
+        match &self.nodes[self.bodies[function as usize] as usize] {
+            Node::Case { scrutinee, .. } => *scrutinee,
+            _ => unreachable!("pattern variable outside a case"),
+        }
     }
 }
 

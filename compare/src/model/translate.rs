@@ -1,15 +1,28 @@
-//! The translator (002, figure 7, with the labels of section 2.1).
+//! The translator (002, figure 7).
 
 use super::sheet::{self, Sheet};
 use super::translation::{Node, Translation};
+use super::{trees, Behaviour};
+
+/// Which calls of a function share a label.
+#[derive(Clone, Copy, Debug, PartialEq, Eq)]
+pub enum Labelling {
+    /// Those that are equal trees (document 02, request 4; 002, section 3.4).
+    EqualCalls,
+    /// None (document 01; 002, section 2.1).
+    EachCall,
+}
 
 /// The translation of an accepted sheet.
-pub fn translate(sheet: &Sheet) -> Translation {
-    let mut calls = Calls::new(sheet);
+pub fn translate<B: Behaviour>(behaviour: &B, sheet: &Sheet, labelling: Labelling) -> Translation {
+    let classes = match labelling {
+        Labelling::EqualCalls => trees::classes(behaviour, sheet),
+        Labelling::EachCall => (0..sheet.nodes.len() as u16).collect(),
+    };
+    let mut calls = Calls::new(sheet, classes);
     let mut nodes = Vec::with_capacity(sheet.nodes.len());
-    for (number, node) in sheet.nodes.iter().enumerate() {
-        let owner = sheet.owners[number] as usize;
-        nodes.push(translate_node(sheet, owner, node, &mut calls));
+    for number in 0..sheet.nodes.len() {
+        nodes.push(translate_node(sheet, number, &mut calls));
     }
     Translation {
         readings: sheet.readings,
@@ -26,10 +39,14 @@ struct Calls {
     first_formal: Vec<u16>,
     formals: Vec<Vec<u16>>,
     next_label: Vec<u16>,
+    /// Calls of one class share a label.
+    classes: Vec<u16>,
+    /// The label of each class of calls that were met.
+    labels: Vec<Option<u16>>,
 }
 
 impl Calls {
-    fn new(sheet: &Sheet) -> Calls {
+    fn new(sheet: &Sheet, classes: Vec<u16>) -> Calls {
         let mut first_formal = Vec::new();
         let mut count = 0;
         for &parameters in &sheet.parameters {
@@ -40,29 +57,40 @@ impl Calls {
             first_formal,
             formals: vec![Vec::new(); count as usize],
             next_label: vec![0; sheet.parameters.len()],
+            labels: vec![None; classes.len()],
+            classes,
         }
     }
 
-    /// Labels a call and notes its arguments.
-    fn add(&mut self, function: u16, arguments: &[u16]) -> Node {
+    /// The label of a call; a new one is the next number, and notes the
+    /// arguments.
+    fn label(&mut self, number: usize, function: u16, arguments: &[u16]) -> u16 {
+        let class = self.classes[number] as usize;
+        if let Some(label) = self.labels[class] {
+            return label;
+        }
         let callee = function as usize;
         let label = self.next_label[callee];
         self.next_label[callee] += 1;
+        self.labels[class] = Some(label);
         let first = self.first_formal[callee] as usize;
         for (formal, &argument) in self.formals[first..].iter_mut().zip(arguments) {
             formal.push(argument);
         }
-        Node::Call { label, function }
+        label
     }
 }
 
-fn translate_node(sheet: &Sheet, owner: usize, node: &sheet::Node, calls: &mut Calls) -> Node {
-    match node {
+fn translate_node(sheet: &Sheet, number: usize, calls: &mut Calls) -> Node {
+    let owner = sheet.owners[number];
+    match &sheet.nodes[number] {
         &sheet::Node::Number(number) => Node::Number(number),
         &sheet::Node::Reading(reading) => Node::Reading(reading),
-        &sheet::Node::Parameter(position) => Node::Formal(calls.first_formal[owner] + position),
+        &sheet::Node::Parameter(position) => {
+            Node::Formal(calls.first_formal[owner as usize] + position)
+        }
         &sheet::Node::Pattern(position) => Node::Select {
-            node: scrutinee(sheet, owner),
+            node: sheet.scrutinee(owner),
             index: position + 1,
         },
         &sheet::Node::Operator { code, left, right } => Node::Operator { code, left, right },
@@ -70,7 +98,10 @@ fn translate_node(sheet: &Sheet, owner: usize, node: &sheet::Node, calls: &mut C
         sheet::Node::Call {
             function,
             arguments,
-        } => calls.add(*function, arguments),
+        } => Node::Call {
+            label: calls.label(number, *function, arguments),
+            function: *function,
+        },
         sheet::Node::Build {
             constructor,
             arguments,
@@ -82,14 +113,5 @@ fn translate_node(sheet: &Sheet, owner: usize, node: &sheet::Node, calls: &mut C
             scrutinee: *scrutinee,
             clauses: clauses.clone(),
         },
-    }
-}
-
-/// The scrutinee of the case that is a function's body; an accepted sheet
-/// has pattern variables only below such a case.
-fn scrutinee(sheet: &Sheet, function: usize) -> u16 {
-    match &sheet.nodes[sheet.bodies[function] as usize] {
-        sheet::Node::Case { scrutinee, .. } => *scrutinee,
-        _ => unreachable!("pattern variable outside a case"),
     }
 }

@@ -1,18 +1,20 @@
--- The rule at its allowances: an outcome that is no stop stays at all larger ones, is the sheet's own, and the sheet's own is
--- reached. Each law stands for visits from any state whose cells are in order first, then for the whole evaluation.
+-- The rule at its allowances: an outcome that is no stop stays at all larger ones; with a label for each call it is the sheet's own,
+-- and the sheet's own is reached. Each law stands for visits from any state whose cells are in order first, then for the whole
+-- evaluation.
 use mathlib.Core.Path.{_≡_, refl, sym, _∙_}
 use Prim.Native.Nat.{ℕ, _≤_}
 use mathlib.Core.List.{List, []}
-use mathlib.Core.Bool.{true, false}
+use mathlib.Core.Bool.{false}
 use native.Mathlib.Omega.{arith}
 use lib.IntN.{ℤ}
 use lib.ListN.{length}
-use Rattle.definitions.specs.Numbers.{isStop, isAnswer}
+use Rattle.definitions.specs.Numbers.{isStop}
 use Rattle.definitions.specs.Layouts.{bodyOf}
 use Rattle.definitions.specs.SheetNodes.{sheetNodeOf}
 use Rattle.definitions.specs.Outcomes.{Outcome}
 use Rattle.definitions.specs.Checks.{sheetVerdict}
-use Rattle.definitions.specs.Translate.{translation}
+use Rattle.definitions.specs.Labels.{neverShared}
+use Rattle.definitions.specs.Translate.{unsharedTranslation}
 use Rattle.definitions.specs.Rule.{Reached, visited}
 use Rattle.definitions.specs.Cells.{Cell, byCells, evaluation}
 use Rattle.definitions.specs.Run.{endingOutcome, ruleEnd}
@@ -25,7 +27,7 @@ use Rattle.readback.proofs.Nodes.{body-read}
 use Rattle.rule_laws.specs.Reads.{stateOf}
 use Rattle.rule_laws.specs.Found.{stopped}
 use Rattle.rule_laws.specs.Reached.{Allowed}
-use Rattle.agreement.specs.Answers.{ruleOutcome, RuleGives}
+use Rattle.agreement.specs.Answers.{ruleOutcome}
 use Rattle.rule_laws.specs.Derivations.{depthOf, stepsOf, cellsOf}
 use Rattle.agreement.specs.Contexts.{Stands, outermost}
 use Rattle.agreement.specs.Corresponds.{At, Visited}
@@ -36,8 +38,7 @@ use Rattle.agreement.proofs.Corresponds.{start-at}
 use Rattle.agreement.proofs.Becomes.{becomes}
 use Rattle.agreement.proofs.Sound.{sound}
 use Rattle.agreement.proofs.Complete.{complete}
-use Rattle.laws.proofs.Classes.{answer-no-stop}
-use Rattle.agreement.proofs.Outcomes.{same-shown, same-meant, stop-shown, own-answer}
+use Rattle.agreement.proofs.Outcomes.{same-shown, same-meant, stop-shown}
 
 -- the visit of node k under cell w, at a nesting and a cell allowance, from so many steps left and these cells
 abbrev pub visitOf : List ℕ → List ℤ → ℕ → ℕ → ℕ → List Cell → ℕ → ℕ → Reached ℕ (List Cell)
@@ -81,40 +82,42 @@ module _ (b : List ℕ) (accepted : sheetVerdict b ≡ Accepted) (rs : List ℤ)
   -- an outcome that is no stop is the sheet's own
   pub visit-sound : (left nesting cellsAllowed k w : ℕ) {store : List Cell} {ws : List ℕ} {s : Setting} → Stands store w ws → length store ≤ cellsAllowed
       → At b rs k ws s
-      → stopped (visitOf (translation b) rs nesting cellsAllowed left store k w .ending) ≡ false
-      → MeansOutcome b rs k s (endingOutcome (translation b) (visitOf (translation b) rs nesting cellsAllowed left store k w .ending))
+      → stopped (visitOf (unsharedTranslation b) rs nesting cellsAllowed left store k w .ending) ≡ false
+      → MeansOutcome b rs k s (endingOutcome (unsharedTranslation b) (visitOf (unsharedTranslation b) rs nesting cellsAllowed left store k w .ending))
   visit-sound left nesting cellsAllowed k w {store} s fits a h =
-      let f = finds-all (translation b) rs cellsAllowed nesting .finds k w (stateOf left store) (record { stands = s; room = fits }) h .comes in
+      let f = finds-all (unsharedTranslation b) rs cellsAllowed nesting .finds k w (stateOf left store) (record { stands = s; room = fits }) h .comes in
       let m = sound b accepted (f .visits) (becomes b accepted k (a .below)) refl a in
       record { end = m .end; means = m .means; agrees = sym (same-meant accepted (f .arrives .shows) (m .agrees)) }
 
   -- the body at which evaluation starts is the sheet's
-  start-read : bodyOf Translation (translation b) 0 ≡ bodyOf Sheet b 0
-  start-read = body-read b accepted 0 (functions-least Sheet b (sheet-shape b accepted))
+  start-read : bodyOf Translation (unsharedTranslation b) 0 ≡ bodyOf Sheet b 0
+  unfolding unsharedTranslation
+  start-read = body-read neverShared b accepted 0 (functions-least Sheet b (sheet-shape b accepted))
 
   -- the whole evaluation as a visit of the sheet's own body
   rule-start : (steps nesting cellsAllowed : ℕ)
-      → ruleOutcome (translation b) rs steps nesting cellsAllowed ≡ endingOutcome (translation b) (visitOf (translation b) rs nesting cellsAllowed steps [] (bodyOf Sheet b 0) 0 .ending)
+      → ruleOutcome (unsharedTranslation b) rs steps nesting cellsAllowed
+      ≡ endingOutcome (unsharedTranslation b) (visitOf (unsharedTranslation b) rs nesting cellsAllowed steps [] (bodyOf Sheet b 0) 0 .ending)
   unfolding ruleOutcome ruleEnd evaluation
   rule-start steps nesting cellsAllowed = rw start-read refl
 
-  pub rule-sound : (steps nesting cellsAllowed : ℕ) → isStop (ruleOutcome (translation b) rs steps nesting cellsAllowed .outcome) ≡ false
-      → OwnAnswer b rs (ruleOutcome (translation b) rs steps nesting cellsAllowed)
+  pub rule-sound : (steps nesting cellsAllowed : ℕ) → isStop (ruleOutcome (unsharedTranslation b) rs steps nesting cellsAllowed .outcome) ≡ false
+      → OwnAnswer b rs (ruleOutcome (unsharedTranslation b) rs steps nesting cellsAllowed)
   rule-sound steps nesting cellsAllowed h =
       let p = rule-start steps nesting cellsAllowed in
-      let r = visitOf (translation b) rs nesting cellsAllowed steps [] (bodyOf Sheet b 0) 0 in
-      let q = sym (stop-shown (translation b) (r .ending)) ∙ (rw p at h) in
+      let r = visitOf (unsharedTranslation b) rs nesting cellsAllowed steps [] (bodyOf Sheet b 0) 0 in
+      let q = sym (stop-shown (unsharedTranslation b) (r .ending)) ∙ (rw p at h) in
       let m = visit-sound steps nesting cellsAllowed (bodyOf Sheet b 0) 0 outermost (omega arith) (start-at b accepted) q in
       record { end = m .end; means = m .means; agrees = m .agrees ∙ sym p }
 
   -- the sheet's own outcome is reached, and had from there on
   pub visit-complete : (left nesting cellsAllowed k w : ℕ) {store : List Cell} {ws : List ℕ} {d : End} (v : Visited b rs k ws d) → Stands store w ws
-      → Allowed (cellReads (translation b) cellsAllowed) cellsAllowed (v .trace) nesting (stateOf left store)
-      → endingOutcome (translation b) (visitOf (translation b) rs nesting cellsAllowed left store k w .ending) ≡ outcomeOf d
+      → Allowed (cellReads (unsharedTranslation b) cellsAllowed) cellsAllowed (v .trace) nesting (stateOf left store)
+      → endingOutcome (unsharedTranslation b) (visitOf (unsharedTranslation b) rs nesting cellsAllowed left store k w .ending) ≡ outcomeOf d
   visit-complete left nesting cellsAllowed k w v s p =
-      same-meant accepted (follows (translation b) rs cellsAllowed nesting left k w (v .visits) s p .shows) (v .agrees)
+      same-meant accepted (follows (unsharedTranslation b) rs cellsAllowed nesting left k w (v .visits) s p .shows) (v .agrees)
 
-  pub rule-complete : {a : Outcome} → OwnAnswer b rs a → Reaches (translation b) rs a
+  pub rule-complete : {a : Outcome} → OwnAnswer b rs a → Reaches (unsharedTranslation b) rs a
   rule-complete o =
       let v = complete b accepted (o .means) (bodyOf Sheet b 0) refl (start-at b accepted) in
       record {
@@ -126,21 +129,3 @@ module _ (b : List ℕ) (accepted : sheetVerdict b ≡ Accepted) (rs : List ℤ)
             ∙ visit-complete steps nesting cellsAllowed (bodyOf Sheet b 0) 0 v outermost (record { depth = q; steps = p; cells = omega arith })
             ∙ o .agrees;
       }
-
-  -- the rule gives an answer at some allowances exactly when it is the sheet's own
-  pub rule-gives-own : {a : Outcome} → RuleGives (translation b) rs a → isAnswer (a .outcome) ≡ true → OwnAnswer b rs a
-  rule-gives-own g h =
-      let e = g .gives in
-      rw e at (rule-sound (g .steps) (g .nesting) (g .cellsAllowed) (answer-no-stop _ (rw e h)))
-
-  pub own-rule-gives : {a : Outcome} → OwnAnswer b rs a → RuleGives (translation b) rs a × (isAnswer (a .outcome) ≡ true)
-  own-rule-gives o =
-      let r = rule-complete o in (
-        record {
-          steps = r .steps;
-          nesting = r .nesting;
-          cellsAllowed = r .cellsAllowed;
-          gives = r .gives (r .steps) (r .nesting) (r .cellsAllowed) (omega arith) (omega arith) (omega arith);
-        },
-        own-answer o,
-      )

@@ -1,14 +1,15 @@
--- The node of the translation that a sheet's node becomes, as a relation between the two.
+-- The node of the translation with a label for each call that a sheet's node becomes, as a relation between the two.
 use mathlib.Core.Path.{_≡_, refl}
 use Prim.Native.Nat.{ℕ, suc, _<_}
 use mathlib.Core.List.{List}
 use lib.IntN.{ℤ}
 use Rattle.definitions.specs.Layouts.{nodes, ownerOf}
 use Rattle.definitions.specs.NodeFields.{Clause}
-use Rattle.definitions.specs.SheetNodes.{SheetNode, number, reading, parameter, patternVariable, operator, conditional, call, build, caseOf, sheetNodeOf}
+use Rattle.definitions.specs.SheetNodes.{SheetNode, number, reading, parameter, patternVariable, operator, conditional, call, build, caseOf, sheetNodeOf, scrutineeOf}
 use Rattle.definitions.specs.TranslationNodes.{TranslationNode, translationNodeOf}
 use Rattle.definitions.specs.Checks.{sheetVerdict}
-use Rattle.definitions.specs.Translate.{labelOf, formalOf, scrutineeOf, translation}
+use Rattle.definitions.specs.Labels.{neverShared, labelOf}
+use Rattle.definitions.specs.Translate.{formalOf, unsharedTranslation}
 use Rattle.definitions.specs.declared.Layout.the-variants.{Sheet}
 use Rattle.definitions.specs.declared.Verdict.the-variants.{Accepted}
 use Rattle.readback.specs.TranslatedNode.{translatedNode}
@@ -22,12 +23,12 @@ pub data Becomes (b : List ℕ) (k : ℕ) : SheetNode → TranslationNode → Ty
   becomes-select : {i n : ℕ} → scrutineeOf b k ≡ n → Becomes b k (patternVariable i) (TranslationNode.select n (suc i))
   becomes-operator : {o l r : ℕ} → Becomes b k (operator o l r) (TranslationNode.operator o l r)
   becomes-conditional : {n p q : ℕ} → Becomes b k (conditional n p q) (TranslationNode.conditional n p q)
-  becomes-call : {f l : ℕ} {ns : List ℕ} → labelOf b f k ≡ l → Becomes b k (call f ns) (TranslationNode.call l f)
+  becomes-call : {f l : ℕ} {ns : List ℕ} → labelOf neverShared b f k ≡ l → Becomes b k (call f ns) (TranslationNode.call l f)
   becomes-tuple : {c : ℕ} {ns : List ℕ} → Becomes b k (build c ns) (TranslationNode.tuple c ns)
   becomes-case : {n : ℕ} {cs : List Clause} → Becomes b k (caseOf n cs) (TranslationNode.caseOf n cs)
 
 -- as it is translated
-becomes-translated : (b : List ℕ) (k : ℕ) (nd : SheetNode) → Becomes b k nd (translatedNode b k nd)
+becomes-translated : (b : List ℕ) (k : ℕ) (nd : SheetNode) → Becomes b k nd (translatedNode neverShared b k nd)
 unfolding translatedNode
 becomes-translated b k (number z) = becomes-number
 becomes-translated b k (reading i) = becomes-reading
@@ -41,5 +42,6 @@ becomes-translated b k (caseOf n cs) = becomes-case
 
 -- a node of an accepted sheet becomes the translation's node of its number
 pub becomes : (b : List ℕ) → sheetVerdict b ≡ Accepted → (k : ℕ) → k < nodes b
-    → Becomes b k (sheetNodeOf b k) (translationNodeOf (translation b) k)
-becomes b accepted k h = rw (node-becomes b accepted k h) (becomes-translated b k (sheetNodeOf b k))
+    → Becomes b k (sheetNodeOf b k) (translationNodeOf (unsharedTranslation b) k)
+unfolding unsharedTranslation
+becomes b accepted k h = rw (node-becomes neverShared b accepted k h) (becomes-translated b k (sheetNodeOf b k))

@@ -11,10 +11,11 @@ use lib.ListN.{getElem?}
 use Rattle.definitions.specs.Layouts.{functions, nodes, bodyOf, ownerOf}
 use Rattle.definitions.specs.References.{parameters, arity}
 use Rattle.definitions.specs.NodeFields.{Clause, chosen}
-use Rattle.definitions.specs.SheetNodes.{SheetNode, patternVariable, conditional, call, build, caseOf, sheetNodeOf}
+use Rattle.definitions.specs.SheetNodes.{SheetNode, patternVariable, conditional, call, build, caseOf, sheetNodeOf, scrutineeOf}
 use Rattle.definitions.specs.TranslationNodes.{translationNodeOf, actual, tupleFields}
 use Rattle.definitions.specs.Checks.{clauseWithin, sheetVerdict}
-use Rattle.definitions.specs.Translate.{labelOf, formalOf, scrutineeOf, translation}
+use Rattle.definitions.specs.Labels.{neverShared, labelOf}
+use Rattle.definitions.specs.Translate.{formalOf, unsharedTranslation}
 use Rattle.definitions.specs.Rule.{value, constructor}
 use Rattle.agreement.specs.Meaning.{Setting, empty, entered, holding, closureAt, argumentOf, heldField}
 use Rattle.definitions.specs.declared.Layout.the-variants.{Sheet}
@@ -29,14 +30,15 @@ use Rattle.accepted.proofs.Trees.{child-below, child-owner, case-body}
 use Rattle.accepted.proofs.Clauses.{chosen-found}
 use Rattle.accepted.proofs.Places.{body-place, same-place, scrutinee-place, chosen-place}
 use Rattle.accepted.proofs.Patterns.{scrutinee-is, pattern-held}
-use Rattle.readback.proofs.Nodes.{actual-argument, tuple-fields-read}
+use Rattle.readback.proofs.Nodes.{tuple-fields-read}
+use Rattle.readback.proofs.Unshared.{actual-argument}
 use Rattle.rule_laws.specs.Derivations.{Trace, Derivation}
 use Rattle.agreement.specs.Corresponds.{Corresponds, outset, called, held, At}
 
 -- the argument of a function's parameter i: the actual that the head label names, under the tail
 pub data ArgumentAt (b : List ℕ) (rs : List ℤ) (f i : ℕ) : List ℕ → Setting → Type 0 where
   argument-at : {l n : ℕ} {ws : List ℕ} {s u : Setting}
-      → actual (translation b) (formalOf b f i) l ≡ some n
+      → actual (unsharedTranslation b) (formalOf b f i) l ≡ some n
       → argumentOf s i ≡ some (record { node = n; setting = u })
       → At b rs n ws u
       → ArgumentAt b rs f i (l ∷ ws) s
@@ -55,10 +57,10 @@ pub record FieldAt (b : List ℕ) (rs : List ℤ) (f i : ℕ) (ws : List ℕ) (s
   pub trace : Trace
   pub tuple : ℕ
   pub labels : List ℕ
-  pub visits : Derivation (translation b) rs (translationNodeOf (translation b) scrutinee) scrutinee ws trace (value (constructor tuple labels))
+  pub visits : Derivation (unsharedTranslation b) rs (translationNodeOf (unsharedTranslation b) scrutinee) scrutinee ws trace (value (constructor tuple labels))
   pub node : ℕ
   pub setting : Setting
-  pub there : getElem? (tupleFields (translation b) tuple) i ≡ some node
+  pub there : getElem? (tupleFields (unsharedTranslation b) tuple) i ≡ some node
   pub holds : heldField s i ≡ some (record { node = node; setting = setting })
   pub at : At b rs node labels setting
 
@@ -89,7 +91,7 @@ module _ (b : List ℕ) (accepted : sheetVerdict b ≡ Accepted) {rs : List ℤ}
         (same-place b accepted k (a .below) e n c) (a .corresponds)
 
     -- into the body of a function that is called
-    pub body-at : {f : ℕ} {ns : List ℕ} → sheetNodeOf b k ≡ call f ns → At b rs (bodyOf Sheet b f) (labelOf b f k ∷ ws) (entered ns s)
+    pub body-at : {f : ℕ} {ns : List ℕ} → sheetNodeOf b k ≡ call f ns → At b rs (bodyOf Sheet b f) (labelOf neverShared b f k ∷ ws) (entered ns s)
     body-at {f} e = body-placed f (call-below b accepted k (a .below) e) (called (a .below) e refl (a .corresponds))
 
     module _ {n : ℕ} {cs : List Clause} (e : sheetNodeOf b k ≡ caseOf n cs) where
@@ -105,7 +107,7 @@ module _ (b : List ℕ) (accepted : sheetVerdict b ≡ Accepted) {rs : List ℤ}
 
       -- to the clause of the constructor with which the scrutinee ends
       pub clause-at : {m j c : ℕ} {vs ns : List ℕ} {u : Setting} {d : Trace}
-          → Derivation (translation b) rs (translationNodeOf (translation b) n) n ws d (value (constructor m vs))
+          → Derivation (unsharedTranslation b) rs (translationNodeOf (unsharedTranslation b) n) n ws d (value (constructor m vs))
           → At b rs m vs u
           → sheetNodeOf b m ≡ build c ns
           → chosen cs c ≡ some j
@@ -120,7 +122,7 @@ module _ (b : List ℕ) (accepted : sheetVerdict b ≡ Accepted) {rs : List ℤ}
   -- to the argument of a parameter
   pub argument-of : {f i : ℕ} {p : Option ℕ} {ws : List ℕ} {s : Setting} → Corresponds b rs f p ws s → i < parameters b f
       → ArgumentAt b rs f i ws s
-  unfolding argumentOf closureAt
+  unfolding argumentOf closureAt unsharedTranslation
   argument-of outset h = absurd (omega (arith, h, result-parameters b accepted))
   argument-of {i} (called {k} {f} {ns} {ws} {s} h e l c) g =
       let x = element-there ns i (rw (call-count b accepted k h e) g) in
@@ -130,7 +132,7 @@ module _ (b : List ℕ) (accepted : sheetVerdict b ≡ Accepted) {rs : List ℤ}
 
   -- to the field of a constructor that is held
   pub field-of : {f i c : ℕ} {ws : List ℕ} {s : Setting} → Corresponds b rs f (some c) ws s → i < arity b c → FieldAt b rs f i ws s
-  unfolding heldField closureAt
+  unfolding heldField closureAt unsharedTranslation
   field-of {i} (held {n} {m} {cs} {a} {vs} {ns} {u} e v h q c d) g =
       let x = element-there ns i (rw (build-count b accepted m h q) g) in
       record {
@@ -143,7 +145,7 @@ module _ (b : List ℕ) (accepted : sheetVerdict b ≡ Accepted) {rs : List ℤ}
         visits = v;
         node = x .element;
         setting = u;
-        there = rw (tuple-fields-read b accepted m h q) (x .there);
+        there = rw (tuple-fields-read neverShared b accepted m h q) (x .there);
         holds = rw (x .there) refl;
         at = child-at (record { below = h; corresponds = c }) q refl (component i (x .there));
       }

@@ -14,7 +14,8 @@ use Rattle.definitions.specs.declared.Verdict.the-variants.{Accepted}
 use Rattle.agreement.specs.Answers.{ruleOutcome, RuleGives}
 use Rattle.definitions.specs.Numbers.{isAnswer}
 use Rattle.laws.proofs.Classes.{answer-no-stop}
-use Rattle.agreement.proofs.Allowances.{rule-stays, rule-gives-own, own-rule-gives}
+use Rattle.agreement.proofs.Allowances.{rule-stays}
+use Rattle.agreement.proofs.Shared.{rule-gives-own, own-rule-gives}
 
 module _ (b : List ℕ) (rs : List ℤ) (accepted : sheetVerdict b ≡ Accepted) where
   -- "The evaluation rule taken without ceilings gives a number, constructor or run fault at some allowances exactly when it is

@@ -1,5 +1,6 @@
 pub mod Demand3
 pub mod Runs
+pub mod Shared
 pub mod Allowances
 pub mod Outcomes
 pub mod Overflows

@@ -13,7 +13,7 @@ use Rattle.definitions.specs.Operators.{Computed, gives, faults, isZero}
 use Rattle.definitions.specs.NodeFields.{Clause}
 use Rattle.definitions.specs.SheetNodes.{SheetNode, parameter, patternVariable, operator, conditional, call, build, caseOf, sheetNodeOf}
 use Rattle.definitions.specs.TranslationNodes.{translationNodeOf, actual, tupleFields}
-use Rattle.definitions.specs.Translate.{formalOf, translation}
+use Rattle.definitions.specs.Translate.{formalOf, unsharedTranslation}
 use Rattle.definitions.specs.Rule.{Ending, value, ended, integer, constructor}
 use Rattle.agreement.specs.Meaning.{Setting, End, endOf, Means}
 use Rattle.agreement.specs.Meaning
@@ -100,7 +100,7 @@ module _ {b : List ℕ} {rs : List ℤ} where
 
     -- a parameter, by its argument
     pub parameter-meant : {f i l n : ℕ} {ws : List ℕ} {e : Ending (List ℕ)} → ArgumentAt b rs f i (l ∷ ws) s
-        → actual (translation b) (formalOf b f i) l ≡ some n
+        → actual (unsharedTranslation b) (formalOf b f i) l ≡ some n
         → ((u : Setting) → At b rs n ws u → Meant b rs (sheetNodeOf b n) u e)
         → Meant b rs (parameter i) s e
     parameter-meant {n} {ws} (argument-at {n = m} {u} h g a) q on =
@@ -108,7 +108,7 @@ module _ {b : List ℕ} {rs : List ℤ} where
         let x = on u (subst (λ (j : ℕ). At b rs j ws u) z a) in
         record { end = x .end; means = Means.parameter-argument {c = record { node = n; setting = u }} (rw z at g) (x .means); agrees = x .agrees }
 
-    pub parameter-listed : {f i l : ℕ} {ws : List ℕ} → ArgumentAt b rs f i (l ∷ ws) s → actual (translation b) (formalOf b f i) l ≡ none → ⊥
+    pub parameter-listed : {f i l : ℕ} {ws : List ℕ} → ArgumentAt b rs f i (l ∷ ws) s → actual (unsharedTranslation b) (formalOf b f i) l ≡ none → ⊥
     parameter-listed (argument-at {n = m} h g a) q = let z : _≡_ {A = ℕ} 0 1 = cc in omega arith
 
     pub parameter-inside : {f i : ℕ} {ws : List ℕ} → ArgumentAt b rs f i ws s → ws ≡ [] → ⊥
@@ -116,13 +116,13 @@ module _ {b : List ℕ} {rs : List ℤ} where
 
     -- a pattern variable, by the field
     module _ {f i n : ℕ} {ws : List ℕ} (x : FieldAt b rs f i ws s) (same : x .scrutinee ≡ n) where
-      pub scrutinee-ends : {a : Trace} {e : Ending (List ℕ)} → Derivation (translation b) rs (translationNodeOf (translation b) n) n ws a e
+      pub scrutinee-ends : {a : Trace} {e : Ending (List ℕ)} → Derivation (unsharedTranslation b) rs (translationNodeOf (unsharedTranslation b) n) n ws a e
           → e ≡ value (constructor (x .tuple) (x .labels))
       scrutinee-ends v = visits-one n v (rw same at (x .visits))
 
       pub pattern-meant : {m j : ℕ} {vs : List ℕ} {a : Trace} {e : Ending (List ℕ)}
-          → Derivation (translation b) rs (translationNodeOf (translation b) n) n ws a (value (constructor m vs))
-          → getElem? (tupleFields (translation b) m) i ≡ some j
+          → Derivation (unsharedTranslation b) rs (translationNodeOf (unsharedTranslation b) n) n ws a (value (constructor m vs))
+          → getElem? (tupleFields (unsharedTranslation b) m) i ≡ some j
           → ((u : Setting) → At b rs j vs u → Meant b rs (sheetNodeOf b j) u e)
           → Meant b rs (patternVariable i) s e
       pattern-meant {m} {j} {vs} v h on =
@@ -138,8 +138,8 @@ module _ {b : List ℕ} {rs : List ℤ} where
           }
 
       pub pattern-listed : {m : ℕ} {vs : List ℕ} {a : Trace}
-          → Derivation (translation b) rs (translationNodeOf (translation b) n) n ws a (value (constructor m vs))
-          → getElem? (tupleFields (translation b) m) i ≡ none → ⊥
+          → Derivation (unsharedTranslation b) rs (translationNodeOf (unsharedTranslation b) n) n ws a (value (constructor m vs))
+          → getElem? (tupleFields (unsharedTranslation b) m) i ≡ none → ⊥
       pattern-listed {m} v h =
           let p = scrutinee-ends v in
           let y : x .tuple ≡ m = cc in

@@ -12,7 +12,8 @@ use Rattle.definitions.specs.Operators.{Computed}
 use Rattle.definitions.specs.SheetNodes.{SheetNode}
 use Rattle.definitions.specs.Outcomes.{Outcome, numberOutcome, constructorOutcome, endOutcome}
 use Rattle.definitions.specs.Checks.{sheetVerdict}
-use Rattle.definitions.specs.Translate.{translation}
+use Rattle.definitions.specs.Labels.{neverShared}
+use Rattle.definitions.specs.Translate.{unsharedTranslation}
 use Rattle.definitions.specs.Rule.{Ending, value, ended, integer, constructor}
 use Rattle.definitions.specs.Run.{endingOutcome}
 use Rattle.laws.proofs.Ranges.{within-both}
@@ -39,10 +40,10 @@ same-shown t an-end an-end = refl
 -- an ending over cells and the end that the sheet's node means
 pub same-meant : {b : List ℕ} {rs : List ℤ} {A : ℕ → ℕ → List ℕ → Type 0} {x : Ending ℕ} {e : Ending (List ℕ)} {d : End} → sheetVerdict b ≡ Accepted
     → Shows A x e → Agrees b rs e d
-    → endingOutcome (translation b) x ≡ outcomeOf d
-unfolding endingOutcome outcomeOf
+    → endingOutcome (unsharedTranslation b) x ≡ outcomeOf d
+unfolding endingOutcome outcomeOf unsharedTranslation
 same-meant accepted an-integer integers = refl
-same-meant {b} accepted (a-constructor s) (constructors {k} a h) = rw (tag-read b accepted k (a .below) h) refl
+same-meant {b} accepted (a-constructor s) (constructors {k} a h) = rw (tag-read neverShared b accepted k (a .below) h) refl
 same-meant accepted an-end ends = refl
 
 -- an ending is stopped when its outcome is a stop's

@@ -13,6 +13,7 @@ use Rattle.definitions.specs.Verdicts.{_andThen_, require}
 use Rattle.definitions.specs.Layouts.{readings}
 use Rattle.definitions.specs.Checks.{sheetVerdict}
 use Rattle.definitions.specs.Outcomes.{Outcome}
+use Rattle.definitions.specs.Trees.{equalTrees}
 use Rattle.definitions.specs.Translate.{translation}
 use Rattle.definitions.specs.Run.{Answer, endingOutcome, reachedAnswer, ruleAnswer, allowancesFit, refusal, runVerdict, answerAfter, runAnswer}
 use Rattle.agreement.specs.Meaning.{OwnAnswer}
@@ -22,7 +23,7 @@ use Rattle.readback.proofs.Records.{translation-readings}
 use Rattle.readback.proofs.Accepted.{translation-accepted}
 use Rattle.agreement.specs.Answers.{ruleOutcome, answerOutcome, sheetRun, Unanswered, is-refused, is-stopped, RunEnds, without-answer, with-own}
 use Rattle.laws.proofs.Classes.{refusal-no-answer, answer-no-stop}
-use Rattle.agreement.proofs.Allowances.{rule-sound}
+use Rattle.agreement.proofs.Shared.{rule-sound}
 
 -- a run that is not refused has the rule's answer at its own allowances, and a run that is refused has the refusal
 pub run-rule : (t : List ℕ) (rs : List ℤ) (steps nesting cellsAllowed lent : ℕ) → runVerdict t rs nesting cellsAllowed lent ≡ Accepted
@@ -49,9 +50,9 @@ outcome-of a = refl
 pub run-verdict : (b : List ℕ) → sheetVerdict b ≡ Accepted → (rs : List ℤ) → length rs ≡ readings b → (nesting cellsAllowed lent : ℕ)
     → runVerdict (translation b) rs nesting cellsAllowed lent
     ≡ require (allowancesFit nesting cellsAllowed lent) badAllowance 0
-unfolding runVerdict require _andThen_
+unfolding runVerdict require _andThen_ translation
 run-verdict b accepted rs asked nesting cellsAllowed lent =
-    rw (translation-accepted b accepted, translation-readings b accepted, eq-eqb (length rs) (readings b) asked) refl
+    rw (translation-accepted (equalTrees b) b accepted, translation-readings (equalTrees b) b accepted, eq-eqb (length rs) (readings b) asked) refl
 
 refused-for : (t : Bool) {n p : ℕ} → require t badAllowance 0 ≡ Refused n p → n ≡ badAllowance
 unfolding require

@@ -1,5 +1,5 @@
--- Visits of a translated sheet are sound: what a visit ends with is what the sheet's node means, in the setting that
--- corresponds to the labels.
+-- Visits of a sheet translated with a label for each call are sound: what a visit ends with is what the sheet's node means, in
+-- the setting that corresponds to the labels.
 use mathlib.Core.Path.{_≡_, refl}
 use Prim.Native.Nat.{ℕ}
 use mathlib.Core.List.{List, _∷_}
@@ -10,7 +10,8 @@ use Rattle.definitions.specs.Operators.{computed, isZero}
 use Rattle.definitions.specs.SheetNodes.{SheetNode, sheetNodeOf}
 use Rattle.definitions.specs.TranslationNodes.{TranslationNode}
 use Rattle.definitions.specs.Checks.{sheetVerdict}
-use Rattle.definitions.specs.Translate.{translation}
+use Rattle.definitions.specs.Labels.{neverShared}
+use Rattle.definitions.specs.Translate.{unsharedTranslation}
 use Rattle.definitions.specs.Rule.{Ending}
 use Rattle.agreement.specs.Meaning.{Setting, endOf, Means}
 use Rattle.agreement.specs.Meaning
@@ -31,8 +32,9 @@ use Rattle.agreement.proofs.Meant.{call-meant, parameter-meant, paramet
 module _ (b : List ℕ) (accepted : sheetVerdict b ≡ Accepted) {rs : List ℤ} where
   -- by the rule with which the visit ends
   pub sound : {k : ℕ} {nd : SheetNode} {td : TranslationNode} {ws : List ℕ} {c : Trace} {e : Ending (List ℕ)} {s : Setting}
-      → Derivation (translation b) rs td k ws c e → Becomes b k nd td → sheetNodeOf b k ≡ nd → At b rs k ws s
+      → Derivation (unsharedTranslation b) rs td k ws c e → Becomes b k nd td → sheetNodeOf b k ≡ nd → At b rs k ws s
       → Meant b rs nd s e
+  unfolding unsharedTranslation
   sound number-itself becomes-number h a = record { end = _; means = Means.number-itself; agrees = integers }
   sound reading-value becomes-reading h a = record { end = _; means = Means.reading-value; agrees = integers }
   sound tuple-itself becomes-tuple h a = record { end = _; means = Means.build-itself; agrees = constructors a h }
@@ -44,9 +46,9 @@ module _ (b : List ℕ) (accepted : sheetVerdict b ≡ Accepted) {rs : List ℤ}
   sound {k} formal-outside (becomes-formal p) h a =
       absurd (parameter-inside (argument-of b accepted (a .corresponds) (parameter-below b accepted k (a .below) h)) refl)
   sound {k} {ws} {s} (call-body {l} {f} v) (becomes-call {ns} p) h a =
-      let q = body-read b accepted f (call-below b accepted k (a .below) h) in
-      let x : At b rs (bodyOf Translation (translation b) f) (l ∷ ws) (Meaning.entered ns s) = rw q (rw p at (body-at b accepted a h)) in
-      call-meant q (sound v (becomes b accepted (bodyOf Translation (translation b) f) (x .below)) refl x)
+      let q = body-read neverShared b accepted f (call-below b accepted k (a .below) h) in
+      let x : At b rs (bodyOf Translation (unsharedTranslation b) f) (l ∷ ws) (Meaning.entered ns s) = rw q (rw p at (body-at b accepted a h)) in
+      call-meant q (sound v (becomes b accepted (bodyOf Translation (unsharedTranslation b) f) (x .below)) refl x)
   sound (select-field {j} v g u) (becomes-select p) h a =
       pattern-meant (field-at b accepted a h) (scrutinee-same b accepted a h p) v g (λ w x. sound u (becomes b accepted j (x .below)) refl x)
   sound (select-beyond v g) (becomes-select p) h a = absurd (pattern-listed (field-at b accepted a h) (scrutinee-same b accepted a h p) v g)
@@ -55,14 +57,14 @@ module _ (b : List ℕ) (accepted : sheetVerdict b ≡ Accepted) {rs : List ℤ}
   sound (case-chosen {n} {m} {j} v g u) becomes-case h a =
       let x = scrutinee-at b accepted a h in
       let f = built-meant (sound v (becomes b accepted n (x .below)) refl x) in
-      let y = rw (tag-read b accepted m (f .at .below) (f .is)) at g in
+      let y = rw (tag-read neverShared b accepted m (f .at .below) (f .is)) at g in
       let z = clause-at b accepted a h v (f .at) (f .is) y in
       let w = sound u (becomes b accepted j (z .below)) refl z in
       record { end = w .end; means = Means.case-chosen {e = w .end} (f .means) y (w .means); agrees = w .agrees }
   sound (case-unmatched {n} {m} v g) becomes-case h a =
       let x = scrutinee-at b accepted a h in
       let f = built-meant (sound v (becomes b accepted n (x .below)) refl x) in
-      fault-meant (Means.case-unmatched (f .means) (rw (tag-read b accepted m (f .at .below) (f .is)) at g))
+      fault-meant (Means.case-unmatched (f .means) (rw (tag-read neverShared b accepted m (f .at .below) (f .is)) at g))
   sound (case-fails {n} v g) becomes-case h a =
       let x = scrutinee-at b accepted a h in
       let f = sound v (becomes b accepted n (x .below)) refl x in

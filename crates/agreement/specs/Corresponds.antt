@@ -1,5 +1,5 @@
--- When a context of the translation and a setting of the sheet correspond (document 01, "Meaning" and "Run"), for a place in
--- a function: outside its case's clauses, or in the clause of a constructor.
+-- When a context of the translation with a label for each call and a setting of the sheet correspond (document 01, "Meaning" and
+-- "Run"), for a place in a function: outside its case's clauses, or in the clause of a constructor.
 use mathlib.Core.Path.{_≡_}
 use Prim.Native.Nat.{ℕ, _<_}
 use mathlib.Core.List.{List, [], _∷_}
@@ -10,7 +10,8 @@ use Rattle.definitions.specs.NodeFields.{Clause}
 use Rattle.definitions.specs.SheetNodes.{SheetNode, call, build, caseOf, sheetNodeOf}
 use Rattle.definitions.specs.TranslationNodes.{translationNodeOf}
 use Rattle.definitions.specs.Checks.{clauseWithin}
-use Rattle.definitions.specs.Translate.{labelOf, translation}
+use Rattle.definitions.specs.Labels.{neverShared, labelOf}
+use Rattle.definitions.specs.Translate.{unsharedTranslation}
 use Rattle.definitions.specs.Rule.{Ending, value, ended, integer, constructor}
 use Rattle.agreement.specs.Meaning.{Setting, empty, entered, holding, End, Means}
 use Rattle.agreement.specs.Meaning
@@ -25,13 +26,13 @@ pub data Corresponds (b : List ℕ) (rs : List ℤ) : ℕ → Option ℕ → Lis
   called : {k f l : ℕ} {ns ws : List ℕ} {s : Setting}
       → k < nodes b
       → sheetNodeOf b k ≡ call f ns
-      → labelOf b f k ≡ l
+      → labelOf neverShared b f k ≡ l
       → Corresponds b rs (ownerOf Sheet b k) (clauseWithin b (nodes b) k) ws s
       → Corresponds b rs f none (l ∷ ws) (entered ns s)
   -- a clause: the scrutinee, visited under these labels, ends with the constructor that the setting holds
   held : {f n m c : ℕ} {cs : List Clause} {a : Trace} {ws vs ns : List ℕ} {s u : Setting}
       → sheetNodeOf b (bodyOf Sheet b f) ≡ caseOf n cs
-      → Derivation (translation b) rs (translationNodeOf (translation b) n) n ws a (value (constructor m vs))
+      → Derivation (unsharedTranslation b) rs (translationNodeOf (unsharedTranslation b) n) n ws a (value (constructor m vs))
       → m < nodes b
       → sheetNodeOf b m ≡ build c ns
       → Corresponds b rs (ownerOf Sheet b m) (clauseWithin b (nodes b) m) vs u
@@ -62,5 +63,5 @@ pub record Meant (b : List ℕ) (rs : List ℤ) (n : SheetNode) (s : Setting) (e
 pub record Visited (b : List ℕ) (rs : List ℤ) (k : ℕ) (ws : List ℕ) (d : End) : Type 0 where
   pub trace : Trace
   pub ending : Ending (List ℕ)
-  pub visits : Derivation (translation b) rs (translationNodeOf (translation b) k) k ws trace ending
+  pub visits : Derivation (unsharedTranslation b) rs (translationNodeOf (unsharedTranslation b) k) k ws trace ending
   pub agrees : Agrees b rs ending d

@@ -19,6 +19,8 @@ pub mod NodeFields
 pub mod SheetNodes
 pub mod TranslationNodes
 pub mod Outcomes
+pub mod Trees
+pub mod Labels
 pub mod Translate
 pub mod Rule
 pub mod Cells

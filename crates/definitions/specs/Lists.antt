@@ -2,6 +2,7 @@
 use Prim.Native.Nat.{ℕ, zero, suc, _+_}
 use mathlib.Core.List.{List, [], _∷_, _++_}
 use mathlib.Core.Bool.{Bool, true, cond, _&&_}
+use lib.Dec.{ltb}
 
 -- the parts of 0, 1, .. n - 1, joined
 unfoldable pub joined {ℓ} : {A : Type ℓ} → ℕ → (ℕ → List A) → List A
@@ -32,3 +33,8 @@ allOf (suc n) test = allOf n test && test n
 unfoldable pub lastOf : ℕ → (ℕ → Bool) → ℕ
 lastOf zero test = 0
 lastOf (suc n) test = cond (test n) n (lastOf n test)
+
+-- the first of 0, 1, .. n - 1 that passes a test, n where none does
+unfoldable pub firstPassing : ℕ → (ℕ → Bool) → ℕ
+firstPassing zero test = 0
+firstPassing (suc n) test = cond (ltb (firstPassing n test) n) (firstPassing n test) (cond (test n) n (suc n))

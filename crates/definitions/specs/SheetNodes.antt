@@ -6,9 +6,10 @@ use lib.IntN.{ℤ}
 use lib.Dec.{eqb}
 use Rattle.definitions.specs.Bytes.{signed}
 use Rattle.definitions.specs.Records.{kindOf, field}
-use Rattle.definitions.specs.Layouts.{nodeRecord}
+use Rattle.definitions.specs.Layouts.{nodeRecord, bodyOf, ownerOf}
 use Rattle.definitions.specs.SheetKinds
 use Rattle.definitions.specs.NodeFields.{Clause, fieldsFrom, clauseList}
+use Rattle.definitions.specs.declared.Layout.the-variants.{Sheet}
 
 pub data SheetNode : Type 0 where
   number : ℤ → SheetNode
@@ -41,3 +42,7 @@ sheetNode rec =
 
 unfoldable pub sheetNodeOf : List ℕ → ℕ → SheetNode
 sheetNodeOf b k = sheetNode (nodeRecord b k)
+
+-- the scrutinee of the case that is the body of node k's function
+unfoldable pub scrutineeOf : List ℕ → ℕ → ℕ
+scrutineeOf b k = field (nodeRecord b (bodyOf Sheet b (ownerOf Sheet b k))) 0

@@ -44,3 +44,9 @@ pub type Ends = [u16; MOST_FUNCTIONS];
 
 // The function that owns each node.
 pub type Owners = [u8; MOST_NODES];
+
+// A number for each node.
+pub type OfNodes = [u16; MOST_NODES];
+
+// A number for each function.
+pub type OfFunctions = [u16; MOST_FUNCTIONS];

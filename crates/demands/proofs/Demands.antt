@@ -1,6 +1,7 @@
 -- The owner's three demands, over what the public calls promise: `Translates` of `translator::translate`, `Runs` of `run::run`,
 -- `Joins` of `join::translate_and_run`, and at the end what `zifnora_c` promises to callers in C. None of the calls has a `requires`,
--- so each promise holds of every call. The page beside it, `Requests`, has what document 02 asks for, with the demands for its calls.
+-- so each promise holds of every call. The pages beside it, `Requests` and `SharedLabels`, have what
+-- document 02 asks for, with the demands for its calls.
 use mathlib.Core.Path.{_≡_}
 use mathlib.Core.Logic.{_↔_}
 use Prim.Native.Nat.{ℕ, _≤_, _<_}
@@ -14,11 +15,14 @@ use Rattle.definitions.specs.Layouts.{readings, nodes}
 use Rattle.definitions.specs.Checks.{sheetVerdict}
 use Rattle.definitions.specs.Outcomes.{Outcome}
 use Rattle.definitions.specs.SheetNodes.{call, sheetNodeOf}
-use Rattle.definitions.specs.Translate.{translation, labelOf}
+use Rattle.definitions.specs.Trees.{equalTrees}
+use Rattle.definitions.specs.Labels.{labelOf}
+use Rattle.definitions.specs.Translate.{translation}
 use Rattle.agreement.specs.Meaning.{OwnAnswer}
 use Rattle.definitions.specs.Run.{ruleAnswer, allowancesFit, runVerdict, answerAfter}
 use Rattle.definitions.specs.declared.Verdict.the-variants.{Accepted}
-use Rattle.readback.proofs.Labels.{label-unique}
+use Rattle.shared_runs.specs.Reads.{EqualArguments}
+use Rattle.shared_runs.proofs.OneLabel.{one-label}
 use Rattle.translator.specs.Promise.{Translates}
 use Rattle.definitions.specs.declared.Written.{Written}
 use Rattle.definitions.specs.declared.Written.the-variants.{Length, Refused}
@@ -65,12 +69,12 @@ demand-2-translation sheet out n out′ t = handed sheet out n out′ t .is
 pub demand-2-withheld : (sheet out : List ℕ) (n p : ℕ) (out′ : List ℕ) → Translates sheet out (Refused n p) out′ → sheetVerdict sheet ≡ Accepted → n ≡ shortOutput
 demand-2-withheld = only-short
 
--- ".. with document 01's labels, ..": one label is never given to two calls of one function, the fault by which one call would get
--- the other's actuals; two such calls are one
+-- ".. with document 01's labels, ..", which document 02 changes: "From now on labels follow section 3.4 of document 002." One label is
+-- given to two calls of one function exactly if their arguments are equal trees, so that no call gets actuals of other trees than its own
 pub demand-2-labels : (sheet : List ℕ) → sheetVerdict sheet ≡ Accepted → (f k m : ℕ) {ns ms : List ℕ} → k < nodes sheet → m < nodes sheet
     → sheetNodeOf sheet k ≡ call f ns → sheetNodeOf sheet m ≡ call f ms
-    → labelOf sheet f k ≡ labelOf sheet f m → k ≡ m
-demand-2-labels = label-unique
+    → (labelOf (equalTrees sheet) sheet f k ≡ labelOf (equalTrees sheet) sheet f m) ↔ EqualArguments sheet ns ms
+demand-2-labels = one-label
 
 -- ".. and a run is exactly the published evaluation under contexts with lazy tuples: outcome, steps and cells."
 pub demand-2-run : (b : List ℕ) (rs : List ℤ) (steps nesting cellsAllowed : ℕ) (before : List ℕ) (r : Answer) (after : List ℕ)

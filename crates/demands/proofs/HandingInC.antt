@@ -7,6 +7,7 @@ use native.Mathlib.Omega.{arith}
 use lib.ListN.{length}
 use Rattle.definitions.specs.Numbers.{truncated, badAllowance, isRefusal}
 use Rattle.definitions.specs.Output.{outputOf}
+use Rattle.definitions.specs.Trees.{equalTrees}
 use Rattle.definitions.specs.Translate.{translation, translationRefusal}
 use Rattle.definitions.specs.declared.Verdict.{Verdict}
 use Rattle.definitions.specs.declared.Verdict.the-variants.{Accepted, Refused}
@@ -36,9 +37,9 @@ module _ (sheet out : List ℕ) (r : ℕ) (out′ : List ℕ) (t : TranslatesC s
     translated-number = rw length-coded (number-of-code 0 (length (translation sheet)))
 
     translated-handed : Handed sheet (codeValue r) out′
-    unfolding translationRefusal
+    unfolding translationRefusal translation
     translated-handed =
-        let l = translation-limit sheet (both-accepted _ _ e .0) in
+        let l = translation-limit (equalTrees sheet) sheet (both-accepted _ _ e .0) in
         written-handed sheet out (codeValue r) out′ e (rw length-coded (value-of-code 0 (length (translation sheet)) (omega (arith, l)))) (t .output)
 
   refused-number : {n p : ℕ} → translationRefusal sheet (length out) ≡ Refused n p → codeNumber r ≡ n

@@ -13,3 +13,4 @@ pub mod OwnRows
 pub mod SingleRuns
 pub mod Demands
 pub mod Requests
+pub mod SharedLabels

@@ -14,7 +14,7 @@ use Rattle.definitions.specs.declared.Verdict.the-variants.{Accepted, Refused}
 use Rattle.laws.proofs.Classes.{refusal-no-answer}
 use Rattle.agreement.specs.Meaning.{OwnAnswer}
 use Rattle.agreement.specs.Answers.{ruleOutcome, answerOutcome}
-use Rattle.agreement.proofs.Allowances.{rule-gives-own}
+use Rattle.agreement.proofs.Shared.{rule-gives-own}
 use Rattle.demands.specs.Demands as Demands
 use Rattle.demands.specs.Demands.{Met, StoppedOrRefused}
 use Rattle.demands.proofs.Refusals.{NumberedIn}

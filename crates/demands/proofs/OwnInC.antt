@@ -9,7 +9,8 @@ use Rattle.definitions.specs.Sizes.{answerSize}
 use Rattle.definitions.specs.Numbers.{isAnswer}
 use Rattle.definitions.specs.Checks.{sheetVerdict}
 use Rattle.definitions.specs.Outcomes.{Outcome}
-use Rattle.definitions.specs.Translate.{translation, translationWords}
+use Rattle.definitions.specs.Trees.{equalTrees}
+use Rattle.definitions.specs.Translate.{translationWords, translationBy, translation}
 use Rattle.definitions.specs.Run.{answerAfter, ruleAnswer, runAnswer}
 use Rattle.definitions.specs.AnswerRecord.{answerBytes}
 use Rattle.definitions.specs.declared.Verdict.{Verdict}
@@ -30,8 +31,8 @@ use Rattle.demands.proofs.HandingInC.{handed-in-C}
 use Rattle.demands.proofs.RunningInC.{outcome-is, answer-is, recorded-unanswered, record-where-fits, run-met-where-fits, join-met-where-fits}
 
 translation-bytes : (sheet : List ℕ) → Bytes (translation sheet)
-unfolding translation
-translation-bytes sheet = bytes-below (translationWords sheet)
+unfolding translation translationBy
+translation-bytes sheet = bytes-below (translationWords (equalTrees sheet) sheet)
 
 -- demand 3 of a record
 pub record FaithfulInC (sheet : List ℕ) (rs : List ℤ) (room′ : List ℕ) (untouched : Type 0) : Type 0 where

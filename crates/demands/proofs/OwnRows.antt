@@ -13,6 +13,7 @@ use Rattle.definitions.specs.Numbers.{isAnswer, isStop}
 use Rattle.definitions.specs.Layouts.{readings}
 use Rattle.definitions.specs.Outcomes.{Outcome}
 use Rattle.definitions.specs.Checks.{sheetVerdict}
+use Rattle.definitions.specs.Trees.{equalTrees}
 use Rattle.definitions.specs.Translate.{translation}
 use Rattle.definitions.specs.Run.{answerAfter}
 use Rattle.definitions.specs.RunsInTurn.{rowOf}
@@ -54,8 +55,8 @@ module _ (sheet : List ℕ) (accepted : sheetVerdict sheet ≡ Accepted) (rows :
     (running : rowsVerdict (translation sheet) rows rs nesting cellsAllowed (length before) (length room) ≡ Accepted)
     (records : room′ ≡ rowsRecords (translation sheet) rows rs steps nesting cellsAllowed before room) (i : ℕ) (h : i < rows) where
   same-row : rowOf (translation sheet) rs i ≡ rowOf sheet rs i
-  unfolding rowOf
-  same-row = rw (translation-readings sheet accepted) refl
+  unfolding rowOf translation
+  same-row = rw (translation-readings (equalTrees sheet) sheet accepted) refl
 
   faithful : FaithfulInC sheet (rowOf (translation sheet) rs i) (drop (i * answerSize) room′) ⊥
   unfolding answerAfter

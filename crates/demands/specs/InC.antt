@@ -4,7 +4,7 @@ use Prim.Native.Nat.{ℕ}
 use mathlib.Core.List.{List}
 use mathlib.Core.Bool.{true}
 use lib.IntN.{ℤ, pos}
-use lib.ListN.{getD}
+use lib.ListN.{getD, take, drop}
 use mir.Syntax.{w32}
 use mir.Val.{SFits}
 use Rattle.definitions.specs.Numbers.{shortOutput, isRefusal, isStop, isAnswer}
@@ -15,6 +15,11 @@ use Rattle.demands.specs.Demands.{Handed}
 -- "Readings are signed 32-bit numbers."
 pub record SignedReadings (rs : List ℤ) : Type 0 where
   pub fit : (i : ℕ) → SFits w32 (getD rs i (pos 0))
+
+-- records of answers with the same outcome, value, steps and number of cells: all bytes but those of node and context
+pub record SameRecords (room room′ : List ℕ) : Type 0 where
+  pub front : take 14 room ≡ take 14 room′
+  pub cells : take 2 (drop 18 room) ≡ take 2 (drop 18 room′)
 
 -- translating ends with number 0 and the translation's length, or with the number of a refusal that leaves the output as it was
 pub data TranslatingMetInC (sheet out : List ℕ) (code : ℕ) (out′ : List ℕ) : Type 0 where

@@ -4,6 +4,7 @@ ghost use Prim.Native.Nat.{_+_, _*_, _-_, _/_, _<_};
 ghost use lib.Dec.{ltb};
 ghost use Rattle.definitions.specs.Lists.{allOf};
 ghost use Rattle.definitions.specs.Records.{kindOf, field, fieldCount};
+ghost use Rattle.definitions.specs.Trees.{namesNode};
 ghost use Rattle.definitions.specs.References.{fromFirst, fromSecond, everyOther, childCount, children, child, clauses, clauseConstructor};
 use definitions::sheet_kinds;
 use definitions::translation_kinds;
@@ -58,6 +59,22 @@ fn from_second(kind: u16) -> bool
         return true;
     }
     kind == translation_kinds::TUPLE
+}
+
+// Whether field `i` of a record of kind `kind` names a node.
+pub fn names_node(kind: u16, i: usize) -> bool
+    ensures { λ t. ⌜ t ≡ namesNode kind i ⌝ }
+{
+    if every_other(kind) {
+        return i % 2 == 0;
+    }
+    if from_first(kind) {
+        return true;
+    }
+    if from_second(kind) {
+        return 1 <= i;
+    }
+    false
 }
 
 // How many fields of a record of a kind with n fields name nodes.

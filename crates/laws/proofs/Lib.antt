@@ -17,3 +17,4 @@ pub mod ByteFiles
 pub mod NodeKinds
 pub mod Stores
 pub mod CellBytes
+pub mod FirstPassing

@@ -71,6 +71,12 @@ all-each (suc n) test e i h =
     let k = and-eq-true-iff (allOf n test) (test n) .0 e in
     below-suc (λ j. test j ≡ true) n (all-each n test (k .0)) (k .1) i h
 
+-- and where each passes, all do
+pub all-pass : (n : ℕ) (test : ℕ → Bool) → ((i : ℕ) → i < n → test i ≡ true) → allOf n test ≡ true
+unfolding allOf
+all-pass zero test e = refl
+all-pass (suc n) test e = rw (all-pass n test (λ i h. e i (omega arith)), e n (omega arith)) refl
+
 -- lists whose elements are alike
 pub listed-same {ℓ} : {A : Type ℓ} (n : ℕ) (at to : ℕ → A) → ((i : ℕ) → i < n → at i ≡ to i) → listed n at ≡ listed n to
 unfolding listed

@@ -6,13 +6,14 @@ use mathlib.Core.Bool.{Bool, true, false, cond}
 use native.Mathlib.Omega.{arith}
 use lib.ListN.{length}
 use native.Mathlib.Nat.{zero-add, sub-zero}
-use lib.Dec.{ltb, eqb}
+use lib.Dec.{leb, ltb, eqb}
 use borrow.Author.Tests.{ne-eqb}
 use Rattle.definitions.specs.SheetKinds
 use Rattle.definitions.specs.TranslationKinds
 use Rattle.definitions.specs.Lists.{allOf}
 use Rattle.definitions.specs.Records.{kindOf, field, fieldCount}
 use Rattle.definitions.specs.References.{fromFirst, fromSecond, everyOther, childCount, childField, children, child, clauses, clauseConstructor}
+use Rattle.definitions.specs.Trees.{namesNode}
 use Rattle.laws.proofs.Records.{field-past}
 
 -- tests over several kinds, by the comparisons passed so far
@@ -89,6 +90,26 @@ module _ (k n : ℕ) (t : Bool) (et : t ≡ everyOther k) where
       pub count-none : v ≡ false → 0 ≡ childCount k n
       unfolding childCount
       count-none e = rw (← et, ht, ← eu, hu, ← ev, e) refl
+
+-- whether a field names a node, likewise
+module _ (k i : ℕ) (t : Bool) (et : t ≡ everyOther k) where
+  pub named-other : t ≡ true → eqb (i % 2) 0 ≡ namesNode k i
+  unfolding namesNode
+  named-other e = rw (← et, e) refl
+
+  module _ (ht : t ≡ false) (u : Bool) (eu : u ≡ fromFirst k) where
+    pub named-first : u ≡ true → true ≡ namesNode k i
+    unfolding namesNode
+    named-first e = rw (← et, ht, ← eu, e) refl
+
+    module _ (hu : u ≡ false) (v : Bool) (ev : v ≡ fromSecond k) where
+      pub named-second : v ≡ true → leb 1 i ≡ namesNode k i
+      unfolding namesNode
+      named-second e = rw (← et, ht, ← eu, hu, ← ev, e) refl
+
+      pub named-none : v ≡ false → false ≡ namesNode k i
+      unfolding namesNode
+      named-none e = rw (← et, ht, ← eu, hu, ← ev, e) refl
 
 pub children-counted : (rec : List ℕ) (k n c : ℕ) → k ≡ kindOf rec → n ≡ fieldCount rec → c ≡ childCount k n → c ≡ children rec
 unfolding children

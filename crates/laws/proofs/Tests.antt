@@ -1,10 +1,10 @@
 -- A loop that tests each of the first n numbers and stops at the first that fails.
-use mathlib.Core.Path.{_≡_, sym}
+use mathlib.Core.Path.{_≡_, sym, _∙_}
 use Prim.Native.Nat.{ℕ, _+_, _≤_, _<_}
 use mathlib.Core.Bool.{Bool, true, false}
-use lib.Dec.{ltb}
+use lib.Dec.{ltb, eqb}
 use native.Mathlib.Omega.{arith}
-use borrow.Author.Tests.{lt-ltb, le-ltb}
+use borrow.Author.Tests.{lt-ltb, le-ltb, eq-eqb, ne-eqb}
 use Rattle.definitions.specs.Lists.{allOf}
 use Rattle.laws.proofs.Lists.{all-none, all-more, all-not}
 
@@ -34,3 +34,10 @@ below-test {x} {y} {limit} e h = lt-ltb y limit (rw e at h)
 
 pub below-not : {x y limit : ℕ} → x ≡ y → limit ≤ x → ltb y limit ≡ false
 below-not {x} {y} {limit} e h = le-ltb y limit (rw e at h)
+
+-- a test for equal numbers, likewise
+pub same-test : {x y p q : ℕ} → x ≡ p → y ≡ q → x ≡ y → eqb p q ≡ true
+same-test {p} {q} e f h = eq-eqb p q (sym e ∙ h ∙ f)
+
+pub differ-test : {x y p q : ℕ} → x ≡ p → y ≡ q → (x ≡ y → ⊥) → eqb p q ≡ false
+differ-test {p} {q} e f h = ne-eqb p q (λ z. h (e ∙ z ∙ sym f))

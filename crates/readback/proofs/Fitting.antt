@@ -11,14 +11,14 @@ use Rattle.definitions.specs.Layouts.{functions, nodes, nodeCount, bodyOf, owne
 use Rattle.definitions.specs.References.{parameters}
 use Rattle.definitions.specs.NodeFields.{Clause}
 use Rattle.definitions.specs.Operators.{residue}
-use Rattle.definitions.specs.SheetNodes.{SheetNode, number, reading, parameter, patternVariable, operator, conditional, call, build, caseOf, sheetNodeOf}
+use Rattle.definitions.specs.SheetNodes.{SheetNode, number, reading, parameter, patternVariable, operator, conditional, call, build, caseOf, sheetNodeOf, scrutineeOf}
 use Rattle.definitions.specs.Checks.{sheetVerdict}
-use Rattle.definitions.specs.Translate.{calls, labelOf, formalOf, formals, actuals, scrutineeOf, clauseWords}
+use Rattle.definitions.specs.Labels.{Labelling, labelOf, actuals}
+use Rattle.definitions.specs.Translate.{formalOf, formals, clauseWords}
 use Rattle.definitions.specs.declared.Layout.the-variants.{Sheet}
 use Rattle.definitions.specs.declared.Verdict.the-variants.{Accepted}
 use Rattle.accepted.specs.Child.{Child, left, right, condition, ifNonzero, ifZero, component, scrutinee, clause}
 use Rattle.accepted.proofs.Sums.{sum-term, sum-limit}
-use Rattle.accepted.proofs.Counts.{count-limit}
 use Rattle.accepted.proofs.Head.{readings-limit, items-limit, functions-limit, nodes-limit}
 use Rattle.accepted.proofs.Sections.{parameters-limit, arity-limit, node-counts-sum}
 use Rattle.accepted.proofs.Owners.{owner-below, body-below}
@@ -94,13 +94,14 @@ module _ (b : List ℕ) (accepted : sheetVerdict b ≡ Accepted) where
       writable-one (nodeCount Sheet b f)
       (omega (arith, sum-term f (functions b) (nodeCount Sheet b) h, node-counts-sum Sheet b s, nodes-limit Sheet b s))
 
+module _ (same : Labelling) (b : List ℕ) (accepted : sheetVerdict b ≡ Accepted) where
   -- a formal's record
-  pub formal-writable : (f i : ℕ) → i < parameters b f → Writable (actuals b f i)
+  pub formal-writable : (f i : ℕ) → i < parameters b f → Writable (actuals same b f i)
   formal-writable f i h =
       let n = nodes-limit Sheet b (sheet-shape b accepted) in
       record {
-        short = record { short = omega (arith, n, actuals-limit b accepted f i) };
-        fit = fit-below (actuals b f i) (nodes b) (omega (arith, n)) (λ l w e. actuals-below b accepted f i l h e);
+        short = record { short = omega (arith, n, actuals-limit same b f i) };
+        fit = fit-below (actuals same b f i) (nodes b) (omega (arith, n)) (λ l w e. actuals-below same b accepted f i l h e);
       }
 
   -- a node's record
@@ -108,7 +109,7 @@ module _ (b : List ℕ) (accepted : sheetVerdict b ≡ Accepted) where
     child-fits : {nd : SheetNode} {n : ℕ} → sheetNodeOf b k ≡ nd → Child nd n → n < 65536
     child-fits e c = omega (arith, child-below b accepted k h e c, nodes-limit Sheet b (sheet-shape b accepted))
 
-    fields-writable : (nd : SheetNode) → sheetNodeOf b k ≡ nd → Writable (translatedFields b k nd)
+    fields-writable : (nd : SheetNode) → sheetNodeOf b k ≡ nd → Writable (translatedFields same b k nd)
     unfolding translatedFields words32
     fields-writable (number z) e = record { short = record { short = omega arith }; fit = number-fit (residue w32 z) (residue-below w32 z) }
     fields-writable (reading i) e =
@@ -116,18 +117,18 @@ module _ (b : List ℕ) (accepted : sheetVerdict b ≡ Accepted) where
     fields-writable (parameter i) e =
         let f = ownerOf Sheet b k in
         writable-one (formalOf b f i)
-        (omega (arith, formal-in-range f i (owner-below Sheet b (sheet-shape b accepted) k h) (parameter-below b accepted k h e), formals-limit))
+        (omega (arith, formal-in-range b accepted f i (owner-below Sheet b (sheet-shape b accepted) k h) (parameter-below b accepted k h e), formals-limit b accepted))
     fields-writable (patternVariable i) e =
         writable-two (scrutineeOf b k) (suc i)
-        (omega (arith, scrutinee-below k h e, nodes-limit Sheet b (sheet-shape b accepted)))
-        (omega (arith, position-limit k h e))
+        (omega (arith, scrutinee-below b accepted k h e, nodes-limit Sheet b (sheet-shape b accepted)))
+        (omega (arith, position-limit b accepted k h e))
     fields-writable (operator o l r) e =
         writable-three o l r (omega (arith, operator-code b accepted k h e)) (child-fits e left) (child-fits e right)
     fields-writable (conditional n p q) e =
         writable-three n p q (child-fits e condition) (child-fits e ifNonzero) (child-fits e ifZero)
     fields-writable (call f ns) e =
-        writable-two (labelOf b f k) f
-        (omega (arith, label-below b accepted f k h e, count-limit (nodes b) (calls b f), nodes-limit Sheet b (sheet-shape b accepted)))
+        writable-two (labelOf same b f k) f
+        (omega (arith, label-below same b f k h, nodes-limit Sheet b (sheet-shape b accepted)))
         (omega (arith, call-below b accepted k h e, functions-limit Sheet b (sheet-shape b accepted)))
     fields-writable (build c ns) e =
         let s = sheet-shape b accepted in
@@ -145,5 +146,5 @@ module _ (b : List ℕ) (accepted : sheetVerdict b ≡ Accepted) where
               (fit-clauses cs (λ j c p. (omega (arith, clause-below b accepted k h e j p, items-limit Sheet b s), child-fits e (clause j p refl))));
         }
 
-    pub node-writable : Writable (translatedFields b k (sheetNodeOf b k))
+    pub node-writable : Writable (translatedFields same b k (sheetNodeOf b k))
     node-writable = fields-writable (sheetNodeOf b k) refl

@@ -3,10 +3,12 @@ pub mod Made
 pub mod Fields
 pub mod Signed
 pub mod Picked
+pub mod FirstCalls
 pub mod Labels
 pub mod Fitting
 pub mod Records
 pub mod Nodes
+pub mod Unshared
 pub mod Totals
 pub mod Size
 pub mod Passing

@@ -17,9 +17,10 @@ use Rattle.definitions.specs.Shape.{counts, operatorCode}
 use Rattle.definitions.specs.References.{fromFirst, fromSecond, everyOther, children, child, clauses, namesInRange}
 use Rattle.definitions.specs.NodeFields.{Clause}
 use Rattle.definitions.specs.Operators.{residue}
-use Rattle.definitions.specs.SheetNodes.{SheetNode, number, reading, parameter, patternVariable, operator, conditional, call, build, caseOf, sheetNodeOf}
+use Rattle.definitions.specs.SheetNodes.{SheetNode, number, reading, parameter, patternVariable, operator, conditional, call, build, caseOf, sheetNodeOf, scrutineeOf}
 use Rattle.definitions.specs.Checks.{sheetVerdict}
-use Rattle.definitions.specs.Translate.{recordWords, labelOf, formalOf, formals, scrutineeOf, clauseWords, translation}
+use Rattle.definitions.specs.Labels.{Labelling, labelOf}
+use Rattle.definitions.specs.Translate.{recordWords, formalOf, formals, clauseWords, translationBy}
 use Rattle.definitions.specs.declared.Layout.the-variants.{Sheet, Translation}
 use Rattle.definitions.specs.declared.Verdict.the-variants.{Accepted}
 use Rattle.laws.proofs.Ranges.{within-both}
@@ -106,16 +107,16 @@ module _ (n : ℕ) where
           let e : 2 * suc j ≡ suc (suc (2 * j)) = omega arith in
           rw (e, clause-node cs j) (q j (getD cs j noClause) (element-is noClause cs j (omega arith)))
 
-module _ (b : List ℕ) (accepted : sheetVerdict b ≡ Accepted) (k : ℕ) (h : k < nodes b) where
+module _ (same : Labelling) (b : List ℕ) (accepted : sheetVerdict b ≡ Accepted) (k : ℕ) (h : k < nodes b) where
   -- what is left to show of a node's record
-  node-pass : (kind : ℕ) (fs : List ℕ) → nodeRecord (translation b) k ≡ bytesOf (recordWords kind fs) → TranslationKinds.number ≤ kind → kind ≤ TranslationKinds.caseOf
+  node-pass : (kind : ℕ) (fs : List ℕ) → nodeRecord (translationBy same b) k ≡ bytesOf (recordWords kind fs) → TranslationKinds.number ≤ kind → kind ≤ TranslationKinds.caseOf
       → allows (rowOf kind) (4 + 2 * length fs) ≡ true
       → (kindOf (bytesOf (recordWords kind fs)) ≡ kind → operatorCode (bytesOf (recordWords kind fs)) ≡ true)
-      → (kindOf (bytesOf (recordWords kind fs)) ≡ kind → (j : ℕ) → j < children (bytesOf (recordWords kind fs)) → child (bytesOf (recordWords kind fs)) j < nodes (translation b))
-      → (kindOf (bytesOf (recordWords kind fs)) ≡ kind → namesInRange (translation b) (firstNode (translation b) + k) (bytesOf (recordWords kind fs)) ≡ true)
-      → Passes (translation b) (firstNode (translation b) + k) kind fs
+      → (kindOf (bytesOf (recordWords kind fs)) ≡ kind → (j : ℕ) → j < children (bytesOf (recordWords kind fs)) → child (bytesOf (recordWords kind fs)) j < nodes (translationBy same b))
+      → (kindOf (bytesOf (recordWords kind fs)) ≡ kind → namesInRange (translationBy same b) (firstNode (translationBy same b) + k) (bytesOf (recordWords kind fs)) ≡ true)
+      → Passes (translationBy same b) (firstNode (translationBy same b) + k) kind fs
   node-pass kind fs there l g allowed code below names =
-      let t = translation b in
+      let t = translationBy same b in
       let r = firstNode t + k in
       let rec = bytesOf (recordWords kind fs) in
       let e : kindOf rec ≡ kind = kind-read kind fs (omega arith) in
@@ -130,63 +131,63 @@ module _ (b : List ℕ) (accepted : sheetVerdict b ≡ Accepted) (k : ℕ) (h : 
         named = names-there t r rec (below e) (names e);
       }
 
-  child-there : {nd : SheetNode} {n : ℕ} → sheetNodeOf b k ≡ nd → Child nd n → n < nodes (translation b)
-  child-there e c = rw (translation-nodes b accepted) (child-below b accepted k h e c)
+  child-there : {nd : SheetNode} {n : ℕ} → sheetNodeOf b k ≡ nd → Child nd n → n < nodes (translationBy same b)
+  child-there e c = rw (translation-nodes same b accepted) (child-below b accepted k h e c)
 
   by-kind : (nd : SheetNode) → sheetNodeOf b k ≡ nd
-      → nodeRecord (translation b) k ≡ bytesOf (recordWords (translatedKind nd) (translatedFields b k nd))
-      → Fit (translatedFields b k nd)
-      → Passes (translation b) (firstNode (translation b) + k) (translatedKind nd) (translatedFields b k nd)
+      → nodeRecord (translationBy same b) k ≡ bytesOf (recordWords (translatedKind nd) (translatedFields same b k nd))
+      → Fit (translatedFields same b k nd)
+      → Passes (translationBy same b) (firstNode (translationBy same b) + k) (translatedKind nd) (translatedFields same b k nd)
   unfolding translatedKind translatedFields words32 rowOf rows rowIn row allows operatorCode namesInRange everyOther fromFirst fromSecond
   by-kind (number z) e r f =
       let fs = words32 (residue w32 z) in
       let rec = bytesOf (recordWords TranslationKinds.number fs) in
       node-pass TranslationKinds.number fs r (omega arith) (omega arith) refl (λ q. rw q refl)
-      (λ q. none-below (translation b) rec (no-mention rec TranslationKinds.number q refl refl refl)) (λ q. rw q refl)
+      (λ q. none-below (translationBy same b) rec (no-mention rec TranslationKinds.number q refl refl refl)) (λ q. rw q refl)
   by-kind (reading i) e r f =
       let fs = i ∷ [] in
       let rec = bytesOf (recordWords TranslationKinds.reading fs) in
       node-pass TranslationKinds.reading fs r (omega arith) (omega arith) refl (λ q. rw q refl)
-      (λ q. none-below (translation b) rec (no-mention rec TranslationKinds.reading q refl refl refl))
-      (λ q. rw (q, field-read TranslationKinds.reading fs f 0, translation-readings b accepted) (lt-ltb i (readings b) (reading-below b accepted k h e)))
+      (λ q. none-below (translationBy same b) rec (no-mention rec TranslationKinds.reading q refl refl refl))
+      (λ q. rw (q, field-read TranslationKinds.reading fs f 0, translation-readings same b accepted) (lt-ltb i (readings b) (reading-below b accepted k h e)))
   by-kind (parameter i) e r f =
       let g = ownerOf Sheet b k in
       let fs = formalOf b g i ∷ [] in
       let rec = bytesOf (recordWords TranslationKinds.formal fs) in
       node-pass TranslationKinds.formal fs r (omega arith) (omega arith) refl (λ q. rw q refl)
-      (λ q. none-below (translation b) rec (no-mention rec TranslationKinds.formal q refl refl refl))
-      (λ q. rw (q, field-read TranslationKinds.formal fs f 0, translation-items b accepted)
+      (λ q. none-below (translationBy same b) rec (no-mention rec TranslationKinds.formal q refl refl refl))
+      (λ q. rw (q, field-read TranslationKinds.formal fs f 0, translation-items same b accepted)
       (lt-ltb (formalOf b g i) (formals b)
       (formal-in-range b accepted g i (owner-below Sheet b (sheet-shape b accepted) k h) (parameter-below b accepted k h e))))
   by-kind (patternVariable i) e r f =
       let fs = scrutineeOf b k ∷ suc i ∷ [] in
       node-pass TranslationKinds.select fs r (omega arith) (omega arith) refl (λ q. rw q refl)
-      (λ q. select-below (nodes (translation b)) fs f refl (rw (translation-nodes b accepted) (scrutinee-below b accepted k h e)))
+      (λ q. select-below (nodes (translationBy same b)) fs f refl (rw (translation-nodes same b accepted) (scrutinee-below b accepted k h e)))
       (λ q. rw q refl)
   by-kind (operator o x y) e r f =
       let fs = o ∷ x ∷ y ∷ [] in
       node-pass TranslationKinds.operator fs r (omega arith) (omega arith) refl
       (λ q. rw (q, field-read TranslationKinds.operator fs f 0) (within-both 0 5 o (omega arith) (operator-code b accepted k h e)))
-      (λ q. operator-below (nodes (translation b)) fs f refl (child-there e left) (child-there e right))
+      (λ q. operator-below (nodes (translationBy same b)) fs f refl (child-there e left) (child-there e right))
       (λ q. rw q refl)
   by-kind (conditional n x y) e r f =
       let fs = n ∷ x ∷ y ∷ [] in
       node-pass TranslationKinds.conditional fs r (omega arith) (omega arith) refl (λ q. rw q refl)
-      (λ q. conditional-below (nodes (translation b)) fs f refl (child-there e condition) (child-there e ifNonzero) (child-there e ifZero))
+      (λ q. conditional-below (nodes (translationBy same b)) fs f refl (child-there e condition) (child-there e ifNonzero) (child-there e ifZero))
       (λ q. rw q refl)
   by-kind (call g ns) e r f =
-      let fs = labelOf b g k ∷ g ∷ [] in
+      let fs = labelOf same b g k ∷ g ∷ [] in
       let rec = bytesOf (recordWords TranslationKinds.call fs) in
       node-pass TranslationKinds.call fs r (omega arith) (omega arith) refl (λ q. rw q refl)
-      (λ q. none-below (translation b) rec (no-mention rec TranslationKinds.call q refl refl refl))
-      (λ q. rw (q, field-read TranslationKinds.call fs f 1, translation-functions b accepted) (lt-ltb g (functions b) (call-below b accepted k h e)))
+      (λ q. none-below (translationBy same b) rec (no-mention rec TranslationKinds.call q refl refl refl))
+      (λ q. rw (q, field-read TranslationKinds.call fs f 1, translation-functions same b accepted) (lt-ltb g (functions b) (call-below b accepted k h e)))
   by-kind (build c ns) e r f =
       let m = build-count b accepted k h e in
       let a = arity-limit b (sheet-shape b accepted) c (build-below b accepted k h e) in
       node-pass TranslationKinds.tuple (c ∷ ns) r (omega arith) (omega arith)
       (row-allows (rowOf TranslationKinds.tuple) (4 + 2 * length (c ∷ ns)) (omega arith) (omega (arith, m, a)) (omega arith))
       (λ q. rw q refl)
-      (λ q. tuple-below (nodes (translation b)) c ns f (λ i x p. child-there e (component i p)))
+      (λ q. tuple-below (nodes (translationBy same b)) c ns f (λ i x p. child-there e (component i p)))
       (λ q. rw q refl)
   by-kind (caseOf n cs) e r f =
       let w = clause-words cs in
@@ -195,9 +196,9 @@ module _ (b : List ℕ) (accepted : sheetVerdict b ≡ Accepted) (k : ℕ) (h : 
       node-pass TranslationKinds.caseOf (n ∷ clauseWords cs) r (omega arith) (omega arith)
       (row-allows (rowOf TranslationKinds.caseOf) (4 + 2 * length (n ∷ clauseWords cs)) (omega (arith, w, l)) (omega (arith, w, g)) (omega (arith, w, l)))
       (λ q. rw q refl)
-      (λ q. case-below (nodes (translation b)) n cs f (child-there e scrutinee) (λ i c p. child-there e (clause i p refl)))
+      (λ q. case-below (nodes (translationBy same b)) n cs f (child-there e scrutinee) (λ i c p. child-there e (clause i p refl)))
       (λ q. rw q refl)
 
-  pub node-passes : Passes (translation b) (firstNode (translation b) + k) (translatedKind (sheetNodeOf b k)) (translatedFields b k (sheetNodeOf b k))
+  pub node-passes : Passes (translationBy same b) (firstNode (translationBy same b) + k) (translatedKind (sheetNodeOf b k)) (translatedFields same b k (sheetNodeOf b k))
   node-passes =
-      by-kind (sheetNodeOf b k) refl (node-written b accepted k h ∙ ap bytesOf (node-words b k)) (node-writable b accepted k h .fit)
+      by-kind (sheetNodeOf b k) refl (node-written same b accepted k h ∙ ap bytesOf (node-words same b k)) (node-writable same b accepted k h .fit)

@@ -12,7 +12,6 @@ use Rattle.definitions.specs.Bytes.{word, bytesOf}
 use Rattle.definitions.specs.Records.{whole, startOf, recordAt, recordOf, kindOf}
 use Rattle.definitions.specs.Kinds.{Row, rowOf, allows}
 use Rattle.definitions.specs.Numbers.{outOfRange}
-use Rattle.definitions.specs.Lists.{allOf}
 use Rattle.definitions.specs.Verdicts.{firstOf}
 use Rattle.definitions.specs.Layouts.{nodes, isDue}
 use Rattle.definitions.specs.Shape.{operatorCode, counts, shape}
@@ -21,6 +20,7 @@ use Rattle.definitions.specs.Translate.{recordWords}
 use Rattle.definitions.specs.declared.Layout.the-variants.{Translation}
 use Rattle.definitions.specs.declared.Verdict.{Verdict}
 use Rattle.definitions.specs.declared.Verdict.the-variants.{Accepted}
+use Rattle.laws.proofs.Lists.{all-pass}
 use Rattle.laws.proofs.Records.{whole-is, record-none, record-length, record-word}
 use Rattle.laws.proofs.Verdicts.{then-accepted, require-true}
 use Rattle.laws.proofs.Shape.{shape-accepted}
@@ -32,11 +32,6 @@ pub first-all : (n : ℕ) (rule : ℕ → Verdict) → ((i : ℕ) → i < n → 
 unfolding firstOf
 first-all zero rule e = refl
 first-all (suc n) rule e = then-accepted (firstOf n rule) (rule n) (first-all n rule (λ i h. e i (omega arith))) ∙ e n (omega arith)
-
-pub all-pass : (n : ℕ) (test : ℕ → Bool) → ((i : ℕ) → i < n → test i ≡ true) → allOf n test ≡ true
-unfolding allOf
-all-pass zero test e = refl
-all-pass (suc n) test e = rw (all-pass n test (λ i h. e i (omega arith)), e n (omega arith)) refl
 
 -- a row allows a length from its least to its greatest by its step
 pub row-allows : (r : Row) (n : ℕ) → r .least ≤ n → n ≤ r .greatest → (n - r .least) % r .step ≡ 0 → allows r n ≡ true

@@ -17,7 +17,8 @@ use Rattle.definitions.specs.Layouts.{readings, items, functions, nodes, firstN
 use Rattle.definitions.specs.Shape.{headCounts, runCounts, counts, operatorCode}
 use Rattle.definitions.specs.References.{parameters, fromFirst, fromSecond, everyOther, children, child, namesInRange}
 use Rattle.definitions.specs.Checks.{sheetVerdict}
-use Rattle.definitions.specs.Translate.{recordWords, formalOf, formals, actuals, headWords, functionWords, translation}
+use Rattle.definitions.specs.Labels.{Labelling, actuals}
+use Rattle.definitions.specs.Translate.{recordWords, formalOf, formals, headWords, functionWords, translationBy}
 use Rattle.definitions.specs.declared.Layout.the-variants.{Sheet, Translation}
 use Rattle.definitions.specs.declared.Verdict.the-variants.{Accepted}
 use Rattle.laws.proofs.Ranges.{within-both}
@@ -42,18 +43,18 @@ both-ways : (t : Bool) → cond t true true ≡ true
 both-ways true = refl
 both-ways false = refl
 
-module _ (b : List ℕ) (accepted : sheetVerdict b ≡ Accepted) where
-  head-counts : headCounts Translation (translation b) ≡ true
+module _ (same : Labelling) (b : List ℕ) (accepted : sheetVerdict b ≡ Accepted) where
+  head-counts : headCounts Translation (translationBy same b) ≡ true
   unfolding headCounts
   head-counts =
-      let t = translation b in
+      let t = translationBy same b in
       let s = sheet-shape b accepted in
-      let i : readings t ≤ 32 = rw (translation-readings b accepted) (readings-limit Sheet b s) in
-      let m : items t ≤ 512 = rw (translation-items b accepted) (formals-limit b accepted) in
-      let f : 1 ≤ functions t = rw (translation-functions b accepted) (functions-least Sheet b s) in
-      let g : functions t ≤ 64 = rw (translation-functions b accepted) (functions-limit Sheet b s) in
-      let n : 1 ≤ nodes t = rw (translation-nodes b accepted) (nodes-least Sheet b s) in
-      let o : nodes t ≤ mostNodes = rw (translation-nodes b accepted) (nodes-limit Sheet b s) in
+      let i : readings t ≤ 32 = rw (translation-readings same b accepted) (readings-limit Sheet b s) in
+      let m : items t ≤ 512 = rw (translation-items same b accepted) (formals-limit b accepted) in
+      let f : 1 ≤ functions t = rw (translation-functions same b accepted) (functions-least Sheet b s) in
+      let g : functions t ≤ 64 = rw (translation-functions same b accepted) (functions-limit Sheet b s) in
+      let n : 1 ≤ nodes t = rw (translation-nodes same b accepted) (nodes-least Sheet b s) in
+      let o : nodes t ≤ mostNodes = rw (translation-nodes same b accepted) (nodes-limit Sheet b s) in
       rw (
         within-both 0 32 (readings t) (omega arith) i,
         within-both 0 512 (items t) (omega arith) m,
@@ -61,34 +62,34 @@ module _ (b : List ℕ) (accepted : sheetVerdict b ≡ Accepted) where
         within-both 1 mostNodes (nodes t) n o,
       ) refl
 
-  pub head-passes : Passes (translation b) 0 TranslationKinds.head (readings b ∷ formals b ∷ functions b ∷ nodes b ∷ [])
+  pub head-passes : Passes (translationBy same b) 0 TranslationKinds.head (readings b ∷ formals b ∷ functions b ∷ nodes b ∷ [])
   unfolding headWords isDue rowOf rows rowIn row allows operatorCode counts namesInRange everyOther fromFirst fromSecond
   head-passes =
       let fs = readings b ∷ formals b ∷ functions b ∷ nodes b ∷ [] in
       let rec = bytesOf (recordWords TranslationKinds.head fs) in
       let k : kindOf rec ≡ TranslationKinds.head = kind-read TranslationKinds.head fs (omega arith) in
       record {
-        there = head-written b accepted;
+        there = head-written same b accepted;
         small = omega arith;
         due = refl;
         allowed = refl;
         code = rw k refl;
         counts = head-counts;
-        named = names-there (translation b) 0 rec (none-below (translation b) rec (no-mention rec TranslationKinds.head k refl refl refl)) (rw k refl);
+        named = names-there (translationBy same b) 0 rec (none-below (translationBy same b) rec (no-mention rec TranslationKinds.head k refl refl refl)) (rw k refl);
       }
 
   -- a function's counts: its own is not 0, and all sum to the nodes
-  counts-sum : sumOf (functions (translation b)) (nodeCount Translation (translation b)) ≡ nodes (translation b)
+  counts-sum : sumOf (functions (translationBy same b)) (nodeCount Translation (translationBy same b)) ≡ nodes (translationBy same b)
   counts-sum =
-      rw (translation-functions b accepted, translation-nodes b accepted)
-      (sum-same (functions b) (nodeCount Translation (translation b)) (nodeCount Sheet b) (node-count-read b accepted)
+      rw (translation-functions same b accepted, translation-nodes same b accepted)
+      (sum-same (functions b) (nodeCount Translation (translationBy same b)) (nodeCount Sheet b) (node-count-read same b accepted)
       ∙ node-counts-sum Sheet b (sheet-shape b accepted))
 
   run-counts : (f : ℕ) → f < functions b
-      → runCounts Translation (translation b) (1 + f) (bytesOf (recordWords TranslationKinds.function (nodeCount Sheet b f ∷ []))) ≡ true
+      → runCounts Translation (translationBy same b) (1 + f) (bytesOf (recordWords TranslationKinds.function (nodeCount Sheet b f ∷ []))) ≡ true
   unfolding runCounts
   run-counts f h =
-      let t = translation b in
+      let t = translationBy same b in
       let l = node-count-least Sheet b (sheet-shape b accepted) f h in
       rw (
         field-read TranslationKinds.function (nodeCount Sheet b f ∷ []) (function-writable b accepted f h .fit) 0,
@@ -98,16 +99,16 @@ module _ (b : List ℕ) (accepted : sheetVerdict b ≡ Accepted) where
       (both-ways (eqb (suc (1 + f)) (1 + functions t)))
 
   pub function-passes : (f : ℕ) → f < functions b
-      → Passes (translation b) (1 + f) TranslationKinds.function (nodeCount Sheet b f ∷ [])
+      → Passes (translationBy same b) (1 + f) TranslationKinds.function (nodeCount Sheet b f ∷ [])
   unfolding functionWords rowOf rows rowIn row allows operatorCode namesInRange everyOther fromFirst fromSecond
   function-passes f h =
-      let t = translation b in
+      let t = translationBy same b in
       let fs = nodeCount Sheet b f ∷ [] in
       let rec = bytesOf (recordWords TranslationKinds.function fs) in
       let k : kindOf rec ≡ TranslationKinds.function = kind-read TranslationKinds.function fs (omega arith) in
-      let l : f < functions t = rw (translation-functions b accepted) h in
+      let l : f < functions t = rw (translation-functions same b accepted) h in
       record {
-        there = function-written b accepted f h;
+        there = function-written same b accepted f h;
         small = omega arith;
         due =
             sym (due-section Translation t (1 + f) TranslationKinds.function (firstNode t) TranslationKinds.function (λ e. omega (arith, e)) refl (omega (arith, l))
@@ -119,30 +120,30 @@ module _ (b : List ℕ) (accepted : sheetVerdict b ≡ Accepted) where
       }
 
   -- an actual is a node
-  formal-mention : (f i : ℕ) → i < parameters b f → (j : ℕ) → j < children (bytesOf (formalPart b f i))
-      → child (bytesOf (formalPart b f i)) j < nodes (translation b)
+  formal-mention : (f i : ℕ) → i < parameters b f → (j : ℕ) → j < children (bytesOf (formalPart same b f i))
+      → child (bytesOf (formalPart same b f i)) j < nodes (translationBy same b)
   formal-mention f i g j h =
-      let fs = actuals b f i in
-      let rec = bytesOf (formalPart b f i) in
+      let fs = actuals same b f i in
+      let rec = bytesOf (formalPart same b f i) in
       let k : kindOf rec ≡ TranslationKinds.formalList = kind-read TranslationKinds.formalList fs (omega arith) in
       let l : j < length fs = rw (list-mentions rec k, count-read TranslationKinds.formalList fs) at h in
-      rw (list-mention rec k j, field-read TranslationKinds.formalList fs (formal-writable b accepted f i g .fit) j, translation-nodes b accepted)
-      (actuals-below b accepted f i j g (element-is 0 fs j l))
+      rw (list-mention rec k j, field-read TranslationKinds.formalList fs (formal-writable same b accepted f i g .fit) j, translation-nodes same b accepted)
+      (actuals-below same b accepted f i j g (element-is 0 fs j l))
 
   pub formal-passes : (f i : ℕ) → f < functions b → i < parameters b f
-      → Passes (translation b) (1 + functions (translation b) + formalOf b f i) TranslationKinds.formalList (actuals b f i)
+      → Passes (translationBy same b) (1 + functions (translationBy same b) + formalOf b f i) TranslationKinds.formalList (actuals same b f i)
   unfolding rowOf rows rowIn row operatorCode namesInRange
   formal-passes f i h g =
-      let t = translation b in
-      let fs = actuals b f i in
+      let t = translationBy same b in
+      let fs = actuals same b f i in
       let r = 1 + functions t + formalOf b f i in
-      let rec = bytesOf (formalPart b f i) in
+      let rec = bytesOf (formalPart same b f i) in
       let k : kindOf rec ≡ TranslationKinds.formalList = kind-read TranslationKinds.formalList fs (omega arith) in
-      let l : formalOf b f i < items t = rw (translation-items b accepted) (formal-in-range b accepted f i h g) in
-      let m = actuals-limit b accepted f i in
+      let l : formalOf b f i < items t = rw (translation-items same b accepted) (formal-in-range b accepted f i h g) in
+      let m = actuals-limit same b f i in
       let n = nodes-limit Sheet b (sheet-shape b accepted) in
       record {
-        there = formal-written b accepted f i h g;
+        there = formal-written same b accepted f i h g;
         small = omega arith;
         due =
             sym (due-section Translation t r TranslationKinds.formalList (firstNode t) TranslationKinds.formalList (λ e. omega (arith, e)) refl (omega (arith, l))

@@ -7,24 +7,25 @@ use Rattle.definitions.specs.Bytes.{words32}
 use Rattle.definitions.specs.Layouts.{ownerOf}
 use Rattle.definitions.specs.Operators.{residue}
 use Rattle.definitions.specs.TranslationKinds
-use Rattle.definitions.specs.SheetNodes.{SheetNode, number, reading, parameter, patternVariable, operator, conditional, call, build, caseOf}
+use Rattle.definitions.specs.SheetNodes.{SheetNode, number, reading, parameter, patternVariable, operator, conditional, call, build, caseOf, scrutineeOf}
 use Rattle.definitions.specs.TranslationNodes.{TranslationNode}
 use Rattle.definitions.specs.TranslationNodes
-use Rattle.definitions.specs.Translate.{labelOf, formalOf, scrutineeOf, clauseWords}
+use Rattle.definitions.specs.Labels.{Labelling, labelOf}
+use Rattle.definitions.specs.Translate.{formalOf, clauseWords}
 use Rattle.definitions.specs.declared.Layout.the-variants.{Sheet}
 
 -- what node k of a sheet becomes: "Build becomes a tuple whose tag is the constructor number. Pattern position i becomes
 -- select(scrutinee, i+1). Case keeps its nodes and compares tags"
-unfoldable pub translatedNode : List ℕ → ℕ → SheetNode → TranslationNode
-translatedNode b k (number z) = TranslationNodes.number z
-translatedNode b k (reading i) = TranslationNodes.reading i
-translatedNode b k (parameter i) = TranslationNodes.formal (formalOf b (ownerOf Sheet b k) i)
-translatedNode b k (patternVariable i) = TranslationNodes.select (scrutineeOf b k) (suc i)
-translatedNode b k (operator o l r) = TranslationNodes.operator o l r
-translatedNode b k (conditional n p q) = TranslationNodes.conditional n p q
-translatedNode b k (call f ns) = TranslationNodes.call (labelOf b f k) f
-translatedNode b k (build c ns) = TranslationNodes.tuple c ns
-translatedNode b k (caseOf n cs) = TranslationNodes.caseOf n cs
+unfoldable pub translatedNode : Labelling → List ℕ → ℕ → SheetNode → TranslationNode
+translatedNode same b k (number z) = TranslationNodes.number z
+translatedNode same b k (reading i) = TranslationNodes.reading i
+translatedNode same b k (parameter i) = TranslationNodes.formal (formalOf b (ownerOf Sheet b k) i)
+translatedNode same b k (patternVariable i) = TranslationNodes.select (scrutineeOf b k) (suc i)
+translatedNode same b k (operator o l r) = TranslationNodes.operator o l r
+translatedNode same b k (conditional n p q) = TranslationNodes.conditional n p q
+translatedNode same b k (call f ns) = TranslationNodes.call (labelOf same b f k) f
+translatedNode same b k (build c ns) = TranslationNodes.tuple c ns
+translatedNode same b k (caseOf n cs) = TranslationNodes.caseOf n cs
 
 -- its kind
 unfoldable pub translatedKind : SheetNode → ℕ
@@ -39,13 +40,13 @@ translatedKind (build c ns) = TranslationKinds.tuple
 translatedKind (caseOf n cs) = TranslationKinds.caseOf
 
 -- its fields
-unfoldable pub translatedFields : List ℕ → ℕ → SheetNode → List ℕ
-translatedFields b k (number z) = words32 (residue w32 z)
-translatedFields b k (reading i) = i ∷ []
-translatedFields b k (parameter i) = formalOf b (ownerOf Sheet b k) i ∷ []
-translatedFields b k (patternVariable i) = scrutineeOf b k ∷ suc i ∷ []
-translatedFields b k (operator o l r) = o ∷ l ∷ r ∷ []
-translatedFields b k (conditional n p q) = n ∷ p ∷ q ∷ []
-translatedFields b k (call f ns) = labelOf b f k ∷ f ∷ []
-translatedFields b k (build c ns) = c ∷ ns
-translatedFields b k (caseOf n cs) = n ∷ clauseWords cs
+unfoldable pub translatedFields : Labelling → List ℕ → ℕ → SheetNode → List ℕ
+translatedFields same b k (number z) = words32 (residue w32 z)
+translatedFields same b k (reading i) = i ∷ []
+translatedFields same b k (parameter i) = formalOf b (ownerOf Sheet b k) i ∷ []
+translatedFields same b k (patternVariable i) = scrutineeOf b k ∷ suc i ∷ []
+translatedFields same b k (operator o l r) = o ∷ l ∷ r ∷ []
+translatedFields same b k (conditional n p q) = n ∷ p ∷ q ∷ []
+translatedFields same b k (call f ns) = labelOf same b f k ∷ f ∷ []
+translatedFields same b k (build c ns) = c ∷ ns
+translatedFields same b k (caseOf n cs) = n ∷ clauseWords cs

@@ -2,3 +2,4 @@ pub mod Opened
 pub mod Observed
 pub mod Starred
 pub mod Orders
+pub mod EqualCalls

@@ -14,6 +14,8 @@ use Rattle.definitions.specs.Operators
 use Rattle.definitions.specs.Outcomes
 use Rattle.definitions.specs.SheetNodes
 use Rattle.agreement.specs.Meaning
+use Rattle.definitions.specs.Trees
+use Rattle.definitions.specs.Labels
 use Rattle.definitions.specs.Translate
 use Rattle.definitions.specs.TranslationNodes
 use Rattle.definitions.specs.Rule
@@ -27,7 +29,7 @@ use Rattle.sheets.specs.Products
 unfoldable pub opened : Unit {0}
 unfolding
     Bytes.word Bytes.word32 Bytes.signed Bytes.wordBytes Bytes.words32 Bytes.bytesOf
-    Lists.joined Lists.listed Lists.sumOf Lists.countOf Lists.allOf Lists.lastOf
+    Lists.joined Lists.listed Lists.sumOf Lists.countOf Lists.allOf Lists.lastOf Lists.firstPassing
     Records.whole Records.next Records.startOf Records.recordAt Records.recordOf Records.fieldCount
     Layouts.sectionKind Layouts.isDue Layouts.runEnd Layouts.bodyOf Layouts.ownerOf
     Kinds.row Kinds.rows Kinds.rowIn Kinds.rowOf Kinds.allows
@@ -44,11 +46,13 @@ unfolding
     Operators.residue Operators.reduced Operators.inSignedRange Operators.isZero Operators.equal Operators.truth
     Operators.product Operators.quotient Operators.computed
     Outcomes.numberOutcome Outcomes.constructorOutcome Outcomes.endOutcome
-    SheetNodes.sheetNode SheetNodes.sheetNodeOf
+    SheetNodes.sheetNode SheetNodes.sheetNodeOf SheetNodes.scrutineeOf
     Meaning.closureAt Meaning.argumentOf Meaning.heldField Meaning.endOf Meaning.outcomeOf
-    Translate.recordWords Translate.calls Translate.labelOf Translate.formalOf Translate.formals Translate.actuals
-    Translate.scrutineeOf Translate.clauseWords Translate.translated Translate.headWords Translate.functionWords
-    Translate.formalWords Translate.nodeWords Translate.translationWords Translate.translation
+    Trees.namesNode Trees.sameField Trees.sameFields Trees.samePlace Trees.sameTree Trees.deepest Trees.equalTrees
+    Labels.calls Labels.firstCall Labels.isFirst Labels.labelOf Labels.actuals
+    Translate.recordWords Translate.formalOf Translate.formals Translate.clauseWords Translate.translated
+    Translate.headWords Translate.functionWords Translate.formalWords Translate.nodeWords Translate.translationWords
+    Translate.translationBy Translate.translation
     TranslationNodes.translationNode TranslationNodes.translationNodeOf TranslationNodes.actual TranslationNodes.tagOf
     TranslationNodes.tupleFields
     Rule.reach Rule.withStep Rule.numberDue Rule.constructorDue Rule.nodeDue Rule.resultOf Rule.selected

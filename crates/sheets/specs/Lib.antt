@@ -3,3 +3,4 @@ pub mod Trial
 pub mod Starred
 pub mod Products
 pub mod Orders
+pub mod EqualCalls

@@ -73,9 +73,9 @@ starred =
     -- 2,147,483,647 + 1 = -2,147,483,648
     ∷ trial reducedSum 1000 100 100
     (answering (numberOutcome (negsuc 2147483647)) 3 0) [] (some (numberOutcome (negsuc 2147483647)))
-    -- loop with 3 steps, nesting 9, 9 cells: 11
+    -- loop with 3 steps, nesting 9, 9 cells: 11; its two calls of `loop`, without arguments, share label 0 (document 02, request 4)
     ∷ trial loop 3 9 9
-    (answering (endOutcome noStep) 3 3) (0 ∷ 0 ∷ 0 ∷ 0 ∷ 1 ∷ 0 ∷ 1 ∷ 0 ∷ 1 ∷ 0 ∷ 2 ∷ 0 ∷ []) none
+    (answering (endOutcome noStep) 3 3) (0 ∷ 0 ∷ 0 ∷ 0 ∷ 0 ∷ 0 ∷ 1 ∷ 0 ∷ 0 ∷ 0 ∷ 2 ∷ 0 ∷ []) none
     ∷ []
 
 -- trials that it does not ask for

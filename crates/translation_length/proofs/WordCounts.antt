@@ -15,6 +15,7 @@ use Rattle.definitions.specs.SheetKinds
 use Rattle.definitions.specs.Lists.{sumOf}
 use Rattle.definitions.specs.Layouts.{functions, nodes, firstFunction, firstNode}
 use Rattle.definitions.specs.Checks.{sheetVerdict}
+use Rattle.definitions.specs.Trees.{equalTrees}
 use Rattle.definitions.specs.Translate.{translation, translationRefusal, translationAnswer}
 use Rattle.definitions.specs.declared.Layout.the-variants.{Sheet}
 use Rattle.definitions.specs.declared.Verdict.{Verdict}
@@ -27,8 +28,8 @@ use Rattle.file_records.specs.Index.{startIn}
 use Rattle.file_records.proofs.Indices.{node-reached}
 use Rattle.format.specs.Readers.{ReadSheet}
 use Rattle.format.proofs.SheetTables.{opened-parameters}
-use Rattle.call_labels.specs.Tables.{AcceptedSheet}
-use Rattle.translation_length.specs.Words.{CountedCalls, formalLength, nodeLength, recordLength}
+use Rattle.tree_classes.specs.Classes.{AcceptedSheet}
+use Rattle.translation_length.specs.Words.{CountedLabels, formalLength, nodeLength, recordLength}
 
 -- the terms before i are summed
 pub record Summed (at : ℕ → ℕ) (count total i : ℕ) : Type 0 where
@@ -71,10 +72,12 @@ module _ (b : List ℕ) (accepted : sheetVerdict b ≡ Accepted) where
 
   -- all together
   pub bytes-counted : 2 * words ≡ length (translation b)
-  bytes-counted = omega (arith, words-size b accepted, translation-length b accepted)
+  unfolding translation
+  bytes-counted = omega (arith, words-size (equalTrees b) b accepted, translation-length (equalTrees b) b accepted)
 
   pub words-limit : words ≤ translationBytes
-  words-limit = omega (arith, bytes-counted, translation-limit b accepted)
+  unfolding translation
+  words-limit = omega (arith, bytes-counted, translation-limit (equalTrees b) b accepted)
 
 module _ {b starts : List ℕ} (w : AcceptedSheet b starts) {k count first x : ℕ} {rec : List ℕ} (h : k < count) (e : count ≡ nodes b)
     (f : first ≡ firstNode b) (g : rec ≡ recordAt b (startIn starts (first + k))) where
@@ -82,13 +85,13 @@ module _ {b starts : List ℕ} (w : AcceptedSheet b starts) {k count first x : �
   unfolding recordLength
   node-counted p =
       let i : k < nodes b = omega (arith, h, e) in
-      p ∙ rw (node-reached Sheet b starts k first rec (w .file) i f g) (sym (node-length b (w .accepted) k i))
+      p ∙ rw (node-reached Sheet b starts k first rec (w .file) i f g) (sym (node-length (equalTrees b) b (w .accepted) k i))
 
-module _ {b starts counts : List ℕ} (w : CountedCalls b starts counts) {f x y z : ℕ} (h : f < functions b)
+module _ {b starts counts : List ℕ} (w : CountedLabels b starts counts) {f x y z : ℕ} (h : f < functions b)
     (g : x ≡ field (recordAt b (startIn starts (firstFunction Sheet b + f))) 0) (p : y ≡ x) (q : z ≡ getD counts f 0) where
   pub formal-counted : y * (2 + z) ≡ formalLength b f
   formal-counted =
-      rw (p, opened-parameters b starts f x (w .sheet .file) h g, q, w .counted .entry f h) (mul-add _ 2 _ ∙ sym (formal-size b (w .sheet .accepted) f))
+      rw (p, opened-parameters b starts f x (w .sheet .file) h g, q, w .counted .entry f h) (mul-add _ 2 _ ∙ sym (formal-size (equalTrees b) b (w .sheet .accepted) f))
 
   pub formal-limit : y * (2 + z) ≤ translationBytes
   formal-limit = omega (arith, formal-counted, sum-term f (functions b) (formalLength b) h, words-limit b (w .sheet .accepted))

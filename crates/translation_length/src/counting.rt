@@ -1,4 +1,4 @@
-// The length of an accepted sheet's translation, counted in words of two bytes from the sheet's records and the calls of each function.
+// The length of an accepted sheet's translation, counted in words of two bytes from the sheet's records and the labels of each function.
 ghost use mathlib.Core.Path.{_≡_};
 ghost use Prim.Native.Nat.{_≤_, _<_};
 ghost use lib.ListN.{length};
@@ -6,10 +6,10 @@ ghost use Rattle.definitions.specs.Sizes.{translationBytes};
 ghost use Rattle.definitions.specs.Lists.{sumOf};
 ghost use Rattle.definitions.specs.Layouts.{functions, nodes};
 ghost use Rattle.definitions.specs.Translate.{translation};
-ghost use Rattle.call_labels.specs.Tables.{AcceptedSheet};
-ghost use Rattle.translation_length.specs.Words.{CountedCalls, formalLength, nodeLength, recordLength};
-use call_labels::OfFunctions;
+ghost use Rattle.tree_classes.specs.Classes.{AcceptedSheet};
+ghost use Rattle.translation_length.specs.Words.{CountedLabels, formalLength, nodeLength, recordLength};
 use definitions::sheet_kinds;
+use definitions::sizes::OfFunctions;
 use definitions::sizes::Starts;
 use file_layout::layout::first_node;
 use file_layout::layout::functions;
@@ -26,7 +26,7 @@ const FUNCTION_WORDS: usize = 3;
 
 // The bytes of the translation.
 pub fn count_bytes(b: &[u8], starts: &Starts, counts: &OfFunctions) -> usize
-    requires { ⌜ CountedCalls (now b) (now starts) (now counts) ⌝ }
+    requires { ⌜ CountedLabels (now b) (now starts) (now counts) ⌝ }
     ensures { λ r. ⌜ r ≡ length (translation (now (b .entry))) ⌝ }
 {
     let sections = HEAD_WORDS + FUNCTION_WORDS * wide(functions(b));
@@ -35,7 +35,7 @@ pub fn count_bytes(b: &[u8], starts: &Starts, counts: &OfFunctions) -> usize
 
 // The words of all formals.
 fn count_formals(b: &[u8], starts: &Starts, counts: &OfFunctions) -> usize
-    requires { ⌜ CountedCalls (now b) (now starts) (now counts) ⌝ }
+    requires { ⌜ CountedLabels (now b) (now starts) (now counts) ⌝ }
     ensures { λ r. ⌜ (r ≡ sumOf (functions (now (b .entry))) (formalLength (now (b .entry)))) × (r ≤ translationBytes) ⌝ }
 {
     let count = wide(functions(b));
@@ -48,9 +48,9 @@ fn count_formals(b: &[u8], starts: &Starts, counts: &OfFunctions) -> usize
     total
 }
 
-// The words of the formals of function `f`: of each, two and one for each call.
+// The words of the formals of function `f`: of each, two and one for each label.
 fn count_function(b: &[u8], starts: &Starts, counts: &OfFunctions, f: usize) -> usize
-    requires { ⌜ CountedCalls (now b) (now starts) (now counts) × (f < functions (now b)) ⌝ }
+    requires { ⌜ CountedLabels (now b) (now starts) (now counts) × (f < functions (now b)) ⌝ }
     ensures { λ r. ⌜ r ≡ formalLength (now (b .entry)) f ⌝ }
 {
     wide(parameters(b, starts, f)) * (2 + wide(counts[f]))

@@ -22,6 +22,8 @@ use Rattle.definitions.specs.Checks
 use Rattle.definitions.specs.NodeFields
 use Rattle.definitions.specs.Operators
 use Rattle.definitions.specs.SheetNodes
+use Rattle.definitions.specs.Trees
+use Rattle.definitions.specs.Labels
 use Rattle.definitions.specs.Translate
 use Rattle.translator.specs.Promise
 use Rattle.definitions.specs.declared.Written.{Written}
@@ -31,7 +33,7 @@ use Rattle.definitions.specs.declared.Written.the-variants as answers
 unfoldable opened : Unit {0}
 unfolding
     Bytes.word Bytes.word32 Bytes.signed Bytes.wordBytes Bytes.words32 Bytes.bytesOf
-    Lists.joined Lists.listed Lists.sumOf Lists.countOf Lists.allOf
+    Lists.joined Lists.listed Lists.sumOf Lists.countOf Lists.allOf Lists.firstPassing
     Records.whole Records.next Records.startOf Records.recordAt Records.recordOf Records.fieldCount
     Layouts.sectionKind Layouts.isDue Layouts.runEnd Layouts.bodyOf Layouts.ownerOf
     Kinds.row Kinds.rows Kinds.rowIn Kinds.rowOf Kinds.allows
@@ -44,9 +46,11 @@ unfolding
     Checks.argumentsMatch Checks.arguments Checks.timesChild Checks.isBody Checks.childrenRight Checks.treeRight
     Checks.tree Checks.patternRight Checks.pattern Checks.sheetVerdict
     NodeFields.fieldsFrom Operators.residue SheetNodes.sheetNode SheetNodes.sheetNodeOf
-    Translate.recordWords Translate.calls Translate.labelOf Translate.formalOf Translate.formals Translate.actuals
+    Trees.namesNode Trees.sameField Trees.sameFields Trees.samePlace Trees.sameTree Trees.deepest Trees.equalTrees
+    Labels.calls Labels.firstCall Labels.isFirst Labels.labelOf Labels.actuals
+    Translate.recordWords Translate.formalOf Translate.formals
     Translate.translated Translate.headWords Translate.functionWords Translate.formalWords Translate.nodeWords
-    Translate.translationWords Translate.translation
+    Translate.translationWords Translate.translationBy Translate.translation
     Translate.translationRefusal Translate.translationAnswer
     Output.writtenOf Output.outputOf
 opened = tt

@@ -10,7 +10,9 @@ use Rattle.definitions.specs.TranslationKinds
 use Rattle.definitions.specs.Lists.{joined}
 use Rattle.definitions.specs.Layouts.{readings, functions, nodes, firstFunction, firstNode, due, nodeRecord}
 use Rattle.definitions.specs.References.{parameters}
-use Rattle.definitions.specs.Translate.{calls, recordWords, actuals, formals, headWords, functionWords}
+use Rattle.definitions.specs.Trees.{equalTrees}
+use Rattle.definitions.specs.Labels.{isFirst, actuals}
+use Rattle.definitions.specs.Translate.{recordWords, formals, headWords, functionWords}
 use Rattle.definitions.specs.declared.Layout.the-variants.{Sheet}
 use Rattle.laws.proofs.Lists.{sum-more}
 use Rattle.accepted.proofs.Head.{nodes-limit}
@@ -18,8 +20,8 @@ use Rattle.readback.proofs.Picked.{picked-length}
 use Rattle.file_records.specs.Index.{Opened, startIn}
 use Rattle.file_records.proofs.Indices.{indexed-field, node-reached}
 use Rattle.translation_words.specs.Writing.{WroteWords}
-use Rattle.call_labels.specs.Tables.{callCount}
-use Rattle.translator.specs.Tables.{Sums, firstCall, FormalAt}
+use Rattle.call_labels.specs.Tables.{labelCount}
+use Rattle.translator.specs.Tables.{Sums, labelsBefore, FormalAt}
 use Rattle.translation_words.proofs.Writing.{wrote-then, wrote-record}
 use Rattle.translator.proofs.CallOrder.{place-within, ordered-node, ordered-actuals}
 
@@ -29,13 +31,13 @@ argumentOf b order i place = field (nodeRecord b (getD order place 0)) (1 + i) �
 
 -- the formal of function f at position i: the calls of f are at the places from x to y
 module _ {b starts firsts order : List ℕ} {f i x y : ℕ} (w : FormalAt b starts firsts order f i) (e : x ≡ getD firsts f 0) (g : y ≡ getD firsts (f + 1) 0) where
-  first-is : x ≡ firstCall b f
+  first-is : x ≡ labelsBefore b f
   first-is = e ∙ w .tables .first .entry f (omega (arith, w .below))
 
-  end-is : y ≡ firstCall b f + callCount b f
-  end-is = g ∙ w .tables .first .entry (f + 1) (omega (arith, w .below)) ∙ sum-more f (callCount b)
+  end-is : y ≡ labelsBefore b f + labelCount b f
+  end-is = g ∙ w .tables .first .entry (f + 1) (omega (arith, w .below)) ∙ sum-more f (labelCount b)
 
-  count-is : y - x ≡ callCount b f
+  count-is : y - x ≡ labelCount b f
   count-is = omega (arith, first-is, end-is)
 
   pub range-right : x ≤ y
@@ -49,17 +51,17 @@ module _ {b starts firsts order : List ℕ} {f i x y : ℕ} (w : FormalAt b star
   pub argument-read : {j first node u v : ℕ} {rec : List ℕ} → j < y - x → first ≡ firstNode b → node ≡ getD order (x + j) 0
       → rec ≡ recordAt b (startIn starts (first + node)) → u ≡ field rec (1 + i) → v ≡ u → v ∷ [] ≡ argumentOf b order i (x + j)
   argument-read {j} {first} {node} {rec} h p q r s t =
-      let n : node ≡ getD order (firstCall b f + j) 0 = q ∙ ap (λ (m : ℕ). getD order (m + j) 0) first-is in
+      let n : node ≡ getD order (labelsBefore b f + j) 0 = q ∙ ap (λ (m : ℕ). getD order (m + j) 0) first-is in
       let l : node < nodes b = omega (arith, n, ordered-node b order (w .tables .ordered) f j (omega (arith, count-is, h))) in
       rw (t, s, node-reached Sheet b starts node first rec (w .tables .file) l p r, q) refl
 
   -- all of them
-  pub actuals-are : joined (y - x) (λ j. argumentOf b order i (x + j)) ≡ actuals b f i
+  pub actuals-are : joined (y - x) (λ j. argumentOf b order i (x + j)) ≡ actuals (equalTrees b) b f i
   actuals-are = rw (count-is, first-is) (sym (ordered-actuals b order (w .tables .ordered) f i))
 
-  pub actuals-length : y - x ≡ length (actuals b f i)
+  pub actuals-length : y - x ≡ length (actuals (equalTrees b) b f i)
   unfolding actuals
-  actuals-length = count-is ∙ sym (picked-length (calls b f) (λ k. field (nodeRecord b k) (1 + i)) (nodes b))
+  actuals-length = count-is ∙ sym (picked-length (isFirst (equalTrees b) b f) (λ k. field (nodeRecord b k) (1 + i)) (nodes b))
 
 -- a function's record
 pub function-words : {b starts : List ℕ} {first f x : ℕ} {rec : List ℕ} → Opened Sheet b starts → f < functions b → first ≡ firstFunction Sheet b

@@ -14,8 +14,10 @@ use Rattle.definitions.specs.Layouts.{nodes, firstNode, nodeRecord, ownerOf}
 use Rattle.definitions.specs.References.{clauses, clauseConstructor}
 use Rattle.definitions.specs.Operators.{residue}
 use Rattle.definitions.specs.NodeFields.{Clause, fieldsFrom, clauseList}
-use Rattle.definitions.specs.SheetNodes.{SheetNode, sheetNode, sheetNodeOf}
-use Rattle.definitions.specs.Translate.{recordWords, labelOf, formalOf, scrutineeOf, clauseWords, translated, nodeWords}
+use Rattle.definitions.specs.SheetNodes.{SheetNode, sheetNode, sheetNodeOf, scrutineeOf}
+use Rattle.definitions.specs.Trees.{equalTrees}
+use Rattle.definitions.specs.Labels.{Labelling, labelOf}
+use Rattle.definitions.specs.Translate.{recordWords, formalOf, clauseWords, translated, nodeWords}
 use Rattle.definitions.specs.declared.Layout.the-variants.{Sheet}
 use Rattle.accepted.proofs.Head.{nodes-limit}
 use Rattle.accepted.proofs.SheetRecords.{SheetRecord, is-number, is-reading, is-parameter, is-patternVariable, is-operator, is-conditional, is-call, is-build, is-case, node-record}
@@ -60,11 +62,11 @@ unfolding listed
 first-and-rest at zero = refl
 first-and-rest at (suc n) = rw (first-and-rest at n) (let e : suc n ≡ 1 + n = omega arith in rw e refl)
 
-module _ (b : List ℕ) (k : ℕ) (rec : List ℕ) where
+module _ (same : Labelling) (b : List ℕ) (k : ℕ) (rec : List ℕ) where
   -- a node whose fields stay
   fields-stay : (nd : SheetNode) → SheetRecord rec nd → (kindOf rec ≡ SheetKinds.number → ⊥) → (kindOf rec ≡ SheetKinds.parameter → ⊥)
       → (kindOf rec ≡ SheetKinds.patternVariable → ⊥) → (kindOf rec ≡ SheetKinds.call → ⊥)
-      → recordWords (32 + kindOf rec) (listed (fieldCount rec) (field rec)) ≡ translated b k nd
+      → recordWords (32 + kindOf rec) (listed (fieldCount rec) (field rec)) ≡ translated same b k nd
   unfolding translated listed fieldsFrom clauseList
   fields-stay nd (is-number e c) p q r s = absurd (p e)
   fields-stay nd (is-reading e c) p q r s = rw (e, c) refl
@@ -93,36 +95,36 @@ module _ {b starts ends owners labels formals rec : List ℕ} {k : ℕ} (w : Nod
   first = f ∙ rw (w .there) refl
 
   pub number-words : {y v u : ℕ} → kind ≡ SheetKinds.number → y ≡ field rec 1 → v ≡ x → u ≡ y → v < 65536 → u < 65536
-      → recordWords TranslationKinds.number (v ∷ u ∷ []) ≡ nodeWords b k
+      → recordWords TranslationKinds.number (v ∷ u ∷ []) ≡ nodeWords (equalTrees b) b k
   unfolding nodeWords sheetNodeOf sheetNode translated
   number-words {v} {u} g h p q s t =
       rw (← here, g)
       (ap (recordWords TranslationKinds.number) (sym (number-fields (nodeRecord b k) v u (p ∙ first) (q ∙ h ∙ rw (w .there) refl) s t)))
 
-  pub parameter-words : {z : ℕ} → kind ≡ SheetKinds.parameter → z ≡ formalOf b (ownerOf Sheet b k) x → recordWords TranslationKinds.formal (z ∷ []) ≡ nodeWords b k
+  pub parameter-words : {z : ℕ} → kind ≡ SheetKinds.parameter → z ≡ formalOf b (ownerOf Sheet b k) x → recordWords TranslationKinds.formal (z ∷ []) ≡ nodeWords (equalTrees b) b k
   unfolding nodeWords sheetNodeOf sheetNode translated
   parameter-words g h = rw (← here, g, ← first, h) refl
 
   pub pattern-words : {z v y : ℕ} → kind ≡ SheetKinds.patternVariable → z ≡ scrutineeOf b k → v ≡ z → y ≡ x
-      → recordWords TranslationKinds.select (v ∷ (y + 1) ∷ []) ≡ nodeWords b k
+      → recordWords TranslationKinds.select (v ∷ (y + 1) ∷ []) ≡ nodeWords (equalTrees b) b k
   unfolding nodeWords sheetNodeOf sheetNode translated
   pattern-words {y} g h p q =
       let n : y + 1 ≡ suc (field (nodeRecord b k) 0) = omega (arith, q, first) in
       rw (← here, g, p, h, n) refl
 
-  pub call-words : {v y : ℕ} → kind ≡ SheetKinds.call → v ≡ getD labels k 0 → y ≡ x → recordWords TranslationKinds.call (v ∷ y ∷ []) ≡ nodeWords b k
+  pub call-words : {v y : ℕ} → kind ≡ SheetKinds.call → v ≡ getD labels k 0 → y ≡ x → recordWords TranslationKinds.call (v ∷ y ∷ []) ≡ nodeWords (equalTrees b) b k
   unfolding nodeWords sheetNodeOf sheetNode translated
   call-words {v} g h p =
-      let l : v ≡ labelOf b x k = h ∙ w .tables .labelled .entry x k (w .below) (calls-named b k kind x here g first) in
+      let l : v ≡ labelOf (equalTrees b) b x k = h ∙ w .tables .labelled .entry x k (w .below) (calls-named b k kind x here g first) in
       rw (← here, g, ← first, l, p) refl
 
   pub copy-words : (kind ≡ SheetKinds.number → ⊥) → (kind ≡ SheetKinds.parameter → ⊥) → (kind ≡ SheetKinds.patternVariable → ⊥)
-      → (kind ≡ SheetKinds.call → ⊥) → recordWords (32 + kindOf rec) (fieldWords rec) ≡ nodeWords b k
+      → (kind ≡ SheetKinds.call → ⊥) → recordWords (32 + kindOf rec) (fieldWords rec) ≡ nodeWords (equalTrees b) b k
   unfolding nodeWords
   copy-words p q r s =
       let n = node-record b (w .tables .read .sheet .file .accepted) k (w .below) in
       rw (fields-listed rec, w .there)
-      (fields-stay b k (nodeRecord b k) (sheetNodeOf b k) n (λ g. p (here ∙ g)) (λ g. q (here ∙ g)) (λ g. r (here ∙ g)) (λ g. s (here ∙ g)))
+      (fields-stay (equalTrees b) b k (nodeRecord b k) (sheetNodeOf b k) n (λ g. p (here ∙ g)) (λ g. q (here ∙ g)) (λ g. r (here ∙ g)) (λ g. s (here ∙ g)))
 
   -- what the steps ask
   pub fields-few : fieldCount rec ≤ 65535

@@ -14,17 +14,16 @@ use Rattle.definitions.specs.Sizes.{translationBytes}
 use Rattle.definitions.specs.Numbers.{shortOutput}
 use Rattle.definitions.specs.Verdicts.{require}
 use Rattle.definitions.specs.Checks.{sheetVerdict}
-use Rattle.definitions.specs.Translate.{translationWords, translation, translationRefusal, translationAnswer}
+use Rattle.definitions.specs.Trees.{equalTrees}
+use Rattle.definitions.specs.Translate.{translationWords, translationBy, translation, translationRefusal, translationAnswer}
 use Rattle.definitions.specs.declared.Verdict.{Verdict}
 use Rattle.definitions.specs.declared.Verdict.the-variants.{Accepted, Refused}
 use Rattle.laws.proofs.Verdicts.{then-accepted, then-refused}
 use Rattle.readback.proofs.Size.{translation-length, translation-limit}
 use Rattle.format.specs.Readers.{ReadSheet}
-use Rattle.call_labels.proofs.CallLabels as CallLabels
 use Rattle.translation_length.proofs.WordCounts as WordCounts
 use Rattle.translator.specs.Promise.{Translates}
 use Rattle.translation_words.specs.Writing.{WroteWords}
-use Rattle.translator.specs.Tables.{ReadTables}
 use Rattle.definitions.specs.declared.Written.the-variants as answers
 
 -- the reader's refusal
@@ -34,25 +33,22 @@ unfolding translationRefusal outputOf
 reader-refuses {b} {out} {n} {p} w e =
     record { answer = WordCounts.reader-refuses (length out) w e; output = rw (then-refused (sheetVerdict b) _ n p (sym (w .verdict) ∙ e)) refl }
 
--- the tables of an accepted sheet
-pub reader-accepts : {b starts ends owners : List ℕ} {v : Verdict} → ReadSheet b v starts ends owners → v ≡ Accepted → ReadTables b starts ends owners
-reader-accepts w e =
-    record { sheet = CallLabels.reader-accepts w e; runs = w .runs e; owned = w .owned e }
-
 -- a length that is counted
 pub counted-fits : {n m : ℕ} (room : ℕ) → n ≡ m → leb n room ≡ leb m room
 counted-fits room e = ap (λ (n : ℕ). leb n room) e
 
 -- an accepted sheet: the length that the writer answers, and the output that it leaves
 module _ (b : List ℕ) (accepted : sheetVerdict b ≡ Accepted) where
-  counted : 0 + 2 * length (translationWords b) ≤ translationBytes
-  counted = omega (arith, translation-limit b accepted, translation-length b accepted)
+  counted : 0 + 2 * length (translationWords (equalTrees b) b) ≤ translationBytes
+  counted = omega (arith, translation-limit (equalTrees b) b accepted, translation-length (equalTrees b) b accepted)
 
-  length-answered : (o : List ℕ) (n : ℕ) (p : List ℕ) → WroteWords o 0 (translationWords b) n p → n ≡ length (translation b)
-  length-answered o n p v = omega (arith, v .place counted, translation-length b accepted)
+  length-answered : (o : List ℕ) (n : ℕ) (p : List ℕ) → WroteWords o 0 (translationWords (equalTrees b) b) n p → n ≡ length (translation b)
+  unfolding translation
+  length-answered o n p v = omega (arith, v .place counted, translation-length (equalTrees b) b accepted)
 
   pub greatest-fits : (room : ℕ) → translationBytes ≤ room → true ≡ leb (length (translation b)) room
-  greatest-fits room h = sym (le-leb (length (translation b)) room (omega (arith, h, counted, translation-length b accepted)))
+  unfolding translation
+  greatest-fits room h = sym (le-leb (length (translation b)) room (omega (arith, h, counted, translation-length (equalTrees b) b accepted)))
 
   refusal-by : (out : List ℕ) (t : Bool) → t ≡ leb (length (translation b)) (length out) → translationRefusal b (length out) ≡ require t shortOutput 0
   unfolding translationRefusal
@@ -64,9 +60,9 @@ module _ (b : List ℕ) (accepted : sheetVerdict b ≡ Accepted) where
       let r : translationRefusal b (length out) ≡ Refused shortOutput 0 = refusal-by out t e ∙ rw f refl in
       record { answer = rw r refl; output = rw r refl }
 
-  pub output-written : {out : List ℕ} {t : Bool} {n : ℕ} {o : List ℕ} → t ≡ leb (length (translation b)) (length out) → t ≡ true → WroteWords out 0 (translationWords b) n o
-      → Translates b out (answers.Length n) o
-  unfolding translationAnswer writtenOf outputOf require translation
+  pub output-written : {out : List ℕ} {t : Bool} {n : ℕ} {o : List ℕ} → t ≡ leb (length (translation b)) (length out) → t ≡ true
+      → WroteWords out 0 (translationWords (equalTrees b) b) n o → Translates b out (answers.Length n) o
+  unfolding translationAnswer writtenOf outputOf require translation translationBy
   output-written {out} {t} {n} {o} e f v =
       let r : translationRefusal b (length out) ≡ Accepted = refusal-by out t e ∙ rw f refl in
       let k : 0 + length (translation b) ≤ length out = omega (arith, leb-true (length (translation b)) (length out) (sym e ∙ f)) in

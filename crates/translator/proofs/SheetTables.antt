@@ -9,7 +9,8 @@ use Rattle.definitions.specs.Records.{recordAt, field}
 use Rattle.definitions.specs.Lists.{sumOf}
 use Rattle.definitions.specs.Layouts.{functions, nodes, firstFunction, firstNode, ownerOf, bodyOf}
 use Rattle.definitions.specs.References.{parameters}
-use Rattle.definitions.specs.Translate.{formalOf, scrutineeOf}
+use Rattle.definitions.specs.SheetNodes.{scrutineeOf}
+use Rattle.definitions.specs.Translate.{formalOf}
 use Rattle.definitions.specs.declared.Layout.the-variants.{Sheet}
 use Rattle.laws.proofs.Lists.{sum-more}
 use Rattle.accepted.proofs.Sums.{sum-term, sum-limit}
@@ -20,7 +21,8 @@ use Rattle.file_records.specs.Index.{Opened, startIn}
 use Rattle.file_records.proofs.Indices.{node-reached}
 use Rattle.format.proofs.RunTables.{entry-more}
 use Rattle.format.proofs.SheetTables.{opened-parameters}
-use Rattle.translator.specs.Tables.{Sums, ReadTables, OwnerFormals}
+use Rattle.tree_classes.specs.Classes.{ReadTables}
+use Rattle.translator.specs.Tables.{Sums, OwnerFormals}
 
 -- a parameter count, of a function that the index shows
 module _ {b starts : List ℕ} {f count x : ℕ} (o : Opened Sheet b starts) (h : f < count) (e : count ≡ functions b)

@@ -6,39 +6,41 @@ use mathlib.Core.List.{List}
 use mathlib.Core.Bool.{true}
 use lib.ListN.{length, getD}
 use Rattle.definitions.specs.Sizes.{mostFunctions, mostNodes}
-use Rattle.definitions.specs.Lists.{sumOf}
+use Rattle.definitions.specs.Lists.{sumOf, countOf}
 use Rattle.definitions.specs.Layouts.{functions, nodes, nodeRecord}
 use Rattle.definitions.specs.References.{parameters}
 use Rattle.definitions.specs.Shape.{fileShape}
-use Rattle.definitions.specs.Translate.{calls, labelOf}
+use Rattle.definitions.specs.Trees.{equalTrees}
+use Rattle.definitions.specs.Labels.{isFirst}
 use Rattle.definitions.specs.declared.Layout.the-variants.{Sheet}
 use Rattle.definitions.specs.declared.Verdict.the-variants.{Accepted}
 use Rattle.file_records.specs.Index.{Opened}
-use Rattle.format.specs.Readers.{RunEndTable, Owners}
-use Rattle.call_labels.specs.Tables.{AcceptedSheet, Labels, Counts, callCount}
+use Rattle.format.specs.Readers.{Owners}
+use Rattle.tree_classes.specs.Classes.{ReadTables, FirstNodes}
+use Rattle.call_labels.specs.Tables.{Labels, Counts, labelCount, Classed}
 
 -- entry f is the sum of the terms before f; entry n is the sum of all n
 pub record Sums (n : ℕ) (at : ℕ → ℕ) (sums : List ℕ) : Type 0 where
   pub entry : (f : ℕ) → f ≤ n → getD sums f 0 ≡ sumOf f at
 
--- the number of calls of the functions before function f
-abbrev pub firstCall : List ℕ → ℕ → ℕ
-firstCall b f = sumOf f (callCount b)
+-- the number of labels of the functions before function f
+abbrev pub labelsBefore : List ℕ → ℕ → ℕ
+labelsBefore b f = sumOf f (labelCount b)
 
--- the calls in order of function and label: of the first n nodes, each call stands at its label after its function's first
+-- the first calls in order of function and label: of the first n nodes, each stands after its function's labels so far
 pub record CallOrder (b order : List ℕ) (n : ℕ) : Type 0 where
   pub size : length order ≡ mostNodes
-  pub entry : (f k : ℕ) → k < n → calls b f k ≡ true → getD order (firstCall b f + labelOf b f k) 0 ≡ k
+  pub entry : (f k : ℕ) → k < n → isFirst (equalTrees b) b f k ≡ true → getD order (labelsBefore b f + countOf k (isFirst (equalTrees b) b f)) 0 ≡ k
 
--- an accepted sheet with labels and the first call of each function
-pub record Placing (b starts labels firsts : List ℕ) : Type 0 where
-  pub sheet : AcceptedSheet b starts
+-- an accepted sheet with the first node of each tree, labels and the first place of each function
+pub record Placing (b starts classes labels firsts : List ℕ) : Type 0 where
+  pub trees : Classed b starts classes
   pub labelled : Labels b labels (nodes b)
-  pub first : Sums (functions b) (callCount b) firsts
+  pub first : Sums (functions b) (labelCount b) firsts
 
 -- its node k, where the calls before it are in order
-pub record PlaceAt (b starts labels firsts order : List ℕ) (k : ℕ) : Type 0 where
-  pub tables : Placing b starts labels firsts
+pub record PlaceAt (b starts classes labels firsts order : List ℕ) (k : ℕ) : Type 0 where
+  pub tables : Placing b starts classes labels firsts
   pub ordered : CallOrder b order k
   pub below : k < nodes b
   pub narrow : k < mostNodes
@@ -46,7 +48,7 @@ pub record PlaceAt (b starts labels firsts order : List ℕ) (k : ℕ) : Type 0 
 -- an opened sheet with its calls in order
 pub record OrderedCalls (b starts firsts order : List ℕ) : Type 0 where
   pub file : Opened Sheet b starts
-  pub first : Sums (functions b) (callCount b) firsts
+  pub first : Sums (functions b) (labelCount b) firsts
   pub ordered : CallOrder b order (nodes b)
 
 -- function f of such a sheet, and a position
@@ -56,19 +58,14 @@ pub record FormalAt (b starts firsts order : List ℕ) (f i : ℕ) : Type 0 wher
   pub narrow : f < mostFunctions
   pub position : i ≤ 65535
 
--- an accepted sheet with the tables of its reader
-pub record ReadTables (b starts ends owners : List ℕ) : Type 0 where
-  pub sheet : AcceptedSheet b starts
-  pub runs : RunEndTable Sheet b ends
-  pub owned : Owners b owners
-
--- and with the labels and the number of calls of each function
-pub record CallTables (b starts ends owners labels counts : List ℕ) : Type 0 where
+-- an accepted sheet with the tables of its reader, the first node of each tree, the labels and their number for each function
+pub record CallTables (b starts ends owners classes labels counts : List ℕ) : Type 0 where
   pub read : ReadTables b starts ends owners
+  pub found : FirstNodes b classes
   pub labelled : Labels b labels (nodes b)
   pub counted : Counts b counts (nodes b)
 
--- or with the labels and first formals
+-- or with its reader's tables, the labels and first formals
 pub record NodeTables (b starts ends owners labels formals : List ℕ) : Type 0 where
   pub read : ReadTables b starts ends owners
   pub labelled : Labels b labels (nodes b)
@@ -77,7 +74,7 @@ pub record NodeTables (b starts ends owners labels formals : List ℕ) : Type 0 
 -- and with the calls in order
 pub record Tables (b starts ends owners labels firsts order formals : List ℕ) : Type 0 where
   pub node : NodeTables b starts ends owners labels formals
-  pub first : Sums (functions b) (callCount b) firsts
+  pub first : Sums (functions b) (labelCount b) firsts
   pub ordered : CallOrder b order (nodes b)
 
 -- node k of an accepted sheet with the tables for nodes, and its record

@@ -6,11 +6,12 @@ ghost use Rattle.definitions.specs.Lists.{joined};
 ghost use Rattle.definitions.specs.Layouts.{functions};
 ghost use Rattle.definitions.specs.References.{parameters};
 ghost use Rattle.definitions.specs.Shape.{fileShape};
+ghost use Rattle.definitions.specs.Trees.{equalTrees};
 ghost use Rattle.definitions.specs.Translate.{headWords, functionWords, translationWords, translation};
 ghost use Rattle.definitions.specs.declared.Layout.the-variants.{Sheet};
 ghost use Rattle.definitions.specs.declared.Verdict.the-variants.{Accepted};
 ghost use Rattle.file_records.specs.Index.{Opened};
-ghost use Rattle.translation_length.specs.Words.{CountedCalls};
+ghost use Rattle.translation_length.specs.Words.{CountedLabels};
 ghost use Rattle.translation_words.specs.Writing.{WroteWords};
 ghost use Rattle.translator.specs.Tables.{Sums, Tables};
 use crate::formals::put_formals;
@@ -18,10 +19,10 @@ use crate::kinds::FUNCTION;
 use crate::kinds::HEAD;
 use crate::nodes::put_nodes;
 use crate::tables::Sums;
-use call_labels::OfFunctions;
-use call_labels::OfNodes;
 use definitions::Layout;
 use definitions::sizes::Ends;
+use definitions::sizes::OfFunctions;
+use definitions::sizes::OfNodes;
 use definitions::sizes::Owners;
 use definitions::sizes::Starts;
 use definitions::sizes::TRANSLATION_BYTES;
@@ -84,7 +85,7 @@ pub(crate) fn put_file(
     out: &mut [u8],
 ) -> usize
     requires { ⌜ Tables (now b) (now starts) (now ends) (now owners) (now labels) (now firsts) (now order) (now formals) ⌝ }
-    ensures { λ r. ⌜ WroteWords (now (out .entry)) 0 (translationWords (now (b .entry))) r (now (out .exit)) ⌝ }
+    ensures { λ r. ⌜ WroteWords (now (out .entry)) 0 (translationWords (equalTrees (now (b .entry))) (now (b .entry))) r (now (out .exit)) ⌝ }
 {
     let first_function = put_head(b, formals, out, 0);
     let first_formal = put_functions(b, starts, out, first_function);
@@ -95,7 +96,7 @@ pub(crate) fn put_file(
 // Whether an output of `room` bytes holds the translation. One of the greatest length holds every translation; for another its
 // length is counted.
 pub(crate) fn fits(b: &[u8], starts: &Starts, counts: &OfFunctions, room: usize) -> bool
-    requires { ⌜ CountedCalls (now b) (now starts) (now counts) ⌝ }
+    requires { ⌜ CountedLabels (now b) (now starts) (now counts) ⌝ }
     ensures { λ r. ⌜ r ≡ leb (length (translation (now (b .entry)))) room ⌝ }
 {
     if TRANSLATION_BYTES <= room {

@@ -2,13 +2,15 @@
 ghost use Rattle.definitions.specs.TranslationKinds.{formalList};
 ghost use Rattle.definitions.specs.Lists.{joined};
 ghost use Rattle.definitions.specs.Layouts.{functions};
-ghost use Rattle.definitions.specs.Translate.{recordWords, actuals, formalWords};
+ghost use Rattle.definitions.specs.Trees.{equalTrees};
+ghost use Rattle.definitions.specs.Labels.{actuals};
+ghost use Rattle.definitions.specs.Translate.{recordWords, formalWords};
 ghost use Prim.Native.Nat.{_<_};
 ghost use Rattle.translation_words.specs.Writing.{WroteWords};
 ghost use Rattle.translator.specs.Tables.{OrderedCalls, FormalAt};
 use crate::kinds::FORMAL_LIST;
 use crate::tables::Sums;
-use call_labels::OfNodes;
+use definitions::sizes::OfNodes;
 use definitions::sizes::Starts;
 use file_layout::layout::first_node;
 use file_layout::layout::functions;
@@ -19,7 +21,7 @@ use translation_words::put;
 use translation_words::put_start;
 use widths::wide;
 
-// Writes the arguments at position `i` of the calls of function `f`.
+// Writes the arguments at position `i` of the first calls of function `f`.
 fn put_actuals(
     b: &[u8],
     starts: &Starts,
@@ -31,7 +33,7 @@ fn put_actuals(
     at: usize,
 ) -> usize
     requires { ⌜ FormalAt (now b) (now starts) (now firsts) (now order) f i ⌝ }
-    ensures { λ r. ⌜ WroteWords (now (out .entry)) at (actuals (now (b .entry)) f i) r (now (out .exit)) ⌝ }
+    ensures { λ r. ⌜ WroteWords (now (out .entry)) at (actuals (equalTrees (now (b .entry))) (now (b .entry)) f i) r (now (out .exit)) ⌝ }
 {
     let node = first_node(b);
     let first = wide(firsts[f]);
@@ -58,7 +60,7 @@ fn put_formal(
     at: usize,
 ) -> usize
     requires { ⌜ FormalAt (now b) (now starts) (now firsts) (now order) f i ⌝ }
-    ensures { λ r. ⌜ WroteWords (now (out .entry)) at (recordWords formalList (actuals (now (b .entry)) f i)) r (now (out .exit)) ⌝ }
+    ensures { λ r. ⌜ WroteWords (now (out .entry)) at (recordWords formalList (actuals (equalTrees (now (b .entry))) (now (b .entry)) f i)) r (now (out .exit)) ⌝ }
 {
     let count = wide(firsts[f + 1]) - wide(firsts[f]);
     let fields = put_start(out, at, FORMAL_LIST, count);
@@ -76,7 +78,7 @@ fn put_function_formals(
     at: usize,
 ) -> usize
     requires { ⌜ OrderedCalls (now b) (now starts) (now firsts) (now order) × (f < functions (now b)) ⌝ }
-    ensures { λ r. ⌜ WroteWords (now (out .entry)) at (formalWords (now (b .entry)) f) r (now (out .exit)) ⌝ }
+    ensures { λ r. ⌜ WroteWords (now (out .entry)) at (formalWords (equalTrees (now (b .entry))) (now (b .entry)) f) r (now (out .exit)) ⌝ }
 {
     let positions = wide(parameters(b, starts, f));
     let mut next = at;
@@ -98,7 +100,7 @@ pub(crate) fn put_formals(
     at: usize,
 ) -> usize
     requires { ⌜ OrderedCalls (now b) (now starts) (now firsts) (now order) ⌝ }
-    ensures { λ r. ⌜ WroteWords (now (out .entry)) at (joined (functions (now (b .entry))) (formalWords (now (b .entry)))) r (now (out .exit)) ⌝ }
+    ensures { λ r. ⌜ WroteWords (now (out .entry)) at (joined (functions (now (b .entry))) (formalWords (equalTrees (now (b .entry))) (now (b .entry)))) r (now (out .exit)) ⌝ }
 {
     let count = wide(functions(b));
     let mut next = at;

@@ -1,8 +1,10 @@
 // The translator: a sheet's bytes in, its translation's bytes out (document 01, "Translation").
+ghost use Rattle.definitions.specs.Trees.{equalTrees};
 ghost use Rattle.definitions.specs.Translate.{translationWords};
 ghost use Rattle.translation_words.specs.Writing.{WroteWords};
 ghost use Rattle.translator.specs.Promise.{Translates};
-ghost use Rattle.translator.specs.Tables.{ReadTables, CallTables};
+ghost use Rattle.tree_classes.specs.Classes.{ReadTables};
+ghost use Rattle.translator.specs.Tables.{CallTables};
 
 mod calls;
 mod file;
@@ -16,8 +18,6 @@ use crate::calls::order_calls;
 use crate::file::fits;
 use crate::file::put_file;
 use crate::tables::first_formals;
-use call_labels::OfFunctions;
-use call_labels::OfNodes;
 use call_labels::label_nodes;
 use definitions::Verdict;
 use definitions::Written;
@@ -26,9 +26,12 @@ use definitions::sizes::Ends;
 use definitions::sizes::MOST_FUNCTIONS;
 use definitions::sizes::MOST_NODES;
 use definitions::sizes::MOST_RECORDS;
+use definitions::sizes::OfFunctions;
+use definitions::sizes::OfNodes;
 use definitions::sizes::Owners;
 use definitions::sizes::Starts;
 use format::sheet::fill_sheet;
+use tree_classes::class_nodes;
 
 // Translates a sheet into a lent output. The answer is the translation's length, and the output starts with the
 // translation and stays as it was past it; or it is the refusal, and the output stays as it was.
@@ -56,12 +59,14 @@ fn translate_accepted(
     requires { ⌜ ReadTables (now sheet) (now starts) (now ends) (now owners) ⌝ }
     ensures { λ r. ⌜ Translates (now (sheet .entry)) (now (out .entry)) r (now (out .exit)) ⌝ }
 {
+    let mut classes = [0u16; MOST_NODES];
+    class_nodes(sheet, starts, ends, owners, &mut classes);
     let mut labels = [0u16; MOST_NODES];
     let mut counts = [0u16; MOST_FUNCTIONS];
-    label_nodes(sheet, starts, &mut labels, &mut counts);
+    label_nodes(sheet, starts, &classes, &mut labels, &mut counts);
     let room = out.len();
     if fits(sheet, starts, &counts, room) {
-        let length = write(sheet, starts, ends, owners, &labels, &counts, out);
+        let length = write(sheet, starts, ends, owners, &classes, &labels, &counts, out);
         return Written::Length(length);
     }
     Written::Refused {
@@ -76,16 +81,17 @@ fn write(
     starts: &Starts,
     ends: &Ends,
     owners: &Owners,
+    classes: &OfNodes,
     labels: &OfNodes,
     counts: &OfFunctions,
     out: &mut [u8],
 ) -> usize
-    requires { ⌜ CallTables (now sheet) (now starts) (now ends) (now owners) (now labels) (now counts) ⌝ }
-    ensures { λ r. ⌜ WroteWords (now (out .entry)) 0 (translationWords (now (sheet .entry))) r (now (out .exit)) ⌝ }
+    requires { ⌜ CallTables (now sheet) (now starts) (now ends) (now owners) (now classes) (now labels) (now counts) ⌝ }
+    ensures { λ r. ⌜ WroteWords (now (out .entry)) 0 (translationWords (equalTrees (now (sheet .entry))) (now (sheet .entry))) r (now (out .exit)) ⌝ }
 {
     let firsts = first_calls(sheet, counts);
     let mut order = [0u16; MOST_NODES];
-    order_calls(sheet, starts, labels, &firsts, &mut order);
+    order_calls(sheet, starts, classes, labels, &firsts, &mut order);
     let formals = first_formals(sheet, starts);
     put_file(
         sheet,

@@ -3,18 +3,21 @@ ghost use mathlib.Core.Path.{_≡_};
 ghost use Prim.Native.Nat.{_<_};
 ghost use Rattle.definitions.specs.Lists.{joined};
 ghost use Rattle.definitions.specs.Layouts.{nodes, ownerOf};
-ghost use Rattle.definitions.specs.Translate.{formalOf, scrutineeOf, nodeWords};
+ghost use Rattle.definitions.specs.SheetNodes.{scrutineeOf};
+ghost use Rattle.definitions.specs.Trees.{equalTrees};
+ghost use Rattle.definitions.specs.Translate.{formalOf, nodeWords};
 ghost use Rattle.definitions.specs.declared.Layout.the-variants.{Sheet};
 ghost use Rattle.translation_words.specs.Writing.{WroteWords};
-ghost use Rattle.translator.specs.Tables.{NodeTables, NodeRead, ReadTables, OwnerFormals};
+ghost use Rattle.tree_classes.specs.Classes.{ReadTables};
+ghost use Rattle.translator.specs.Tables.{NodeTables, NodeRead, OwnerFormals};
 use crate::kinds::CALL;
 use crate::kinds::FORMAL;
 use crate::kinds::NUMBER;
 use crate::kinds::SELECT;
 use crate::tables::Sums;
-use call_labels::OfNodes;
 use definitions::sheet_kinds;
 use definitions::sizes::Ends;
+use definitions::sizes::OfNodes;
 use definitions::sizes::Owners;
 use definitions::sizes::Starts;
 use file_layout::layout::first_node;
@@ -59,7 +62,7 @@ fn put_read(
     at: usize,
 ) -> usize
     requires { ⌜ NodeRead (now b) (now starts) (now ends) (now owners) (now labels) (now formals) (now rec) k ⌝ }
-    ensures { λ r. ⌜ WroteWords (now (out .entry)) at (nodeWords (now (b .entry)) k) r (now (out .exit)) ⌝ }
+    ensures { λ r. ⌜ WroteWords (now (out .entry)) at (nodeWords (equalTrees (now (b .entry))) (now (b .entry)) k) r (now (out .exit)) ⌝ }
 {
     let node_kind = kind(rec);
     let value = field(rec, 0);
@@ -97,7 +100,7 @@ fn put_node(
     at: usize,
 ) -> usize
     requires { ⌜ NodeTables (now b) (now starts) (now ends) (now owners) (now labels) (now formals) × (k < nodes (now b)) ⌝ }
-    ensures { λ r. ⌜ WroteWords (now (out .entry)) at (nodeWords (now (b .entry)) k) r (now (out .exit)) ⌝ }
+    ensures { λ r. ⌜ WroteWords (now (out .entry)) at (nodeWords (equalTrees (now (b .entry))) (now (b .entry)) k) r (now (out .exit)) ⌝ }
 {
     put_read(
         b,
@@ -125,7 +128,7 @@ pub(crate) fn put_nodes(
     at: usize,
 ) -> usize
     requires { ⌜ NodeTables (now b) (now starts) (now ends) (now owners) (now labels) (now formals) ⌝ }
-    ensures { λ r. ⌜ WroteWords (now (out .entry)) at (joined (nodes (now (b .entry))) (nodeWords (now (b .entry)))) r (now (out .exit)) ⌝ }
+    ensures { λ r. ⌜ WroteWords (now (out .entry)) at (joined (nodes (now (b .entry))) (nodeWords (equalTrees (now (b .entry))) (now (b .entry)))) r (now (out .exit)) ⌝ }
 {
     let count = wide(nodes(b));
     let mut next = at;

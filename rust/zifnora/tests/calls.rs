@@ -100,6 +100,19 @@ fn a_constructor() {
 }
 
 #[test]
+fn equal_calls_share_a_label() {
+    // result = g(7) - g(7); g(y) = y: the formal lists one actual, and lists two where the second call is g(8)
+    let length = |second| {
+        let g = |n| call(1, vec![number(n)]);
+        let result = operator(SUBTRACT, g(7), g(second));
+        let sheet = sheet(0, &[], vec![(0, result), (1, parameter(0))]);
+        translated_length(&sheet, u64::MAX).expect("accepted")
+    };
+    assert_eq!(length(7), 78);
+    assert_eq!(length(8), 80);
+}
+
+#[test]
 fn each_stop() {
     let stopped = |steps, nesting, cells| {
         let allowances = Allowances {

@@ -11,10 +11,10 @@ use Rattle.call_labels.proofs.label_nodes.Statement.{statement}
 use Rattle.call_labels.proofs.label_nodes.Tie as tie
 
 abbrev Inv-loop : tie.InvT-loop
-Inv-loop b starts labels₀ counts₀ count k₀ labels counts k = (k ≤ count) × Labels b labels k × Counts b counts k
+Inv-loop b starts classes labels₀ counts₀ count k₀ labels counts k = (k ≤ count) × Labels b labels k × Counts b counts k
 
 abbrev μ-loop : tie.MeasureT-loop
-μ-loop b starts labels₀ counts₀ count k₀ labels counts k = count - k
+μ-loop b starts classes labels₀ counts₀ count k₀ labels counts k = count - k
 
 nodes-requires : tie.Need-nodes-requires Inv-loop μ-loop
 nodes-requires c κs = search needs
@@ -35,19 +35,13 @@ label-node-requires c κs =
     let at-nodes = at-wide .before in
     let pre = at-nodes .before .before .pre in
     let inv = at-loop .loop .inv in
+    let count = at-wide .wide .ensures .0 ∙ at-nodes .nodes .ensures in
     record {
-      sheet = pre .0;
+      tables = pre .0;
       labelled = inv .1;
       counted = inv .2;
-      below = search needs;
-      narrow = omega (
-        arith,
-        at-test .loop-test .taken,
-        at-wide .wide .ensures .0,
-        at-nodes .nodes .ensures,
-        nodes-limit Sheet _
-            (pre .0 .file .accepted),
-      );
+      below = omega (arith, at-test .loop-test .taken, count);
+      narrow = omega (arith, at-test .loop-test .taken, count, nodes-limit Sheet _ (pre .0 .sheet .file .accepted));
     }
 
 add-k : tie.Need-add-k Inv-loop μ-loop
@@ -61,12 +55,11 @@ loop-again c = (search needs, c .label-node .ensures .0, c .label-node .ensures 
 
 returns : tie.Need-returns Inv-loop μ-loop
 returns c =
-    let inv = c .before .loop .inv in
-    let nodes = c .before .before .before .nodes in
-    let wide = c .before .before .wide in
-    let loop-test = c .loop-test in
-    let count = wide .ensures .0 ∙ nodes .ensures in
-    (labels-all _ _ _ _ count (inv .0) (loop-test .left) (inv .1), counts-all _ _ _ _ count (inv .0) (loop-test .left) (inv .2))
+    let at-loop = c .before in
+    let at-wide = at-loop .before in
+    let inv = at-loop .loop .inv in
+    let count = at-wide .wide .ensures .0 ∙ at-wide .before .nodes .ensures in
+    (labels-all _ _ _ _ count (inv .0) (c .loop-test .left) (inv .1), counts-all _ _ _ _ count (inv .0) (c .loop-test .left) (inv .2))
 
 pub label-nodes-spec : {M : Type 1} → statement M
 label-nodes-spec =

@@ -16,7 +16,7 @@ enum-told c = search needs
 
 length-accepted-requires : tie.Need-length-accepted-requires
 length-accepted-requires c κs =
-    let at-enum-told = c .before in
+    let at-enum-told = c .before .before .before in
     let at-fill-sheet = at-enum-told .before .before in
     reader-accepts (at-fill-sheet .fill-sheet .ensures) (at-enum-told .enum-told .given .1)
 

@@ -1,5 +1,6 @@
 -- `translator::translate` meets its contract: the reader's refusal, or what the translation of an accepted sheet gives.
-use Rattle.translator.proofs.Promises.{reader-refuses, reader-accepts}
+use Rattle.call_labels.proofs.CallLabels.{reader-accepts}
+use Rattle.translator.proofs.Promises.{reader-refuses}
 use borrow.Author.Needs.{needs}
 use Rattle.translator.proofs.translate.Statement.{statement}
 use Rattle.translator.proofs.translate.Tie as tie

@@ -1,4 +1,4 @@
--- `translation_length::counting::count_function` meets its contract: the parameters times two and the calls.
+-- `translation_length::counting::count_function` meets its contract: the parameters times two and the labels.
 use native.Mathlib.Omega.{arith}
 use Rattle.definitions.specs.declared.Layout.the-variants.{Sheet}
 use Rattle.accepted.proofs.Head.{functions-limit}

@@ -4,7 +4,7 @@ use mathlib.Core.Path.{refl, _∙_}
 use native.Mathlib.Omega.{arith}
 use Rattle.definitions.specs.declared.Layout.the-variants.{Sheet}
 use Rattle.accepted.proofs.Head.{functions-limit}
-use Rattle.call_labels.specs.Tables.{callCount}
+use Rattle.call_labels.specs.Tables.{labelCount}
 use Rattle.translator.proofs.SheetTables.{Summing, summing-begins, summing-goes-on, summing-done}
 use Rattle.translator.proofs.CallOrder.{count-is, total-few}
 use borrow.Author.Needs.{needs}
@@ -12,7 +12,7 @@ use Rattle.translator.proofs.calls.first_calls.Statement.{statement}
 use Rattle.translator.proofs.calls.first_calls.Tie as tie
 
 abbrev Inv-loop : tie.InvT-loop
-Inv-loop b counts count firsts₀ total₀ f₀ firsts total f = Summing (callCount b) firsts count total f
+Inv-loop b counts count firsts₀ total₀ f₀ firsts total f = Summing (labelCount b) firsts count total f
 
 abbrev μ-loop : tie.MeasureT-loop
 μ-loop b counts count firsts₀ total₀ f₀ firsts total f = count - f

@@ -11,10 +11,10 @@ use Rattle.translator.proofs.calls.order_calls.Statement.{statement}
 use Rattle.translator.proofs.calls.order_calls.Tie as tie
 
 abbrev Inv-loop : tie.InvT-loop
-Inv-loop b starts labels firsts order₀ count k₀ order k = (k ≤ count) × CallOrder b order k
+Inv-loop b starts classes labels firsts order₀ count k₀ order k = (k ≤ count) × CallOrder b order k
 
 abbrev μ-loop : tie.MeasureT-loop
-μ-loop b starts labels firsts order₀ count k₀ order k = count - k
+μ-loop b starts classes labels firsts order₀ count k₀ order k = count - k
 
 nodes-requires : tie.Need-nodes-requires Inv-loop μ-loop
 nodes-requires c κs = search needs
@@ -41,7 +41,7 @@ place-node-requires c κs =
         at-wide .wide .ensures .0,
         at-nodes .nodes .ensures,
         nodes-limit Sheet _
-            (pre .0 .sheet .file .accepted),
+            (pre .0 .trees .sheet .file .accepted),
       );
     }
 

@@ -2,6 +2,7 @@
 use Prim.Native.Nat.{_-_}
 use mathlib.Core.Path.{_∙_}
 use native.Mathlib.Omega.{arith}
+use Rattle.definitions.specs.Trees.{equalTrees}
 use Rattle.definitions.specs.Translate.{formalWords}
 use Rattle.translation_words.proofs.Writing.{PartsWritten, parts-begin, parts-go-on, parts-end}
 use borrow.Author.Needs.{needs}
@@ -9,7 +10,7 @@ use Rattle.translator.proofs.formals.put_formals.Statement.{statement}
 use Rattle.translator.proofs.formals.put_formals.Tie as tie
 
 abbrev Inv-loop : tie.InvT-loop
-Inv-loop b starts firsts order out₀ at count next₀ f₀ out next f = PartsWritten out₀ at (formalWords b) count f next out
+Inv-loop b starts firsts order out₀ at count next₀ f₀ out next f = PartsWritten out₀ at (formalWords (equalTrees b) b) count f next out
 
 abbrev μ-loop : tie.MeasureT-loop
 μ-loop b starts firsts order out₀ at count next₀ f₀ out next f = count - f

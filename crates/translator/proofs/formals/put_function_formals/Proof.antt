@@ -3,7 +3,9 @@ use Prim.Native.Nat.{_-_}
 use mathlib.Core.Path.{_∙_}
 use native.Mathlib.Omega.{arith}
 use Rattle.definitions.specs.TranslationKinds.{formalList}
-use Rattle.definitions.specs.Translate.{recordWords, actuals, formalWords}
+use Rattle.definitions.specs.Trees.{equalTrees}
+use Rattle.definitions.specs.Labels.{actuals}
+use Rattle.definitions.specs.Translate.{recordWords, formalWords}
 use Rattle.definitions.specs.declared.Layout.the-variants.{Sheet}
 use Rattle.accepted.proofs.Head.{functions-limit}
 use Rattle.format.proofs.SheetTables.{opened-parameters}
@@ -13,7 +15,7 @@ use Rattle.translator.proofs.formals.put_function_formals.Statement.{st
 use Rattle.translator.proofs.formals.put_function_formals.Tie as tie
 
 abbrev Inv-loop : tie.InvT-loop
-Inv-loop b starts firsts order f out₀ at positions next₀ i₀ out next i = PartsWritten out₀ at (λ n. recordWords formalList (actuals b f n)) positions i next out
+Inv-loop b starts firsts order f out₀ at positions next₀ i₀ out next i = PartsWritten out₀ at (λ n. recordWords formalList (actuals (equalTrees b) b f n)) positions i next out
 
 abbrev μ-loop : tie.MeasureT-loop
 μ-loop b starts firsts order f out₀ at positions next₀ i₀ out next i = positions - i

@@ -2,6 +2,7 @@
 use Prim.Native.Nat.{_-_}
 use mathlib.Core.Path.{_∙_}
 use native.Mathlib.Omega.{arith}
+use Rattle.definitions.specs.Trees.{equalTrees}
 use Rattle.definitions.specs.Translate.{nodeWords}
 use Rattle.translation_words.proofs.Writing.{PartsWritten, parts-begin, parts-go-on, parts-end}
 use borrow.Author.Needs.{needs}
@@ -9,7 +10,7 @@ use Rattle.translator.proofs.nodes.put_nodes.Statement.{statement}
 use Rattle.translator.proofs.nodes.put_nodes.Tie as tie
 
 abbrev Inv-loop : tie.InvT-loop
-Inv-loop b starts ends owners labels formals out₀ at count next₀ k₀ out next k = PartsWritten out₀ at (nodeWords b) count k next out
+Inv-loop b starts ends owners labels formals out₀ at count next₀ k₀ out next k = PartsWritten out₀ at (nodeWords (equalTrees b) b) count k next out
 
 abbrev μ-loop : tie.MeasureT-loop
 μ-loop b starts ends owners labels formals out₀ at count next₀ k₀ out next k = count - k

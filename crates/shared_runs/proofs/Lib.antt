@@ -1,0 +1,6 @@
+pub mod SameTrees
+pub mod Alongside
+pub mod Runs
+pub mod Shared
+pub mod OneLabel
+pub mod FileLabels

@@ -1,0 +1,200 @@
+-- Runs of two files that read as translations of sheets with equal trees, by any two labellings, go alike.
+use mathlib.Core.Path.{_≡_, refl, sym, ap, _∙_}
+use Prim.Native.Nat.{ℕ, zero, suc, _+_, _<_}
+use mathlib.Core.List.{List, [], _∷_, _++_}
+use mathlib.Core.Option.{some}
+use mathlib.Core.Bool.{Bool, true, false}
+use native.Mathlib.Omega.{arith}
+use lib.IntN.{ℤ}
+use lib.ListN.{length, getElem?, length-append}
+use lib.Dec.{ltb}
+use Rattle.definitions.specs.Layouts.{functions, bodyOf, ownerOf}
+use Rattle.definitions.specs.References.{parameters}
+use Rattle.definitions.specs.SheetNodes.{call, sheetNodeOf}
+use Rattle.definitions.specs.TranslationNodes.{translationNodeOf, tagOf, tupleFields}
+use Rattle.definitions.specs.Checks.{sheetVerdict}
+use Rattle.definitions.specs.Labels.{Labelling, labelOf}
+use Rattle.definitions.specs.Translate.{formalOf}
+use Rattle.definitions.specs.Rule.{Ending, State, Reached, Visit, withStep, nodeDue, visited}
+use Rattle.definitions.specs.Cells.{Cell, cellOf, underTail, formalByCells, withCell, whereCell, callByCells, byCells, evaluation}
+use Rattle.definitions.specs.Run.{endingOutcome, ruleEnd}
+use Rattle.definitions.specs.declared.Layout.the-variants.{Sheet, Translation}
+use Rattle.definitions.specs.declared.Verdict.the-variants.{Accepted}
+use Rattle.accepted.specs.Child.{argument, component}
+use Rattle.accepted.proofs.Elements.{element-there, element-back}
+use Rattle.accepted.proofs.Head.{functions-least}
+use Rattle.accepted.proofs.Owners.{body-below, owner-of-body}
+use Rattle.accepted.proofs.Checks.{sheet-shape}
+use Rattle.accepted.proofs.Names.{call-below, call-count}
+use Rattle.accepted.proofs.Trees.{child-below, child-owner}
+use Rattle.rule_laws.specs.SideBySide.{AlikeEnds, integers, constructors, ends, Both, cut, arrive, Due, Beside, Alike, InStep}
+use Rattle.rule_laws.proofs.Lockstep.{both-back, both-here, evaluations-in-step}
+use Rattle.shared_runs.specs.Reads.{AlikeSheets, Named, Reads}
+use Rattle.shared_runs.specs.SameRuns.{SameEnds, SameRuns}
+use Rattle.shared_runs.proofs.SameTrees.{trees-then, trees-itself, same-nodes, same-calls, pairs-at, element-found}
+use Rattle.shared_runs.proofs.Alongside.{World, hereOf, thereOf, Twins, Fits, outermost, within, fits-more, AtNodes, BuiltBy, OfFormal, OfCall, sides, due-found, child-at, alike-by}
+
+added : (cs : List Cell) (c : Cell) → getElem? (cs ++ (c ∷ [])) (length cs) ≡ some c
+added cs c = let p : length cs + 0 ≡ length cs = omega arith in rw p at (element-back cs (c ∷ []) 0)
+
+module _ (same same′ : Labelling) (a b : List ℕ) where
+  -- one step of each
+  step-both : (left : ℕ) (cs ds : List Cell) (even : length cs ≡ length ds) (go go′ : State (List Cell) → Reached ℕ (List Cell))
+      → ((n : ℕ) → Both (sides same same′ a b) (record { left = left; here = cs; there = ds; even = even })
+      (go (record { left = n; store = cs })) (go′ (record { left = n; store = ds })))
+      → Both (sides same same′ a b) (record { left = left; here = cs; there = ds; even = even }) (withStep left cs go) (withStep left ds go′)
+  unfolding withStep
+  step-both zero cs ds even go go′ f = both-here (sides same same′ a b) _ ends
+  step-both (suc n) cs ds even go go′ f = f n
+
+  module _ {t u : List ℕ} (first : sheetVerdict a ≡ Accepted) (second : sheetVerdict b ≡ Accepted) (sheets : AlikeSheets a b)
+      (one : Reads same a t) (two : Reads same′ b u) (rs : List ℤ) (cellsAllowed : ℕ) where
+    node-alike : {w : World} {k m c d : ℕ} → AtNodes same same′ a b w k m c d
+        → Alike (sides same same′ a b) rs rs w k m c d (translationNodeOf t k) (translationNodeOf u m)
+    node-alike {k} {m} h =
+        rw (one .becomes k (h .like .one), two .becomes m (h .like .two))
+        (alike-by same same′ a b first second h refl refl refl
+        (same-nodes a a first (h .like .own) (h .like .with-one)) (same-nodes a b first (h .like .own) (h .like .with-two)))
+
+    tags-alike : {w : World} {k m c d : ℕ} → BuiltBy same same′ a b w k m c d → tagOf t k ≡ tagOf u m
+    tags-alike {k} {m} h = one .tag k (h .at .like .one) (h .is-one) ∙ sym (two .tag m (h .at .like .two) (h .is-two))
+
+    fields-alike : {w : World} {k m c d : ℕ} → BuiltBy same same′ a b w k m c d → (i : ℕ)
+        → Due (sides same same′ a b) w c d (getElem? (tupleFields t k) i) (getElem? (tupleFields u m) i)
+    fields-alike {w} {k} {m} {c} {d} h i =
+        rw (one .fields k (h .at .like .one) (h .is-one), two .fields m (h .at .like .two) (h .is-two))
+        (due-found same same′ a b (element-found (λ k m. AtNodes same same′ a b w k m c d) i (h .with-one) (h .with-two)
+        (λ x k′ m′ p q r s t.
+        child-at same same′ a b first second (h .at) (h .is-own) (h .is-one) (h .is-two) (component i p) (component i q) (component i r) s t)))
+
+    -- the actuals that two labels name
+    actual-at : (w : World) {f i k m x p : ℕ} {ns : List ℕ} (l : Twins a b k m x) → sheetNodeOf a x ≡ call f ns
+        → i < parameters a f
+        → Fits same same′ a b (w .here) (w .there) p (ownerOf Sheet a x)
+        → (g : Named a t f k i (labelOf same a f k)) (h : Named b u f m i (labelOf same′ b f m))
+        → AtNodes same same′ a b w (g .node) (h .node) p p
+    actual-at w {f} {i} {x} {ns} l e inside fits g h =
+        let y = element-there ns i (rw (call-count a first x (l .own) e) inside) in
+        let c = same-calls a a first (l .own) e (trees-then (l .with-one) (g .equal)) in
+        let d = same-calls a b first (l .own) e (trees-then (l .with-two) (h .equal)) in
+        let gs : g .arguments ≡ c .arguments = let z = sym (g .is) ∙ c .is in cc in
+        let hs : h .arguments ≡ d .arguments = let z = sym (h .is) ∙ d .is in cc in
+        record {
+          twin = y .element;
+          like = record {
+            own = child-below a first x (l .own) e (argument i (y .there));
+            one = child-below a first (g .first) (g .below) (g .is) (argument i (g .there));
+            two = child-below b second (h .first) (h .below) (h .is) (argument i (h .there));
+            with-one = pairs-at i (c .pairs) (y .there) (rw (← gs) (g .there));
+            with-two = pairs-at i (d .pairs) (y .there) (rw (← hs) (h .there));
+          };
+          contexts = refl;
+          fits = rw (child-owner a first x (l .own) e (argument i (y .there))) fits;
+        }
+
+    body-like : (f : ℕ) → f < functions a → Twins a b (bodyOf Translation t f) (bodyOf Translation u f) (bodyOf Sheet a f)
+    body-like f h =
+        let g : f < functions b = rw (sheets .count) at h in
+        let x = body-below Sheet a (sheet-shape a first) f h in
+        rw (one .body f h, two .body f g)
+        (record {
+          own = x;
+          one = x;
+          two = body-below Sheet b (sheet-shape b second) f g;
+          with-one = trees-itself a first (bodyOf Sheet a f) x;
+          with-two = sheets .bodies f h;
+        })
+
+    module _ (visit visit′ : Visit ℕ (List Cell)) (beside : Beside (sides same same′ a b) visit visit′) (w : World) where
+      formal-by : (f i c : ℕ) → i < parameters a f → Fits same same′ a b (w .here) (w .there) c f
+          → Both (sides same same′ a b) w (underTail t visit (formalOf a f i) (cellOf (w .here) c) (hereOf w))
+          (underTail u visit′ (formalOf b f i) (cellOf (w .there) c) (thereOf w))
+      unfolding underTail cellOf nodeDue
+      formal-by f i zero h outermost = both-here (sides same same′ a b) w ends
+      formal-by f i (suc c) h (within {p} {k} {m} {x} e d l n fits) =
+          let g = one .names f k i (l .one) (same-calls a a first (l .own) n (l .with-one) .is) h in
+          let q = rw (sheets .parameters f (call-below a first x (l .own) n)) at h in
+          let j = two .names f m i (l .two) (same-calls a b first (l .own) n (l .with-two) .is) q in
+          rw (e, d, g .listed, j .listed) (beside .both w (g .node) (j .node) p p (actual-at w l n h fits g j))
+
+      formal-both : {p q c d : ℕ} → OfFormal same same′ a b w p q c d
+          → Both (sides same same′ a b) w (byCells t cellsAllowed .atFormal visit p c (hereOf w)) (byCells u cellsAllowed .atFormal visit′ q d (thereOf w))
+      unfolding byCells formalByCells
+      formal-both {c} h = rw (h .is-one, h .is-two, ← h .contexts) (formal-by (h .function) (h .position) c (h .inside) (h .fits))
+
+      -- the bodies of two calls, each under a cell that was added for it
+      cell-both : (f k m x c : ℕ) {ns : List ℕ} (y : Bool) → Twins a b k m x → sheetNodeOf a x ≡ call f ns
+          → Fits same same′ a b (w .here) (w .there) c (ownerOf Sheet a x)
+          → Both (sides same same′ a b) w
+          (whereCell y (hereOf w) (λ s. visit (bodyOf Translation t f) (suc (length (s .store))) (withCell (labelOf same a f k) c s)))
+          (whereCell y (thereOf w) (λ s. visit′ (bodyOf Translation u f) (suc (length (s .store))) (withCell (labelOf same′ b f m) c s)))
+      unfolding whereCell withCell
+      cell-both f k m x c false l e fits = both-here (sides same same′ a b) w ends
+      cell-both f k m x c true l e fits =
+          let g : Cell = record { label = labelOf same a f k; previous = c } in
+          let h : Cell = record { label = labelOf same′ b f m; previous = c } in
+          let v : World = record {
+            left = w .left;
+            here = w .here ++ (g ∷ []);
+            there = w .there ++ (h ∷ []);
+            even = omega (arith, w .even, length-append (w .here) (g ∷ []), length-append (w .there) (h ∷ []));
+          } in
+          let z = call-below a first x (l .own) e in
+          let q : getElem? (w .there ++ (h ∷ [])) (length (w .here)) ≡ some h = rw (w .even) (added (w .there) h) in
+          let y : Fits same same′ a b (v .here) (v .there) (suc (length (w .here))) f = within (added (w .here) g) q l e (fits-more same same′ a b g h fits) in
+          both-back (sides same same′ a b) {v = v} (record { fits = λ p. fits-more same same′ a b g h p })
+          (beside .both v (bodyOf Translation t f) (bodyOf Translation u f) (suc (length (w .here))) (suc (length (w .there)))
+          (record {
+            twin = bodyOf Sheet a f;
+            like = body-like f z;
+            contexts = ap suc (w .even);
+            fits = rw (owner-of-body Sheet a (sheet-shape a first) f z) y;
+          }))
+
+      call-both : {l f l′ f′ c d : ℕ} → OfCall same same′ a b w l f l′ f′ c d
+          → Both (sides same same′ a b) w (byCells t cellsAllowed .atCall visit l f c (hereOf w)) (byCells u cellsAllowed .atCall visit′ l′ f′ d (thereOf w))
+      unfolding byCells callByCells
+      call-both {f} {c} h =
+          rw (h .is-one, h .is-two, h .function, ← h .contexts, ← w .even)
+          (cell-both f (h .one) (h .two) (h .twin) c (ltb (length (w .here)) cellsAllowed) (h .like) (h .is) (h .fits))
+
+    in-step : InStep (sides same same′ a b) (byCells t cellsAllowed) t rs (byCells u cellsAllowed) u rs
+    unfolding visited
+    in-step =
+        record {
+          alike = node-alike;
+          tags = tags-alike;
+          fields = fields-alike;
+          step = λ w go go′ f.
+              step-both (w .left) (w .here) (w .there) (w .even) go go′
+              (λ n. f (record { left = n; here = w .here; there = w .there; even = w .even }) (record { fits = λ p. p }));
+          unopened = λ n e.
+              rw (← e) (record {
+                both = λ w k m c d h. step-both (w .left) (w .here) (w .there) (w .even) _ _ (λ n. both-here (sides same same′ a b) w ends);
+              });
+          opened = λ n m e. record { rest = n; is = sym e; nested = refl };
+          formals-both = λ n m e f w v l h. both-back (sides same same′ a b) l (formal-both _ _ f v h);
+          calls-both = λ n m e f w v l h. both-back (sides same same′ a b) l (call-both _ _ f v h);
+        }
+
+    ends-same : {v : World} {e d : Ending ℕ} → AlikeEnds (sides same same′ a b) v e d → endingOutcome t e ≡ endingOutcome u d
+    unfolding endingOutcome
+    ends-same integers = refl
+    ends-same (constructors h) = rw (tags-alike h) refl
+    ends-same ends = refl
+
+    same-from : {w : World} {r q : Reached ℕ (List Cell)} → Both (sides same same′ a b) w r q → SameEnds t u r q
+    same-from (cut z) = absurd z
+    same-from (arrive v l e) = record { outcome = ends-same e; left = refl; cells = v .even }
+
+    -- visits from any states and contexts that go together
+    pub visits-alike : (nesting : ℕ) (w : World) {k m c d : ℕ} → AtNodes same same′ a b w k m c d
+        → SameEnds t u (visited (byCells t cellsAllowed) t rs nesting k c (hereOf w)) (visited (byCells u cellsAllowed) u rs nesting m d (thereOf w))
+    visits-alike nesting w h = same-from (evaluations-in-step (sides same same′ a b) in-step nesting nesting refl .both w _ _ _ _ h)
+
+    -- and the whole evaluations
+    pub runs-alike : (steps nesting : ℕ) → SameRuns t u rs steps nesting cellsAllowed
+    unfolding ruleEnd evaluation
+    runs-alike steps nesting =
+        visits-alike nesting (record { left = steps; here = []; there = []; even = refl })
+        (record { twin = bodyOf Sheet a 0; like = body-like 0 (functions-least Sheet a (sheet-shape a first)); contexts = refl; fits = outermost })

@@ -1,0 +1,3 @@
+pub mod Reads
+pub mod SameRuns
+pub mod FileLabels

@@ -1,0 +1,4 @@
+pub mod Keys
+pub mod Classes
+pub mod Chains
+pub mod Places

@@ -1,0 +1,5 @@
+pub mod Heads
+pub mod KindByKind
+pub mod Parts
+pub mod Depths
+pub mod Equal

@@ -1,0 +1,1 @@
+// Equal trees of nodes: specs/ has the relations, proofs/ the laws. No functions.
