@@ -47,17 +47,10 @@ module _ {k : ℕ} (i : ℕ) where
   unfolding namesNode everyOther fromFirst fromSecond
   names-nothing e = rw e refl
 
-  names-operand : k ≡ SheetKinds.operator → namesNode k (1 + i) ≡ true
-  unfolding namesNode everyOther fromFirst fromSecond
-  names-operand e = rw (e, le-leb 1 (1 + i) (omega arith)) refl
-
-  names-argument : k ≡ SheetKinds.call → namesNode k (1 + i) ≡ true
-  unfolding namesNode everyOther fromFirst fromSecond
-  names-argument e = rw (e, le-leb 1 (1 + i) (omega arith)) refl
-
-  names-component : k ≡ SheetKinds.build → namesNode k (1 + i) ≡ true
-  unfolding namesNode everyOther fromFirst fromSecond
-  names-component e = rw (e, le-leb 1 (1 + i) (omega arith)) refl
+  -- from field 1 on: operator, call, build
+  names-later : {n : ℕ} → k ≡ n → everyOther n ≡ false → fromFirst n ≡ false → fromSecond n ≡ true → namesNode k (1 + i) ≡ true
+  unfolding namesNode
+  names-later e p q r = rw (e, p, q, r, le-leb 1 (1 + i) (omega arith)) refl
 
   names-branch : k ≡ SheetKinds.conditional → namesNode k i ≡ true
   unfolding namesNode everyOther fromFirst fromSecond
@@ -116,14 +109,14 @@ module _ {R : ℕ → ℕ → Type 0} (a b : List ℕ) (k m : ℕ) (h : Heads R 
   kind-by-kind (is-patternVariable e c) = rw (kind-of e, first-same e refl (omega (arith, c))) (same-pattern (h .scrutinees e))
   kind-by-kind (is-operator e c) =
       rw (kind-of e, first-same e refl (omega (arith, c)))
-      (same-operator (h .parts 1 (omega (arith, c)) (names-operand 0 e)) (h .parts 2 (omega (arith, c)) (names-operand 1 e)))
+      (same-operator (h .parts 1 (omega (arith, c)) (names-later 0 e refl refl refl)) (h .parts 2 (omega (arith, c)) (names-later 1 e refl refl refl)))
   kind-by-kind (is-conditional e c) =
       rw (kind-of e)
       (same-conditional (h .parts 0 (omega (arith, c)) (names-branch 0 e)) (h .parts 1 (omega (arith, c)) (names-branch 1 e))
       (h .parts 2 (omega (arith, c)) (names-branch 2 e)))
   kind-by-kind (is-call e l g) =
-      rw (kind-of e, first-same e refl (omega (arith, l))) (same-call (arguments-same (λ i. names-argument i e)))
+      rw (kind-of e, first-same e refl (omega (arith, l))) (same-call (arguments-same (λ i. names-later i e refl refl refl)))
   kind-by-kind (is-build e l g) =
-      rw (kind-of e, first-same e refl (omega (arith, l))) (same-build (arguments-same (λ i. names-component i e)))
+      rw (kind-of e, first-same e refl (omega (arith, l))) (same-build (arguments-same (λ i. names-later i e refl refl refl)))
   kind-by-kind (is-case e c l g) =
       rw (kind-of e) (same-case (h .parts 0 (omega (arith, c)) (names-even 0 e)) (clauses-same e c))
