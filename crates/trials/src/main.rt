@@ -5,10 +5,10 @@
 // their runs; translations that no translator writes, and their runs, also on rows; cells and their listings. The file `stdout` has
 // what each should answer by document 01, and by document 02 for rows (request 1), products (2), the length that is asked (3) and
 // labels (4). Files, translations and cells are worked out by hand from these and document 002, and so are the readers' answers and
-// the runs on rows; the steps and answers of the other runs were worked out by a model written from the documents alone. A record is
-// its length, its kind and its fields; in a change, word 0 of a record is its length, word 1 its kind, and the fields follow. A
-// comment in quotation marks is the sentence that decides the trials below it; above a sheet's records comments say what the sheet
-// is, where the number before a node's record is the node's.
+// the runs on rows; the steps and answers of the other runs, and of the trials for labels the translations and cells too, were worked
+// out by a model written from the documents alone. A record is its length, its kind and its fields; in a change, word 0 of a record
+// is its length, word 1 its kind, and the fields follow. A comment in quotation marks is the sentence that decides the trials below
+// it; above a sheet's records comments say what the sheet is, where the number before a node's record is the node's.
 // A line of `stdin` does what its first byte says, and goes on over the lines after it that begin with a blank:
 //   =  a new trial, or trials of one file, and its name; no word is written yet
 //   -  a heading

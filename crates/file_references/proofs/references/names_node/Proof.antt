@@ -20,7 +20,12 @@ from-second-requires : tie.Need-from-second-requires
 from-second-requires c κs = search needs
 
 returns-3 : tie.Need-returns-3
-returns-3 c = search named-second
+returns-3 c =
+    let at-second = c .before in
+    let at-first = at-second .before .before in
+    let at-other = at-first .before .before in
+    named-second _ _ _ (at-other .every-other .ensures) (at-first .before .if1 .left) _ (at-first .from-first .ensures) (at-second .before .if2 .left) _
+    (at-second .from-second .ensures) (c .if3 .taken)
 
 returns-4 : tie.Need-returns-4
 returns-4 c = search named-none
