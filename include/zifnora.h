@@ -8,11 +8,11 @@
  * Platform: x86-64, System V calling convention; the archive is ELF. Build it with `rt staticlib zifnora_c`, and link
  * target/staticlib/libzifnora_c.a. It needs `memcpy` and `memset` from what it is linked with, and nothing else (`nm -u`).
  *
- * Stack: a run takes less than 96 KiB, on one row of readings or on several and in the joined call, the other calls less than 32
- * KiB. These bounds are measured, not proved. `bench` measures on files that nest in each way in which visits can nest, to 1,024
- * open visits, and prints: a run 12,688 bytes, 80 more for each visit that stays open, 90,824 at nesting 1,024; on several rows
- * 12,736 and 90,872; the joined call 25,936 and 90,776; translating 17,152; asking for a translation's length 12,544; listing a
- * context 24. Another build of the archive has to be measured again.
+ * Stack: a run takes less than 96 KiB, for an owner or a hirer, on one row of readings or on several and in the joined call, the
+ * other calls less than 32 KiB. These bounds are measured, not proved. `bench` measures on files that nest in each way in which
+ * visits can nest, to 1,024 open visits, and prints: a run 12,688 bytes, 80 more for each visit that stays open, 90,824 at nesting
+ * 1,024; for a hirer 12,720 and 90,856; on several rows 12,736 and 90,872; the joined call 27,984 and 90,776; translating 19,200;
+ * asking for a translation's length 16,640; listing a context 24. Another build of the archive has to be measured again.
  */
 #ifndef ZIFNORA_H
 #define ZIFNORA_H
@@ -77,21 +77,23 @@ enum zifnora_operator {
   ZIFNORA_EQUAL = 5
 };
 
-/* The numbers of document 01's table, with its word for each, and the two outcomes that are values. */
+/* The numbers of document 01's table and those that document 02 adds, with the paper's word for each, and the two outcomes that
+ * are values. */
 enum zifnora_outcome {
   ZIFNORA_NUMBER = 0,
   ZIFNORA_CONSTRUCTOR = 100,
   /* Refusals: */
-  ZIFNORA_TRUNCATED = 1,      /* "cut": the file ends inside a record, or before the last one due */
-  ZIFNORA_OVERSIZE = 2,       /* "oversize": the file is above its size */
-  ZIFNORA_BAD_RECORD = 3,     /* "bad record": kind not due, length wrong, operator code above 5, or bytes after the last record */
-  ZIFNORA_BAD_COUNT = 4,      /* "bad count": a count outside its range, or the sum of node counts */
-  ZIFNORA_OUT_OF_RANGE = 5,   /* "dangling": a reference or a parameter position out of range; a damaged cell */
-  ZIFNORA_BAD_TREE = 6,       /* "misgrown": a child, case or pattern rule broken */
-  ZIFNORA_BAD_ARGUMENTS = 7,  /* "misfit": argument count wrong, or `result` has parameters */
-  ZIFNORA_SHORT_OUTPUT = 8,   /* "short tray": an output does not fit */
-  ZIFNORA_BAD_READINGS = 9,   /* "sensor count": the readings are not as many as the sheet asks for, for each row */
-  ZIFNORA_BAD_ALLOWANCE = 10, /* "bad allowance": a ceiling passed (of rows too), nesting 0, or cells not lent */
+  ZIFNORA_TRUNCATED = 1,       /* "cut": the file ends inside a record, or before the last one due */
+  ZIFNORA_OVERSIZE = 2,        /* "oversize": the file is above its size */
+  ZIFNORA_BAD_RECORD = 3,      /* "bad record": kind not due, length wrong, operator code above 5, or bytes after the last record */
+  ZIFNORA_BAD_COUNT = 4,       /* "bad count": a count outside its range, or the sum of node counts */
+  ZIFNORA_OUT_OF_RANGE = 5,    /* "dangling": a reference or a parameter position out of range; a damaged cell */
+  ZIFNORA_BAD_TREE = 6,        /* "misgrown": a child, case or pattern rule broken */
+  ZIFNORA_BAD_ARGUMENTS = 7,   /* "misfit": argument count wrong, or `result` has parameters */
+  ZIFNORA_SHORT_OUTPUT = 8,    /* "short tray": an output does not fit */
+  ZIFNORA_BAD_READINGS = 9,    /* "sensor count": the readings are not as many as the sheet asks for, for each row */
+  ZIFNORA_BAD_ALLOWANCE = 10,  /* "bad allowance": a ceiling passed (of rows too), nesting 0, or cells not lent */
+  ZIFNORA_CLOSED_READING = 21, /* "closed": a reading node outside the hirer's set; place: that node's record */
   /* Stops: */
   ZIFNORA_NO_STEP = 11,    /* "steps" */
   ZIFNORA_NO_NESTING = 12, /* "nesting" */
@@ -110,7 +112,7 @@ enum zifnora_outcome {
 static inline int zifnora_is_number(uint32_t outcome) { return outcome == ZIFNORA_NUMBER; }
 static inline int zifnora_is_constructor(uint32_t outcome) { return outcome == ZIFNORA_CONSTRUCTOR; }
 static inline int zifnora_is_refusal(uint32_t outcome) {
-  return outcome >= ZIFNORA_TRUNCATED && outcome <= ZIFNORA_BAD_ALLOWANCE;
+  return (outcome >= ZIFNORA_TRUNCATED && outcome <= ZIFNORA_BAD_ALLOWANCE) || outcome == ZIFNORA_CLOSED_READING;
 }
 static inline int zifnora_is_stop(uint32_t outcome) { return outcome >= ZIFNORA_NO_STEP && outcome <= ZIFNORA_NO_CELL; }
 static inline int zifnora_is_fault(uint32_t outcome) {
@@ -163,9 +165,9 @@ uint64_t zifnora_translate(const uint8_t *sheet, size_t sheet_length, uint8_t *o
  * number of 64 bits may be stated, also one that no buffer has. Nothing is written. */
 uint64_t zifnora_translated_length(const uint8_t *sheet, size_t sheet_length, uint64_t out_length);
 
-/* The three calls that run, as they stand in the archive: the lent cells are a pair of address and length behind a pointer. The
- * pair is as it was after the call, and must not overlap any buffer of the call. zifnora_run, zifnora_run_rows and
- * zifnora_translate_and_run below make the pair; what they say of `cells` holds of the bytes that it names. */
+/* The four calls that run, as they stand in the archive: the lent cells are a pair of address and length behind a pointer. The
+ * pair is as it was after the call, and must not overlap any buffer of the call. zifnora_run, zifnora_run_for_hirer,
+ * zifnora_run_rows and zifnora_translate_and_run below make the pair; what they say of `cells` holds of the bytes that it names. */
 struct zifnora_slice {
   uint8_t *data;
   size_t length;
@@ -173,6 +175,10 @@ struct zifnora_slice {
 uint64_t zifnora_run_slice(const uint8_t *translation, size_t translation_length, const int32_t *readings, size_t readings_count,
                            uint32_t steps, uint32_t nesting, uint32_t cells_allowed, struct zifnora_slice *cells,
                            uint8_t *record, size_t record_length);
+uint64_t zifnora_run_for_hirer_slice(const uint8_t *translation, size_t translation_length, uint32_t set,
+                                     const int32_t *readings, size_t readings_count, uint32_t steps, uint32_t nesting,
+                                     uint32_t cells_allowed, struct zifnora_slice *cells, uint8_t *record,
+                                     size_t record_length);
 uint64_t zifnora_run_rows_slice(const uint8_t *translation, size_t translation_length, uint32_t rows, const int32_t *readings,
                                 size_t readings_count, uint32_t steps, uint32_t nesting, uint32_t cells_allowed,
                                 struct zifnora_slice *cells, uint8_t *records, size_t records_length);
@@ -194,6 +200,30 @@ static inline uint64_t zifnora_run(const uint8_t *translation, size_t translatio
   struct zifnora_slice lent = {cells, cells_length};
   return zifnora_run_slice(translation, translation_length, readings, readings_count, steps, nesting, cells_allowed, &lent,
                            record, record_length);
+}
+
+/* Sets of the readings that a hirer may use: bit i is reading i. Sets are joined by `|`; the reading of ZIFNORA_ALLOW is below
+ * ZIFNORA_READINGS. */
+#define ZIFNORA_ALLOW(reading) (UINT32_C(1) << (reading))
+#define ZIFNORA_ALLOW_NONE UINT32_C(0)
+#define ZIFNORA_ALLOW_ALL UINT32_C(0xffffffff)
+
+/* Runs a translation for a hirer, who may use the readings of `set` and no others (document 02, request 5). Where the run is not
+ * refused it is that of zifnora_run, record and cells alike. What is returned and written is as for zifnora_run.
+ *
+ * The refusals, in the record, in their order: 1 to 5 of the translation, then 21 where any of its nodes is a reading outside the
+ * set, reached by the run or not, with the number of the first such node's record, then 9, then 10. Each leaves `cells` as it was.
+ * Bits of `set` from the number of the translation's readings on say nothing.
+ *
+ * So a hirer learns nothing of the other readings: with one translation, set, allowances and earlier bytes of `cells`, two lists
+ * of as many readings as the translation asks for that agree on the set leave the same record and cells, refusals included. */
+static inline uint64_t zifnora_run_for_hirer(const uint8_t *translation, size_t translation_length, uint32_t set,
+                                             const int32_t *readings, size_t readings_count, uint32_t steps, uint32_t nesting,
+                                             uint32_t cells_allowed, uint8_t *cells, size_t cells_length, uint8_t *record,
+                                             size_t record_length) {
+  struct zifnora_slice lent = {cells, cells_length};
+  return zifnora_run_for_hirer_slice(translation, translation_length, set, readings, readings_count, steps, nesting,
+                                     cells_allowed, &lent, record, record_length);
 }
 
 /* Runs a translation on each of `rows` rows of readings, which stand one after the other, and writes an answer record for each,

@@ -187,6 +187,13 @@ pub fn stack(subject: &dyn Interface) {
         });
     }
     for (name, file) in &translations {
+        let readings = vec![0; two_bytes(file, 4) as usize];
+        let (cells, record) = (&mut cells, &mut record);
+        stack_row("run for a hirer", name, |allowances| {
+            subject.run_for_hirer(file, u32::MAX, &readings, allowances, cells, record);
+        });
+    }
+    for (name, file) in &translations {
         rows_stack_row(subject, name, file);
     }
     for (name, sheet) in sheets {

@@ -25,6 +25,18 @@ impl Interface for Archive {
         raw::run(translation, readings, allowances, cells, record)
     }
 
+    fn run_for_hirer(
+        &self,
+        translation: &[u8],
+        set: u32,
+        readings: &[i32],
+        allowances: Allowances,
+        cells: &mut [u8],
+        record: &mut [u8],
+    ) -> u64 {
+        raw::run_for_hirer(translation, set, readings, allowances, cells, record)
+    }
+
     fn run_rows(
         &self,
         translation: &[u8],

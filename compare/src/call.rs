@@ -31,6 +31,13 @@ pub enum Call {
         file: Vec<u8>,
         input: RunInput,
     },
+    /// `other` agrees with the readings of the input on the set.
+    Hirer {
+        file: Vec<u8>,
+        set: u32,
+        input: RunInput,
+        other: Vec<i32>,
+    },
     /// `of` as in a run; the input has the readings and records of all rows.
     Rows {
         of: Option<Vec<u8>>,
@@ -99,6 +106,7 @@ impl Call {
             Call::Translate { .. } => "translate",
             Call::Length { .. } => "translated_length",
             Call::Run { .. } => "run",
+            Call::Hirer { .. } => "run_for_hirer",
             Call::Rows { .. } => "run_rows",
             Call::Joined { .. } => "translate_and_run",
             Call::List { .. } => "list_context",
@@ -111,6 +119,9 @@ impl Call {
             Call::Translate { sheet, out } => translate(on, sheet, out),
             Call::Length { sheet, room } => translated_length(on, sheet, *room),
             Call::Run { file, input, .. } => run(on, file, input),
+            Call::Hirer {
+                file, set, input, ..
+            } => run_for_hirer(on, file, *set, input),
             Call::Rows {
                 file, rows, input, ..
             } => run_rows(on, file, *rows, input),
@@ -119,11 +130,13 @@ impl Call {
         }
     }
 
-    /// The sheet that is run, if any.
+    /// The sheet that is run and whose runs are compared with its meaning; a
+    /// hirer's run is compared with the owner's instead.
     pub fn sheet(&self) -> Option<&[u8]> {
         match self {
             Call::Run { of, .. } | Call::Rows { of, .. } => of.as_deref(),
             Call::Joined { sheet, .. } => Some(sheet),
+            Call::Hirer { .. } => None,
             Call::Translate { .. } | Call::Length { .. } | Call::List { .. } => None,
         }
     }
@@ -131,7 +144,9 @@ impl Call {
     /// The runs whose records the call left.
     pub fn runs(&self, after: &After) -> Vec<OneRun<'_>> {
         let (rows, input) = match self {
-            Call::Run { input, .. } | Call::Joined { input, .. } => (1, input),
+            Call::Run { input, .. } | Call::Hirer { input, .. } | Call::Joined { input, .. } => {
+                (1, input)
+            }
             Call::Rows { rows, input, .. } => (*rows as usize, input),
             Call::Translate { .. } | Call::Length { .. } | Call::List { .. } => return vec![],
         };
@@ -180,6 +195,26 @@ fn run(on: &dyn Interface, file: &[u8], input: &RunInput) -> After {
     let (mut cells, mut record) = (guarded(&input.cells), guarded(&input.record));
     let code = on.run(
         &copy,
+        &readings,
+        input.allowances,
+        lent(&mut cells),
+        lent(&mut record),
+    );
+    After {
+        code,
+        out: vec![],
+        cells,
+        record,
+        input_kept: black_box(copy) == file && black_box(readings) == input.readings,
+    }
+}
+
+fn run_for_hirer(on: &dyn Interface, file: &[u8], set: u32, input: &RunInput) -> After {
+    let (copy, readings) = (file.to_vec(), input.readings.clone());
+    let (mut cells, mut record) = (guarded(&input.cells), guarded(&input.record));
+    let code = on.run_for_hirer(
+        &copy,
+        set,
         &readings,
         input.allowances,
         lent(&mut cells),

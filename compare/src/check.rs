@@ -1,25 +1,40 @@
 //! Compares one call: the answers and whole buffers of both sides, the answers
 //! of a translated sheet's runs with call by name, and with those of the
-//! translation with a label for each call.
+//! translation with a label for each call; a hirer's run with the same run on
+//! other closed readings, and with the owner's.
 
 use crate::call::{inner, After, Call, OneRun};
+use crate::hired::{differing_with_closed, differing_with_owner};
 use crate::interface::{shown, Interface};
 use crate::labelling::{differing_run, unshared};
 use crate::model::answer::{Answer, RECORD};
 use crate::model::sheet::Sheet;
 use crate::model::{name, Behaviour, Correct};
+use std::fmt::Display;
 
-/// What a sheet's runs are compared with beside the other side's.
+/// What a sheet's runs, and a hirer's, are compared with beside the other
+/// side's.
 #[derive(Clone, Copy, Debug, PartialEq, Eq)]
 pub struct Yardsticks {
     pub call_by_name: bool,
     pub old_labelling: bool,
+    pub closed_readings: bool,
+    pub owners_run: bool,
 }
 
 impl Yardsticks {
     pub const ALL: Yardsticks = Yardsticks {
         call_by_name: true,
         old_labelling: true,
+        closed_readings: true,
+        owners_run: true,
+    };
+
+    pub const NONE: Yardsticks = Yardsticks {
+        call_by_name: false,
+        old_labelling: false,
+        closed_readings: false,
+        owners_run: false,
     };
 }
 
@@ -38,7 +53,8 @@ pub struct Agreed {
 }
 
 /// Performs the call on both sides, and where two calls of its sheet share a
-/// label also with a label for each.
+/// label also with a label for each. A hirer's run is done on the subject's
+/// side twice more, on other closed readings and as the owner's.
 pub fn check(
     call: &Call,
     subject: &dyn Interface,
@@ -60,6 +76,15 @@ pub fn check(
             return Err(difference(format!("a label for each call: {what}")));
         }
     }
+    let closed = by
+        .closed_readings
+        .then(|| differing_with_closed(call, &theirs, subject));
+    let owners = by
+        .owners_run
+        .then(|| differing_with_owner(call, &theirs, subject));
+    if let Some(what) = closed.flatten().or(owners.flatten()) {
+        return Err(difference(what));
+    }
     Ok(Agreed {
         after,
         old_labelling: each.is_some(),
@@ -77,49 +102,50 @@ fn both(
     let ours = call.perform(reference);
     let theirs = call.perform(subject);
     let meaning = || by.call_by_name.then(|| against_meaning(call, &theirs));
-    match differs(&theirs, &ours).or_else(|| meaning().flatten()) {
+    match differs(["interface", "model"], &theirs, &ours).or_else(|| meaning().flatten()) {
         Some(what) => Err(what),
         None => Ok((theirs, ours)),
     }
 }
 
-/// Describes the first difference between the two sides.
-pub fn differs(theirs: &After, ours: &After) -> Option<String> {
-    if theirs.code != ours.code {
-        let (theirs, ours) = (shown(theirs.code), shown(ours.code));
-        return Some(format!("answer: interface {theirs}, model {ours}"));
+/// Describes the first difference between two calls, which are called so.
+pub fn differs(names: [&str; 2], one: &After, other: &After) -> Option<String> {
+    if one.code != other.code {
+        let codes = [one, other].map(|after| shown(after.code));
+        return Some(format!("answer: {}", each(names, codes)));
     }
-    if !theirs.input_kept {
-        return Some("the interface wrote into an input".to_string());
+    if !one.input_kept {
+        return Some(format!("{}: wrote into an input", names[0]));
     }
-    differing_record(&theirs.record, &ours.record)
-        .or_else(|| differing_byte("record", &theirs.record, &ours.record))
-        .or_else(|| differing_byte("output", &theirs.out, &ours.out))
-        .or_else(|| differing_byte("cells", &theirs.cells, &ours.cells))
+    differing_record(names, &one.record, &other.record)
+        .or_else(|| differing_byte(names, "record", &one.record, &other.record))
+        .or_else(|| differing_byte(names, "output", &one.out, &other.out))
+        .or_else(|| differing_byte(names, "cells", &one.cells, &other.cells))
+}
+
+fn each<T: Display>(names: [&str; 2], [one, other]: [T; 2]) -> String {
+    format!("{} {one}, {} {other}", names[0], names[1])
 }
 
 /// Describes the first answer record in which two guarded buffers differ.
-fn differing_record(theirs: &[u8], ours: &[u8]) -> Option<String> {
+fn differing_record(names: [&str; 2], one: &[u8], other: &[u8]) -> Option<String> {
     let show = |record: &[u8]| match Answer::from_record(record) {
         Some(answer) => format!("{answer:?}"),
         None => format!("{record:?}"),
     };
-    let [theirs, ours] = [theirs, ours].map(|buffer| inner(buffer).chunks_exact(RECORD));
-    let (row, (theirs, ours)) = theirs.zip(ours).enumerate().find(|(_, (a, b))| a != b)?;
-    let (theirs, ours) = (show(theirs), show(ours));
-    Some(format!("record {row}: interface {theirs}, model {ours}"))
+    let [one, other] = [one, other].map(|buffer| inner(buffer).chunks_exact(RECORD));
+    let (row, (one, other)) = one.zip(other).enumerate().find(|(_, (a, b))| a != b)?;
+    let shown = each(names, [one, other].map(show));
+    Some(format!("record {row}: {shown}"))
 }
 
 /// Describes the first byte in which two guarded buffers differ.
-fn differing_byte(name: &str, theirs: &[u8], ours: &[u8]) -> Option<String> {
-    let at = theirs.iter().zip(ours).position(|pair| pair.0 != pair.1)?;
-    let offset = at as i64 - (theirs.len() - inner(theirs).len()) as i64 / 2;
-    Some(format!(
-        "{name}: byte {offset} of {} is {} in the interface, {} in the model",
-        inner(theirs).len(),
-        theirs[at],
-        ours[at]
-    ))
+fn differing_byte(names: [&str; 2], what: &str, one: &[u8], other: &[u8]) -> Option<String> {
+    let at = one.iter().zip(other).position(|pair| pair.0 != pair.1)?;
+    let lent = inner(one).len();
+    let offset = at as i64 - (one.len() - lent) as i64 / 2;
+    let shown = each(names, [one[at], other[at]]);
+    Some(format!("{what}: byte {offset} of {lent}: {shown}"))
 }
 
 /// A number, constructor or run fault of a translated sheet's run has to be

@@ -94,7 +94,9 @@ impl Examiner<'_> {
     ) -> Result<(), Difference> {
         let due = readings_due(file);
         self.runs(random, file, of, due)?;
-        self.batches(random, file, of, due)
+        self.batches(random, file, of, due)?;
+        // The last draws, so that those of the other calls stay the same.
+        self.hired(random, file, due)
     }
 
     fn runs(
@@ -234,7 +236,7 @@ fn ample_input(random: &mut Random, due: usize) -> RunInput {
     }
 }
 
-fn run_input(random: &mut Random, due: usize) -> RunInput {
+pub(crate) fn run_input(random: &mut Random, due: usize) -> RunInput {
     let allowances = sizes::allowances(random);
     let readings = sizes::readings(random, due);
     let (cells, record) = (sizes::lent(random, allowances.cells), sizes::record(random));

@@ -20,6 +20,17 @@ pub trait Interface {
         record: &mut [u8],
     ) -> u64;
 
+    /// Bit i of `set` is reading i.
+    fn run_for_hirer(
+        &self,
+        translation: &[u8],
+        set: u32,
+        readings: &[i32],
+        allowances: Allowances,
+        cells: &mut [u8],
+        record: &mut [u8],
+    ) -> u64;
+
     fn run_rows(
         &self,
         translation: &[u8],

@@ -29,6 +29,7 @@ pub fn unshared(call: &Call) -> Option<Call> {
             rows: *rows,
             input: input.clone(),
         }),
+        Call::Hirer { .. } => None,
         Call::Translate { .. } | Call::Length { .. } | Call::List { .. } => None,
     }
 }

@@ -33,6 +33,17 @@ pub fn write(folder: &Path, difference: &Difference, origin: &str) -> Result<()>
                 put("sheet.bin", sheet)?;
             }
         }
+        Call::Hirer {
+            file,
+            set,
+            input,
+            other,
+        } => {
+            text += &write_input(folder, input)?;
+            text += &format!("set {set}\n");
+            put("translation.bin", file)?;
+            put("other.bin", &bytes_of(other))?;
+        }
         Call::Joined { sheet, out, input } => {
             text += &write_input(folder, input)?;
             put("sheet.bin", sheet)?;
@@ -52,11 +63,20 @@ pub fn write(folder: &Path, difference: &Difference, origin: &str) -> Result<()>
     fs::write(folder.join("call.txt"), text)
 }
 
+fn bytes_of(readings: &[i32]) -> Vec<u8> {
+    let bytes = readings.iter().flat_map(|reading| reading.to_le_bytes());
+    bytes.collect()
+}
+
+fn readings_of(bytes: &[u8]) -> Vec<i32> {
+    let fours = bytes.chunks_exact(4);
+    let readings = fours.map(|four| i32::from_le_bytes([four[0], four[1], four[2], four[3]]));
+    readings.collect()
+}
+
 /// Writes the bytes of a run's input; its words.
 fn write_input(folder: &Path, input: &RunInput) -> Result<String> {
-    let readings = input.readings.iter();
-    let readings: Vec<u8> = readings.flat_map(|reading| reading.to_le_bytes()).collect();
-    fs::write(folder.join("readings.bin"), readings)?;
+    fs::write(folder.join("readings.bin"), bytes_of(&input.readings))?;
     fs::write(folder.join("cells.bin"), &input.cells)?;
     fs::write(folder.join("record.bin"), &input.record)?;
     let Allowances {
@@ -80,12 +100,8 @@ fn number<N: FromStr>(words: &Words, name: &str) -> Result<N> {
 }
 
 fn read_input(folder: &Path, words: &Words) -> Result<RunInput> {
-    let readings = fs::read(folder.join("readings.bin"))?
-        .chunks_exact(4)
-        .map(|four| i32::from_le_bytes([four[0], four[1], four[2], four[3]]))
-        .collect();
     Ok(RunInput {
-        readings,
+        readings: readings_of(&fs::read(folder.join("readings.bin"))?),
         allowances: Allowances {
             steps: number(words, "steps")?,
             nesting: number(words, "nesting")?,
@@ -116,6 +132,12 @@ pub fn read(folder: &Path) -> Result<Call> {
             of: get("sheet.bin").ok(),
             file: get("translation.bin")?,
             input: read_input(folder, &words)?,
+        }),
+        Some("run_for_hirer") => Ok(Call::Hirer {
+            file: get("translation.bin")?,
+            set: number(&words, "set")?,
+            input: read_input(folder, &words)?,
+            other: readings_of(&get("other.bin")?),
         }),
         Some("run_rows") => Ok(Call::Rows {
             of: get("sheet.bin").ok(),

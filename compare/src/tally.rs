@@ -2,20 +2,22 @@
 
 use crate::call::Call;
 use crate::check::Agreed;
+use crate::hired::{is_closed, is_pair};
 use crate::interface::refusal;
 use zifnora::numbers::SHORT_OUTPUT;
 
-const KINDS: [&str; 6] = [
+const KINDS: [&str; 7] = [
     "translate",
     "translated_length",
     "run",
+    "run_for_hirer",
     "run_rows",
     "translate_and_run",
     "list_context",
 ];
 
 pub struct Tally {
-    /// By kind of call and number (outcome for the two single runs).
+    /// By kind of call and number (outcome for the three single runs).
     counts: [[u64; 128]; KINDS.len()],
     /// Rows of batches by outcome.
     rows: [u64; 128],
@@ -24,6 +26,11 @@ pub struct Tally {
     pub by_name: u64,
     /// Runs that were also compared with those of the old labelling.
     pub by_labelling: u64,
+    /// Hirer's runs that were also compared with the owner's.
+    pub by_owner: u64,
+    /// Hirer's runs that were also compared with those on other closed
+    /// readings: by whether they were not closed, or were.
+    pub pairs: [u64; 2],
 }
 
 impl Default for Tally {
@@ -34,6 +41,8 @@ impl Default for Tally {
             steps: 0,
             by_name: 0,
             by_labelling: 0,
+            by_owner: 0,
+            pairs: [0; 2],
         }
     }
 }
@@ -45,10 +54,16 @@ impl Tally {
             Call::Translate { .. } => 0,
             Call::Length { .. } => 1,
             Call::Run { .. } => 2,
-            Call::Rows { .. } => 3,
-            Call::Joined { .. } => 4,
-            Call::List { .. } => 5,
+            Call::Hirer { .. } => 3,
+            Call::Rows { .. } => 4,
+            Call::Joined { .. } => 5,
+            Call::List { .. } => 6,
         };
+        if let Call::Hirer { .. } = call {
+            let closed = is_closed(after);
+            self.by_owner += !closed as u64;
+            self.pairs[closed as usize] += is_pair(call, after) as u64;
+        }
         let mut number = refusal(after.code) as usize;
         for run in call.runs(after) {
             let outcome = run.answer.outcome as usize;
@@ -92,6 +107,12 @@ impl Tally {
         println!(
             "  runs compared with those of the old labelling {}",
             self.by_labelling
+        );
+        println!("  hirer's runs compared with the owner's {}", self.by_owner);
+        let [open, closed] = self.pairs;
+        println!(
+            "  pairs of reading lists that differ in closed readings only {}, {closed} of them refused with 21",
+            open + closed
         );
     }
 }

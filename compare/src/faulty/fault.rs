@@ -1,4 +1,5 @@
-//! The deliberate faults; `listed.rs` has their descriptions.
+//! The deliberate faults; `listed.rs` and `listed_hirer.rs` have their
+//! descriptions.
 
 #[derive(Clone, Copy, Debug, PartialEq, Eq)]
 pub enum Fault {
@@ -73,4 +74,19 @@ pub enum Fault {
     BatchCellsCleared,
     BatchStepsShared,
     BatchEndsEarly,
+    HirerSetIgnored,
+    HirerSetShifted,
+    HirerComplement,
+    HirerSetIn16Bits,
+    HirerBitsPastRefused,
+    HirerUnusedClosed,
+    HirerReachedOnly,
+    HirerClosedAsZero,
+    HirerNodePlace,
+    HirerLastClosed,
+    HirerLowestClosed,
+    HirerBeforeReferences,
+    HirerReadingsFirst,
+    HirerAllowanceFirst,
+    HirerCellsWritten,
 }

@@ -1,6 +1,8 @@
-//! The deliberate faults, each with its description.
+//! The deliberate faults, each with its description; those in the run for a
+//! hirer are in `listed_hirer.rs`.
 
 use super::fault::Fault;
+use super::listed_hirer::HIRER;
 
 /// Faults that the runs with a label for each call alone have to find, with
 /// both sides wrong alike.
@@ -37,9 +39,15 @@ pub const AGAINST_MEANING: &[Fault] = &[
     Fault::BatchRecordPlace,
 ];
 
-/// Each fault with its description and the number of sheets (and as many
-/// damaged files) within which it must be found.
-pub const ALL: &[(Fault, &str, u64)] = &[
+/// A fault with its description and the number of sheets (and as many damaged
+/// files) within which it must be found.
+pub type Listed = (Fault, &'static str, u64);
+
+pub fn all() -> impl Iterator<Item = Listed> {
+    OWNER.iter().chain(HIRER).copied()
+}
+
+const OWNER: &[Listed] = &[
     (
         Fault::LabelsRestart,
         "labels restarted in each function",

@@ -4,7 +4,9 @@
 
 mod batch;
 pub mod fault;
+mod hirer;
 pub mod listed;
+pub mod listed_hirer;
 mod reading;
 mod running;
 mod sharing;

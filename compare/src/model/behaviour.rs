@@ -3,6 +3,7 @@
 
 use super::answer::Answer;
 use super::batch::{self, Rows};
+use super::hirer::{self, Hire};
 use super::records::{Record, Records};
 use super::run::{Run, Value};
 use super::sheet::Sheet;
@@ -202,9 +203,39 @@ pub trait BatchBehaviour: Behaviour {
     }
 }
 
+/// The steps of a run for a hirer, beside those of the owner's.
+pub trait HirerBehaviour: Behaviour {
+    fn run_for_hirer(&self, file: &[u8], hire: Hire, lent: &mut [u8]) -> Answer {
+        hirer::run_for_hirer(self, file, hire, lent)
+    }
+
+    fn accept_for_hirer(
+        &self,
+        file: &[u8],
+        hire: Hire,
+        lent: usize,
+    ) -> Result<Translation, Refusal> {
+        hirer::accept(self, file, hire, lent)
+    }
+
+    fn closed_node(&self, translation: &Translation, set: u32) -> Option<usize> {
+        hirer::closed_node(self, translation, set)
+    }
+
+    fn closed_place(&self, translation: &Translation, node: usize) -> u32 {
+        translation.record_of(node)
+    }
+
+    fn reading_allowed(&self, set: u32, reading: u16) -> bool {
+        hirer::reading_allowed(set, reading)
+    }
+}
+
 /// The model as the papers have it.
 pub struct Correct;
 
 impl Behaviour for Correct {}
 
 impl BatchBehaviour for Correct {}
+
+impl HirerBehaviour for Correct {}

@@ -1,11 +1,12 @@
 //! The independent implementation of document 01. Each of its steps stands in
-//! one of these files as document 01 has it; `Behaviour` and `BatchBehaviour`
-//! name the steps that a deliberately faulty model (`crate::faulty`) does
-//! otherwise.
+//! one of these files as the papers have it; `Behaviour`, `BatchBehaviour` and
+//! `HirerBehaviour` name the steps that a deliberately faulty model
+//! (`crate::faulty`) does otherwise.
 
 pub mod answer;
 pub mod batch;
 pub mod behaviour;
+pub mod hirer;
 pub mod joined;
 pub mod listing;
 pub mod name;
@@ -23,7 +24,7 @@ pub mod trees;
 mod tests;
 
 use crate::interface::Interface;
-pub use behaviour::{BatchBehaviour, Behaviour, Correct};
+pub use behaviour::{BatchBehaviour, Behaviour, Correct, HirerBehaviour};
 pub use zifnora::Refusal;
 
 /// A model with a behaviour, behind the calls that are compared.

@@ -2,7 +2,8 @@
 
 use super::answer::RECORD;
 use super::batch::Rows;
-use super::{run, BatchBehaviour, Model, Refusal};
+use super::hirer::Hire;
+use super::{run, BatchBehaviour, HirerBehaviour, Model, Refusal};
 use crate::interface::{Allowances, Interface};
 use zifnora::numbers::SHORT_OUTPUT;
 
@@ -18,7 +19,7 @@ fn code(result: Result<usize, Refusal>) -> u64 {
     }
 }
 
-impl<B: BatchBehaviour> Interface for Model<B> {
+impl<B: BatchBehaviour + HirerBehaviour> Interface for Model<B> {
     fn translate(&self, sheet: &[u8], out: &mut [u8]) -> u64 {
         code(self.0.translate_into(sheet, out))
     }
@@ -39,6 +40,28 @@ impl<B: BatchBehaviour> Interface for Model<B> {
             return packed(Refusal::new(SHORT_OUTPUT, 0));
         }
         let answer = run::run(&self.0, translation, readings, allowances, cells);
+        record[..RECORD].copy_from_slice(&answer.record());
+        0
+    }
+
+    fn run_for_hirer(
+        &self,
+        translation: &[u8],
+        set: u32,
+        readings: &[i32],
+        allowances: Allowances,
+        cells: &mut [u8],
+        record: &mut [u8],
+    ) -> u64 {
+        if record.len() < RECORD {
+            return packed(Refusal::new(SHORT_OUTPUT, 0));
+        }
+        let hire = Hire {
+            set,
+            readings,
+            allowances,
+        };
+        let answer = self.0.run_for_hirer(translation, hire, cells);
         record[..RECORD].copy_from_slice(&answer.record());
         0
     }

@@ -57,13 +57,24 @@ pub fn accept<B: Behaviour>(
     lent: usize,
 ) -> Result<Translation, Refusal> {
     let translation = translation::read(behaviour, file)?;
+    check_input(&translation, readings, allowances, lent)?;
+    Ok(translation)
+}
+
+/// 9, then 10.
+pub fn check_input(
+    translation: &Translation,
+    readings: &[i32],
+    allowances: Allowances,
+    lent: usize,
+) -> Result<(), Refusal> {
     if readings.len() != translation.readings as usize {
         return Err(Refusal::new(numbers::BAD_READINGS, 0));
     }
     if bad_allowance(allowances, lent) {
         return Err(Refusal::new(numbers::BAD_ALLOWANCE, 0));
     }
-    Ok(translation)
+    Ok(())
 }
 
 pub fn bad_allowance(allowances: Allowances, lent: usize) -> bool {

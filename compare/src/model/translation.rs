@@ -58,8 +58,22 @@ const FORMALS: u16 = 512;
 const FUNCTIONS: u16 = 64;
 const NODES: u16 = 1024;
 
+impl Translation {
+    /// The number of a node's record.
+    pub fn record_of(&self, node: usize) -> u32 {
+        (1 + self.counts.len() + self.formals.len() + node) as u32
+    }
+}
+
 /// Reads a translation: accepted, or the first refusal.
 pub fn read<B: Behaviour>(behaviour: &B, file: &[u8]) -> Result<Translation, Refusal> {
+    let translation = read_records(behaviour, file)?;
+    check_references(&translation)?;
+    Ok(translation)
+}
+
+/// Reads a translation, its references unchecked.
+pub fn read_records<B: Behaviour>(behaviour: &B, file: &[u8]) -> Result<Translation, Refusal> {
     if file.len() > GREATEST {
         return Err(Refusal::new(OVERSIZE, 0));
     }
@@ -81,15 +95,13 @@ pub fn read<B: Behaviour>(behaviour: &B, file: &[u8]) -> Result<Translation, Ref
         nodes.push(node(behaviour.next_record(&mut records, &kinds::NODES)?));
     }
     behaviour.finish(&records)?;
-    let translation = Translation {
+    Ok(Translation {
         readings,
         formals,
         nodes,
         bodies: bodies(&counts),
         counts,
-    };
-    check_references(&translation)?;
-    Ok(translation)
+    })
 }
 
 /// Node counts of the functions.
@@ -159,7 +171,6 @@ fn check_references(translation: &Translation) -> Result<(), Refusal> {
             return Err(Refusal::new(OUT_OF_RANGE, (first_formal + number) as u32));
         }
     }
-    let first_node = first_formal + translation.formals.len();
     for (number, node) in translation.nodes.iter().enumerate() {
         let out_of_range = match node {
             Node::Number(_) => false,
@@ -175,7 +186,7 @@ fn check_references(translation: &Translation) -> Result<(), Refusal> {
             }
         };
         if out_of_range {
-            return Err(Refusal::new(OUT_OF_RANGE, (first_node + number) as u32));
+            return Err(Refusal::new(OUT_OF_RANGE, translation.record_of(number)));
         }
     }
     Ok(())

@@ -1,15 +1,16 @@
 -- What an accepted shape says of the file and of each record that is due, in a sheet and in a translation alike: the
 -- records fill the file, and each is whole, of a kind that is due, of an allowed length, with its code and counts in range.
 use mathlib.Core.Path.{_≡_, refl, _∙_}
-use Prim.Native.Nat.{ℕ, zero, suc, _+_, _*_, _≤_, _<_}
-use mathlib.Core.List.{List}
-use mathlib.Core.Bool.{true}
+use Prim.Native.Nat.{ℕ, zero, suc, _+_, _*_, _-_, _≤_, _<_}
+use mathlib.Core.List.{List, []}
+use mathlib.Core.Bool.{true, false, _&&_, and-false}
 use native.Mathlib.Omega.{arith}
+use native.Mathlib.Nat.{zero-add, suc-add}
 use lib.ListN.{length}
 use lib.Dec.{leb, eqb}
-use borrow.Author.Tests.{leb-true, eqb-true}
+use borrow.Author.Tests.{leb-true, eqb-true, lt-leb}
 use Rattle.definitions.specs.Bytes.{word}
-use Rattle.definitions.specs.Records.{whole, next, startOf, recordOf, kindOf, fieldCount}
+use Rattle.definitions.specs.Records.{whole, next, startOf, recordAt, recordOf, kindOf, fieldCount}
 use Rattle.definitions.specs.Kinds.{rowOf, allows}
 use Rattle.definitions.specs.Lists.{sumOf}
 use Rattle.definitions.specs.Numbers.{oversize, badRecord}
@@ -36,6 +37,15 @@ file-shaped y b e =
     let q = both-accepted _ _ (p .0) in
     record { size = required _ oversize 0 (q .0); each = q .1; filled = required _ badRecord (due b) (p .1) }
 
+-- no whole record stands at a file's end
+end-bare : (b : List ℕ) → whole b (length b) ≡ false
+unfolding whole
+end-bare b = by-word (word b (length b))
+  where
+    by-word : (n : ℕ) → (leb 4 n && leb (length b + n) (length b)) ≡ false
+    by-word zero = refl
+    by-word (suc n) = rw (lt-leb (length b + suc n) (length b) (omega arith), and-false) refl
+
 module _ (y : Layout) (b : List ℕ) (accepted : fileShape y b ≡ Accepted) where
   -- the file is within its size
   pub within-limit : length b ≤ fileLimit y
@@ -44,6 +54,16 @@ module _ (y : Layout) (b : List ℕ) (accepted : fileShape y b ≡ Accepted) whe
   -- the records that are due fill it
   pub records-fill : startOf b (due b) ≡ length b
   records-fill = eqb-true (startOf b (due b)) (length b) (file-shaped y b accepted .filled)
+
+  -- and past them there is none
+  start-past : (n : ℕ) → startOf b (n + due b) ≡ length b
+  unfolding startOf next
+  start-past zero = rw zero-add records-fill
+  start-past (suc n) = rw (suc-add n (due b), start-past n, end-bare b) refl
+
+  pub record-past : (r : ℕ) → due b ≤ r → recordOf b r ≡ []
+  unfolding recordOf recordAt
+  record-past r h = let e : r - due b + due b ≡ r = omega arith in rw (← e, start-past (r - due b), end-bare b) refl
 
   module _ (r : ℕ) (h : r < due b) where
     -- the checks of record r

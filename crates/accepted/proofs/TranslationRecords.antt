@@ -1,11 +1,13 @@
 -- The record of each node of a translation whose shape is accepted: its kind, and how many fields it has.
 use mathlib.Core.Path.{_≡_, refl}
 use Prim.Native.Nat.{ℕ, _+_, _*_, _≤_, _<_}
-use mathlib.Core.List.{List}
-use mathlib.Core.Bool.{true}
+use mathlib.Core.List.{List, []}
+use mathlib.Core.Bool.{Bool, true, false}
 use native.Mathlib.Omega.{arith}
 use lib.ListN.{length}
-use Rattle.definitions.specs.Bytes.{signed}
+use lib.Dec.{ltb}
+use borrow.Author.Tests.{ltb-true, ltb-false}
+use Rattle.definitions.specs.Bytes.{word, signed}
 use Rattle.definitions.specs.Records.{kindOf, field, fieldCount}
 use Rattle.definitions.specs.TranslationKinds
 use Rattle.definitions.specs.Kinds.{row, rows, rowIn, rowOf, allows}
@@ -18,7 +20,7 @@ use Rattle.definitions.specs.declared.Layout.the-variants.{Translation}
 use Rattle.definitions.specs.declared.Verdict.the-variants.{Accepted}
 use Rattle.accepted.proofs.Choices.{either}
 use Rattle.accepted.proofs.Widths.{fields-fixed, fields-least, fields-greatest, fields-clauses}
-use Rattle.accepted.proofs.Records.{length-allowed}
+use Rattle.accepted.proofs.Records.{record-past, length-allowed}
 use Rattle.accepted.proofs.Sections.{NodeKind, node-kind}
 
 -- a record with the node that it is
@@ -73,3 +75,16 @@ translation-node-record b e k h =
 pub translation-node-is : (b : List ℕ) → fileShape Translation b ≡ Accepted → (k : ℕ) → k < nodes b → {nd : TranslationNode}
     → translationNodeOf b k ≡ nd → TranslationRecord (nodeRecord b k) nd
 translation-node-is b s k h e = rw e at (translation-node-record b s k h)
+
+-- what stands past the last node is no reading
+no-record : {i : ℕ} → translationNode [] ≡ reading i → ⊥
+unfolding translationNode word
+no-record e = let z : _≡_ {A = ℕ} 0 1 = cc in omega arith
+
+pub reading-inside : (b : List ℕ) → fileShape Translation b ≡ Accepted → (k : ℕ) {i : ℕ} → translationNodeOf b k ≡ reading i → k < nodes b
+unfolding translationNodeOf
+reading-inside b s k e = from (ltb k (nodes b)) refl
+  where
+    from : (x : Bool) → ltb k (nodes b) ≡ x → k < nodes b
+    from true q = ltb-true k (nodes b) q
+    from false q = let h = ltb-false k (nodes b) q in absurd (no-record (rw (record-past Translation b s (firstNode b + k) (omega arith)) at e))

@@ -4,36 +4,17 @@ ghost use mathlib.Core.Bool.{_&&_};
 ghost use lib.Dec.{leb};
 ghost use Rattle.definitions.specs.Sizes.{mostRows};
 ghost use Rattle.definitions.specs.Run.{allowancesFit};
-ghost use Rattle.definitions.specs.Verdicts.{_andThen_, require};
 ghost use Rattle.batch.specs.Promise.{rowsChecks};
 use allowances::allowed;
 use definitions::Verdict;
 use definitions::numbers;
 use definitions::sizes::ANSWER_BYTES;
 use definitions::sizes::MOST_ROWS;
+use definitions::verdicts::and_then;
+use definitions::verdicts::required;
 use file_layout::layout;
 use widths::wide;
 use widths::wide32;
-
-// Accepted where a test holds, else refused with this number at place 0.
-fn required(test: bool, number: u16) -> Verdict
-    ensures { λ v. ⌜ v ≡ require test number 0 ⌝ }
-{
-    if test {
-        return Verdict::Accepted;
-    }
-    Verdict::Refused { number, place: 0 }
-}
-
-// The first refusal of two.
-fn and_then(first: Verdict, second: Verdict) -> Verdict
-    ensures { λ v. ⌜ v ≡ (first andThen second) ⌝ }
-{
-    match first {
-        Verdict::Accepted => second,
-        Verdict::Refused { number, place } => Verdict::Refused { number, place },
-    }
-}
 
 // Whether the rows and the allowances are within their ceilings.
 fn rows_allowed(rows: u32, nesting: u32, cells_allowed: u32, lent: usize) -> bool

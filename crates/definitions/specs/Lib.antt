@@ -27,4 +27,5 @@ pub mod Cells
 pub mod Run
 pub mod AnswerRecord
 pub mod RunsInTurn
+pub mod Hirer
 pub mod Listing

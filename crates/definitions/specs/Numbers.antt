@@ -85,6 +85,10 @@ noField = 19
 abbrev pub overflow : ℕ
 overflow = 20
 
+-- "closed" (document 02, request 5)
+abbrev pub closedReading : ℕ
+closedReading = 21
+
 -- the outcome of a number
 abbrev pub isNumber : ℕ
 isNumber = 0
@@ -95,7 +99,7 @@ isConstructor = 100
 
 -- whether a number is a refusal's, "numbered refusal"
 unfoldable pub isRefusal : ℕ → Bool
-isRefusal n = within truncated badAllowance n
+isRefusal n = within truncated badAllowance n || eqb n closedReading
 
 -- whether it is a stop's
 unfoldable pub isStop : ℕ → Bool

@@ -4,6 +4,7 @@ pub mod operator_codes;
 pub mod sheet_kinds;
 pub mod sizes;
 pub mod translation_kinds;
+pub mod verdicts;
 
 // Which of the two files of document 01: a sheet or a translation.
 pub enum Layout {

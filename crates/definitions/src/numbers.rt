@@ -63,6 +63,9 @@ pub const NO_FIELD: u16 = 19;
 // "overflow"
 pub const OVERFLOW: u16 = 20;
 
+// "closed"
+pub const CLOSED_READING: u16 = 21;
+
 // The outcome of a number, and of a constructor.
 pub const NUMBER: u16 = 0;
 
@@ -72,6 +75,9 @@ pub const CONSTRUCTOR: u16 = 100;
 pub fn is_refusal(n: u16) -> bool
     ensures { λ r. ⌜ r ≡ isRefusal n ⌝ }
 {
+    if n == CLOSED_READING {
+        return true;
+    }
     if n < TRUNCATED {
         return false;
     }

@@ -1,6 +1,6 @@
 -- The owner's three demands, over what the public calls promise: `Translates` of `translator::translate`, `Runs` of `run::run`,
 -- `Joins` of `join::translate_and_run`, and at the end what `zifnora_c` promises to callers in C. None of the calls has a `requires`,
--- so each promise holds of every call. The pages beside it, `Requests` and `SharedLabels`, have what
+-- so each promise holds of every call. The pages beside it, `Requests`, `SharedLabels` and `HiredTrailers`, have what
 -- document 02 asks for, with the demands for its calls.
 use mathlib.Core.Path.{_≡_}
 use mathlib.Core.Logic.{_↔_}

@@ -5,13 +5,13 @@ use mathlib.Core.List.{List}
 use mathlib.Core.Bool.{true}
 use native.Mathlib.Omega.{arith}
 use lib.ListN.{length}
-use Rattle.definitions.specs.Numbers.{truncated, badAllowance, isRefusal}
+use Rattle.definitions.specs.Numbers.{isRefusal}
 use Rattle.definitions.specs.Output.{outputOf}
 use Rattle.definitions.specs.Trees.{equalTrees}
 use Rattle.definitions.specs.Translate.{translation, translationRefusal}
 use Rattle.definitions.specs.declared.Verdict.{Verdict}
 use Rattle.definitions.specs.declared.Verdict.the-variants.{Accepted, Refused}
-use Rattle.laws.proofs.Ranges.{within-by}
+use Rattle.laws.proofs.Classes.{refusal-range}
 use Rattle.laws.proofs.Verdicts.{both-accepted}
 use Rattle.readback.proofs.Size.{translation-limit}
 use Rattle.zifnora_c.specs.Codes.{code, codeOf, codeNumber, codeValue}
@@ -24,8 +24,7 @@ use Rattle.demands.proofs.Handing.{written-handed}
 use Rattle.demands.proofs.Recorded.{number-of-code, value-of-code}
 
 pub refusal-not-zero : (n : ℕ) → isRefusal n ≡ true → n ≡ 0 → ⊥
-unfolding isRefusal
-refusal-not-zero n h e = omega (arith, e, within-by truncated badAllowance n h .least)
+refusal-not-zero n h e = omega (arith, e, refusal-range n h .0)
 
 module _ (sheet out : List ℕ) (r : ℕ) (out′ : List ℕ) (t : TranslatesC sheet out r out′) where
   module _ (e : translationRefusal sheet (length out) ≡ Accepted) where

@@ -1,6 +1,8 @@
 pub mod Refusals
 pub mod Meeting
 pub mod Own
+pub mod OutsideNodes
+pub mod HirerRuns
 pub mod Handing
 pub mod Values
 pub mod Recorded
@@ -14,3 +16,4 @@ pub mod SingleRuns
 pub mod Demands
 pub mod Requests
 pub mod SharedLabels
+pub mod HiredTrailers

@@ -20,11 +20,13 @@ use Rattle.agreement.specs.Meaning.{OwnAnswer}
 use Rattle.join.specs.Promise.{joinAnswer}
 use Rattle.zifnora_c.specs.Codes.{codeNumber, codeValue}
 use Rattle.zifnora_c.specs.Records.{recorded}
-use Rattle.zifnora_c.specs.Promise.{TranslatesC, RunsC, JoinsC}
+use Rattle.zifnora_c.specs.Promise.{TranslatesC, RunsInto, RunsC, RunsForHirerC, JoinsC}
 use Rattle.zifnora_c.proofs.Coding.{fits}
-use Rattle.demands.specs.Demands.{Met}
+use Rattle.demands.specs.Demands.{Handed, Met}
 use Rattle.demands.specs.InC.{SignedReadings, StoppedOrRefusedInC}
-use Rattle.demands.proofs.Refusals.{NumberedIn, running-numbered, joining-numbered}
+use Rattle.demands.proofs.Refusals.{NumberedIn, running-numbered, joining-numbered, hiring-numbered}
+use Rattle.demands.proofs.Meeting.{run-met}
+use Rattle.demands.proofs.HirerRuns.{answer-in-order, hirer-met}
 use Rattle.demands.proofs.Own.{after-own, unanswered}
 use Rattle.demands.proofs.Values.{after-fits}
 use Rattle.demands.proofs.HandingInC.{handed-in-C}
@@ -58,18 +60,33 @@ module _ (sheet : List ℕ) (accepted : sheetVerdict sheet ≡ Accepted) (rs : L
   faithful-recorded = record { own = own-recorded; none = none-recorded }
 
 -- a run of the bytes that were handed over
-pub run-faithful-in-C : (sheet out : List ℕ) (r : ℕ) (out′ : List ℕ) → TranslatesC sheet out r out′ → codeNumber r ≡ 0
-    → (rs : List ℤ) (steps nesting cellsAllowed : ℕ) (before room : List ℕ) (c : ℕ) (after room′ : List ℕ)
-    → RunsC (take (codeValue r) out′) rs steps nesting cellsAllowed before room c after room′ → c ≡ 0
-    → FaithfulInC sheet rs room′ (after ≡ before)
-unfolding runAnswer
-run-faithful-in-C sheet out r out′ translated not-refused rs steps nesting cellsAllowed before room c after room′ run recording =
-    let handed = handed-in-C sheet out r out′ translated not-refused in
-    let runs : RunsC (translation sheet) rs steps nesting cellsAllowed before room c after room′ = rw (handed .is) at run in
-    let roomy = fits room c (runs .answer) recording in
-    faithful-recorded sheet (handed .accepted) rs steps nesting cellsAllowed _ (running-numbered (translation sheet) rs nesting cellsAllowed (length before)) (after ≡ before)
-    (run-met-where-fits (translation sheet) rs steps nesting cellsAllowed before room c after room′ runs roomy)
-    room′ (drop answerSize room) (runs .written ∙ record-where-fits room roomy _)
+module _ (sheet : List ℕ) (accepted : sheetVerdict sheet ≡ Accepted) (rs : List ℤ) (steps nesting cellsAllowed : ℕ) (v : Verdict) (numbered : NumberedIn v)
+    (ran before room : List ℕ) (met : Met (answerAfter v (ruleAnswer (translation sheet) rs steps nesting cellsAllowed)) (ran ≡ before)) where
+  after-faithful : (c : ℕ) (after room′ : List ℕ) → RunsInto (answerAfter v (ruleAnswer (translation sheet) rs steps nesting cellsAllowed)) ran before room c after room′
+      → c ≡ 0 → FaithfulInC sheet rs room′ (after ≡ before)
+  after-faithful c after room′ runs recording =
+      let roomy = fits room c (runs .answer) recording in
+      faithful-recorded sheet accepted rs steps nesting cellsAllowed v numbered (after ≡ before) (run-met-where-fits _ ran before room c after room′ runs met roomy)
+      room′ (drop answerSize room) (runs .written ∙ record-where-fits room roomy _)
+
+module _ (sheet out : List ℕ) (r : ℕ) (out′ : List ℕ) (translated : TranslatesC sheet out r out′) (not-refused : codeNumber r ≡ 0)
+    (rs : List ℤ) (steps nesting cellsAllowed : ℕ) (before room : List ℕ) (c : ℕ) (after room′ : List ℕ) where
+  h : Handed sheet (codeValue r) out′
+  h = handed-in-C sheet out r out′ translated not-refused
+
+  pub run-faithful-in-C : RunsC (take (codeValue r) out′) rs steps nesting cellsAllowed before room c after room′ → c ≡ 0 → FaithfulInC sheet rs room′ (after ≡ before)
+  unfolding runAnswer
+  run-faithful-in-C run recording =
+      after-faithful sheet (h .accepted) rs steps nesting cellsAllowed _ (running-numbered (translation sheet) rs nesting cellsAllowed (length before)) _ before room
+      (run-met (translation sheet) rs steps nesting cellsAllowed before) c after room′ (rw (h .is) at run) recording
+
+  pub hirer-faithful-in-C : (set : ℕ) → RunsForHirerC (take (codeValue r) out′) set rs steps nesting cellsAllowed before room c after room′ → c ≡ 0
+      → FaithfulInC sheet rs room′ (after ≡ before)
+  hirer-faithful-in-C set run recording =
+      let t = translation sheet in
+      let e = answer-in-order t set rs steps nesting cellsAllowed (length before) in
+      after-faithful sheet (h .accepted) rs steps nesting cellsAllowed _ (hiring-numbered t set rs nesting cellsAllowed (length before)) _ before room
+      (rw e at (hirer-met t set rs steps nesting cellsAllowed before)) c after room′ (rw (h .is, e) at run) recording
 
 -- the joined call
 pub join-faithful-in-C : (sheet out : List ℕ) (rs : List ℤ) (steps nesting cellsAllowed : ℕ) (before room : List ℕ) (c : ℕ) (out′ after room′ : List ℕ)

@@ -5,7 +5,7 @@ use mathlib.Core.List.{List}
 use mathlib.Core.Bool.{Bool, true, false}
 use lib.IntN.{ℤ}
 use Rattle.definitions.specs.Ranges.{within}
-use Rattle.definitions.specs.Numbers.{truncated, oversize, badRecord, badCount, outOfRange, badTree, badArguments, shortOutput, badReadings, badAllowance, isRefusal}
+use Rattle.definitions.specs.Numbers.{truncated, oversize, badRecord, badCount, outOfRange, badTree, badArguments, shortOutput, badReadings, badAllowance, closedReading, isRefusal}
 use Rattle.definitions.specs.Verdicts.{_andThen_, require, firstOf}
 use Rattle.definitions.specs.Layouts.{due, nodes}
 use Rattle.definitions.specs.Shape.{shapeAt, shape, fileShape}
@@ -17,8 +17,10 @@ use Rattle.definitions.specs.declared.Layout.{Layout}
 use Rattle.definitions.specs.declared.Layout.the-variants.{Sheet, Translation}
 use Rattle.definitions.specs.declared.Verdict.{Verdict}
 use Rattle.definitions.specs.declared.Verdict.the-variants.{Accepted, Refused}
+use Rattle.definitions.specs.Hirer.{closedAt, closedVerdict}
 use Rattle.batch.specs.Promise.{rowsChecks, rowsVerdict}
 use Rattle.join.specs.Promise.{joinVerdict}
+use Rattle.demands.specs.Hirer.{hirerRefusals}
 
 abbrev pub NumberedIn : Verdict → Type 0
 NumberedIn Accepted = Unit {0}
@@ -87,3 +89,9 @@ unfolding rowsVerdict rowsChecks isRefusal within
 batch-numbered b rows rs nesting cellsAllowed lent room =
     either _ _ (translation-numbered b)
     (either _ _ (either _ _ (required _ badReadings 0 refl) (required _ badAllowance 0 refl)) (required _ shortOutput 0 refl))
+
+pub hiring-numbered : (b : List ℕ) (set : ℕ) (rs : List ℤ) (nesting cellsAllowed lent : ℕ) → NumberedIn (hirerRefusals b set rs nesting cellsAllowed lent)
+unfolding closedVerdict closedAt isRefusal within
+hiring-numbered b set rs nesting cellsAllowed lent =
+    either _ _ (either _ _ (either _ _ (translation-numbered b) (each (nodes b) _ (λ k. required _ closedReading _ refl))) (required _ badReadings 0 refl))
+    (required _ badAllowance 0 refl)

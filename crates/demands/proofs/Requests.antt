@@ -1,6 +1,6 @@
 -- The requests of document 02, each in its words, over what the public calls promise: `RunsRows` of `batch::run_rows`, `Translates` of
 -- `translator::translate`, `translationAnswer` of `translation_length::translated_length`, `Runs` of `run::run`, and for callers in C
--- `RunsRowsC`, `TranslatesC`, `translationCode` and `RunsC`. Request 4 is on the page beside it, `SharedLabels`.
+-- `RunsRowsC`, `TranslatesC`, `translationCode` and `RunsC`. Requests 4 and 5 are on the pages beside it, `SharedLabels` and `HiredTrailers`.
 use mathlib.Core.Path.{_≡_, refl, sym, ap, _∙_}
 use mathlib.Core.Logic.{_↔_}
 use Prim.Native.Nat.{ℕ, suc, _*_, _≤_, _<_}

@@ -12,19 +12,20 @@ use mir.Val.{SFits}
 use Rattle.definitions.specs.Sizes.{answerSize}
 use Rattle.definitions.specs.Numbers.{shortOutput, isConstructor}
 use Rattle.definitions.specs.Verdicts.{require}
-use Rattle.definitions.specs.Run.{Answer, refusal, runAnswer, runCells}
+use Rattle.definitions.specs.Run.{Answer, refusal}
 use Rattle.definitions.specs.AnswerRecord.{answerBytes}
-use Rattle.laws.proofs.Classes.{answer-limit, stop-limit, refusal-limit}
+use Rattle.laws.proofs.Classes.{answer-limit, stop-limit, refusal-range}
 use Rattle.agreement.specs.Answers.{answerOutcome}
 use Rattle.join.specs.Promise.{joinAnswer, joinOutput, joinCells}
 use Rattle.zifnora_c.specs.Codes.{code, codeOf, codeNumber}
 use Rattle.zifnora_c.specs.Records.{recorded}
-use Rattle.zifnora_c.specs.Promise.{recordVerdict, whereFits, recordOver, RunsC, JoinsC}
+use Rattle.zifnora_c.specs.Promise.{recordVerdict, whereFits, recordOver, RunsInto, RunsC, RunsForHirerC, JoinsC}
 use Rattle.demands.specs.Demands as Demands
 use Rattle.demands.specs.Demands.{Met, StoppedOrRefused}
 use Rattle.demands.specs.InC as InC
 use Rattle.demands.specs.InC.{MetInC, StoppedOrRefusedInC}
 use Rattle.demands.proofs.Meeting.{run-met, join-met}
+use Rattle.demands.proofs.HirerRuns.{hirer-met}
 use Rattle.demands.proofs.Recorded.{number-of-code, outcome-read, answer-read}
 
 -- an answer that is met has a number that the record holds
@@ -32,7 +33,7 @@ met-limit : {a : Answer} {untouched : Type 0} → Met a untouched → a .outcome
 unfolding refusal
 met-limit (Demands.Met.answers h) = answer-limit _ h
 met-limit (Demands.Met.stops h) = stop-limit _ h
-met-limit (Demands.Met.refuses n p e k u) = rw e (refusal-limit n k)
+met-limit (Demands.Met.refuses n p e k u) = rw e (refusal-range n k .1)
 
 -- the record of an answer that is met
 module _ (a : Answer) (untouched : Type 0) (met : Met a untouched) (room′ rest : List ℕ) (written : room′ ≡ answerBytes a ++ rest) where
@@ -95,13 +96,22 @@ module _ (room : List ℕ) (c : ℕ) (room′ : List ℕ) (a : Answer) (untouche
   call-met : (leb answerSize (length room) ≡ true → Met a untouched) → (leb answerSize (length room) ≡ false → untouched) → MetInC c room room′ untouched
   call-met met u = met-by (leb answerSize (length room)) refl met u
 
-module _ (b : List ℕ) (rs : List ℤ) (steps nesting cellsAllowed : ℕ) (before room : List ℕ) (c : ℕ) (after room′ : List ℕ)
-    (t : RunsC b rs steps nesting cellsAllowed before room c after room′) where
-  pub run-met-where-fits : leb answerSize (length room) ≡ true → Met (runAnswer b rs steps nesting cellsAllowed (length before)) (after ≡ before)
-  run-met-where-fits e = rw (t .cells, where-fits room e (runCells b rs steps nesting cellsAllowed before) before) (run-met b rs steps nesting cellsAllowed before)
+module _ (a : Answer) (ran before room : List ℕ) (c : ℕ) (after room′ : List ℕ) (t : RunsInto a ran before room c after room′) (met : Met a (ran ≡ before)) where
+  pub run-met-where-fits : leb answerSize (length room) ≡ true → Met a (after ≡ before)
+  run-met-where-fits e = rw (t .cells, where-fits room e ran before) met
 
-  pub running-met-in-C : MetInC c room room′ (after ≡ before)
-  running-met-in-C = call-met room c room′ _ (after ≡ before) (t .answer) (t .written) run-met-where-fits (λ e. t .cells ∙ where-short room e _ before)
+  run-met-in-C : MetInC c room room′ (after ≡ before)
+  run-met-in-C = call-met room c room′ a (after ≡ before) (t .answer) (t .written) run-met-where-fits (λ e. t .cells ∙ where-short room e _ before)
+
+pub running-met-in-C : (b : List ℕ) (rs : List ℤ) (steps nesting cellsAllowed : ℕ) (before room : List ℕ) (c : ℕ) (after room′ : List ℕ)
+    → RunsC b rs steps nesting cellsAllowed before room c after room′ → MetInC c room room′ (after ≡ before)
+running-met-in-C b rs steps nesting cellsAllowed before room c after room′ t =
+    run-met-in-C _ _ before room c after room′ t (run-met b rs steps nesting cellsAllowed before)
+
+pub hiring-met-in-C : (b : List ℕ) (set : ℕ) (rs : List ℤ) (steps nesting cellsAllowed : ℕ) (before room : List ℕ) (c : ℕ) (after room′ : List ℕ)
+    → RunsForHirerC b set rs steps nesting cellsAllowed before room c after room′ → MetInC c room room′ (after ≡ before)
+hiring-met-in-C b set rs steps nesting cellsAllowed before room c after room′ t =
+    run-met-in-C _ _ before room c after room′ t (hirer-met b set rs steps nesting cellsAllowed before)
 
 module _ (sheet out : List ℕ) (rs : List ℤ) (steps nesting cellsAllowed : ℕ) (before room : List ℕ) (c : ℕ) (out′ after room′ : List ℕ)
     (t : JoinsC sheet out rs steps nesting cellsAllowed before room c out′ after room′) where

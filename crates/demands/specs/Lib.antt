@@ -1,3 +1,4 @@
 pub mod Demands
 pub mod InC
 pub mod Rows
+pub mod Hirer

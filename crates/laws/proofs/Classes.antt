@@ -5,7 +5,8 @@ use mathlib.Core.Bool.{Bool, true, false, _||_, or-true, true≢false}
 use lib.Dec.{eqb}
 use native.Mathlib.Omega.{arith}
 use borrow.Author.Tests.{ne-eqb, eqb-true}
-use Rattle.definitions.specs.Numbers.{truncated, badAllowance, noStep, noCell, numberWanted, overflow, isNumber, isConstructor, isRefusal, isStop, isFault, isAnswer}
+use Rattle.definitions.specs.Numbers.{truncated, badAllowance, noStep, noCell, numberWanted, overflow, closedReading, isNumber, isConstructor, isRefusal, isStop, isFault, isAnswer}
+use Rattle.definitions.specs.Ranges.{within}
 use Rattle.laws.proofs.Ranges.{within-below, within-by}
 
 -- a number between the values and the run faults is no answer
@@ -18,9 +19,30 @@ pub stop-no-answer : (n : ℕ) → isStop n ≡ true → isAnswer n ≡ false
 unfolding isStop
 stop-no-answer n h = let w = within-by noStep noCell n h in below-faults n (omega (arith, w .least)) (w .greatest)
 
-pub refusal-no-answer : (n : ℕ) → isRefusal n ≡ true → isAnswer n ≡ false
+-- a refusal's number is one of the first ten, or 21
+data Refusing (n : ℕ) : Type 0 where
+  early : truncated ≤ n → n ≤ badAllowance → Refusing n
+  closed : n ≡ closedReading → Refusing n
+
+refusing-by : (n : ℕ) (x y : Bool) → within truncated badAllowance n ≡ x → eqb n closedReading ≡ y → (x || y) ≡ true → Refusing n
+refusing-by n true y e f h = let w = within-by truncated badAllowance n e in early (w .least) (w .greatest)
+refusing-by n false true e f h = closed (eqb-true n closedReading f)
+refusing-by n false false e f h = absurd (true≢false (sym h))
+
+refusing : (n : ℕ) → isRefusal n ≡ true → Refusing n
 unfolding isRefusal
-refusal-no-answer n h = let w = within-by truncated badAllowance n h in below-faults n (w .least) (omega (arith, w .greatest))
+refusing n h = refusing-by n (within truncated badAllowance n) (eqb n closedReading) refl refl h
+
+closed-no-answer : isAnswer closedReading ≡ false
+unfolding isAnswer isFault within
+closed-no-answer = refl
+
+pub refusal-no-answer : (n : ℕ) → isRefusal n ≡ true → isAnswer n ≡ false
+refusal-no-answer n h = from (refusing n h)
+  where
+    from : Refusing n → isAnswer n ≡ false
+    from (early l g) = below-faults n l (omega (arith, g))
+    from (closed e) = rw e closed-no-answer
 
 pub answer-no-stop : (n : ℕ) → isAnswer n ≡ true → isStop n ≡ false
 answer-no-stop n h = from (isStop n) refl
@@ -50,6 +72,9 @@ pub stop-limit : (n : ℕ) → isStop n ≡ true → n ≤ isConstructor
 unfolding isStop
 stop-limit n h = omega (arith, within-by noStep noCell n h .greatest)
 
-pub refusal-limit : (n : ℕ) → isRefusal n ≡ true → n ≤ isConstructor
-unfolding isRefusal
-refusal-limit n h = omega (arith, within-by truncated badAllowance n h .greatest)
+pub refusal-range : (n : ℕ) → isRefusal n ≡ true → (truncated ≤ n) × (n ≤ isConstructor)
+refusal-range n h = from (refusing n h)
+  where
+    from : Refusing n → (truncated ≤ n) × (n ≤ isConstructor)
+    from (early l g) = (l, omega (arith, g))
+    from (closed e) = (omega (arith, e), omega (arith, e))

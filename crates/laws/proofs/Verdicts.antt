@@ -69,6 +69,17 @@ first-each (suc n) rule e i h =
     let k = both-accepted (firstOf n rule) (rule n) e in
     below-suc (λ j. rule j ≡ Accepted) n (first-each n rule (k .0)) (k .1) i h
 
+-- rules that say the same, and rules that are all accepted
+pub first-same : (n : ℕ) (rule other : ℕ → Verdict) → ((i : ℕ) → i < n → rule i ≡ other i) → firstOf n rule ≡ firstOf n other
+unfolding firstOf
+first-same zero rule other e = refl
+first-same (suc n) rule other e = rw (first-same n rule other (λ i h. e i (omega arith)), e n (omega arith)) refl
+
+pub first-all : (n : ℕ) (rule : ℕ → Verdict) → ((i : ℕ) → i < n → rule i ≡ Accepted) → firstOf n rule ≡ Accepted
+unfolding firstOf
+first-all zero rule e = refl
+first-all (suc n) rule e = then-accepted (firstOf n rule) (rule n) (first-all n rule (λ i h. e i (omega arith))) ∙ e n (omega arith)
+
 -- a loop over rules that stops at the first refusal: each of the first r rules is accepted
 pub record Passed (r : ℕ) (rule : ℕ → Verdict) : Type 0 where
   pub accepted : firstOf r rule ≡ Accepted

@@ -19,11 +19,11 @@ use Rattle.definitions.specs.Labels.{Labelling}
 use Rattle.definitions.specs.Translate.{formalOf, formals, translationBy}
 use Rattle.definitions.specs.declared.Layout.the-variants.{Translation}
 use Rattle.definitions.specs.declared.Verdict.the-variants.{Accepted}
-use Rattle.laws.proofs.Verdicts.{then-accepted, require-true}
+use Rattle.laws.proofs.Verdicts.{then-accepted, require-true, first-all}
 use Rattle.readback.proofs.Records.{translation-items, translation-functions, translation-nodes, translation-filled}
 use Rattle.readback.proofs.Totals.{sum-reached}
 use Rattle.readback.proofs.Size.{translation-limit}
-use Rattle.readback.proofs.Passing.{Passes, first-all, passes-shape, passes-references}
+use Rattle.readback.proofs.Passing.{Passes, passes-shape, passes-references}
 use Rattle.readback.proofs.SectionsPass.{head-passes, function-passes, formal-passes}
 use Rattle.readback.proofs.NodesPass.{node-passes}
 

@@ -1,7 +1,7 @@
 -- A record that is written as words passes the checks of a translation where its kind is due, its length allowed, its code and
 -- counts in range, and what it names there.
 use mathlib.Core.Path.{_≡_, refl, sym, _∙_}
-use Prim.Native.Nat.{ℕ, zero, suc, _+_, _*_, _-_, _%_, _≤_, _<_}
+use Prim.Native.Nat.{ℕ, _+_, _*_, _-_, _%_, _≤_, _<_}
 use mathlib.Core.List.{List, []}
 use mathlib.Core.Bool.{Bool, true, false}
 use native.Mathlib.Omega.{arith}
@@ -12,26 +12,18 @@ use Rattle.definitions.specs.Bytes.{word, bytesOf}
 use Rattle.definitions.specs.Records.{whole, startOf, recordAt, recordOf, kindOf}
 use Rattle.definitions.specs.Kinds.{Row, rowOf, allows}
 use Rattle.definitions.specs.Numbers.{outOfRange}
-use Rattle.definitions.specs.Verdicts.{firstOf}
 use Rattle.definitions.specs.Layouts.{nodes, isDue}
 use Rattle.definitions.specs.Shape.{operatorCode, counts, shape}
 use Rattle.definitions.specs.References.{fromFirst, fromSecond, everyOther, childCount, children, child, namesInRange, inRange, references}
 use Rattle.definitions.specs.Translate.{recordWords}
 use Rattle.definitions.specs.declared.Layout.the-variants.{Translation}
-use Rattle.definitions.specs.declared.Verdict.{Verdict}
 use Rattle.definitions.specs.declared.Verdict.the-variants.{Accepted}
 use Rattle.laws.proofs.Lists.{all-pass}
 use Rattle.laws.proofs.Records.{whole-is, record-none, record-length, record-word}
-use Rattle.laws.proofs.Verdicts.{then-accepted, require-true}
+use Rattle.laws.proofs.Verdicts.{require-true}
 use Rattle.laws.proofs.Shape.{shape-accepted}
 use Rattle.readback.proofs.Made.{record-bytes}
 use Rattle.readback.proofs.Fields.{kind-read}
-
--- rules that are all accepted, and tests that all pass
-pub first-all : (n : ℕ) (rule : ℕ → Verdict) → ((i : ℕ) → i < n → rule i ≡ Accepted) → firstOf n rule ≡ Accepted
-unfolding firstOf
-first-all zero rule e = refl
-first-all (suc n) rule e = then-accepted (firstOf n rule) (rule n) (first-all n rule (λ i h. e i (omega arith))) ∙ e n (omega arith)
 
 -- a row allows a length from its least to its greatest by its step
 pub row-allows : (r : Row) (n : ℕ) → r .least ≤ n → n ≤ r .greatest → (n - r .least) % r .step ≡ 0 → allows r n ≡ true

@@ -63,6 +63,10 @@ overflowLine =
 abbrev emptyLine : List ℕ
 emptyLine = 114 ∷ 101 ∷ 102 ∷ 117 ∷ 115 ∷ 101 ∷ 100 ∷ 32 ∷ 49 ∷ 32 ∷ 112 ∷ 108 ∷ 97 ∷ 99 ∷ 101 ∷ 32 ∷ 48 ∷ 10 ∷ []
 
+-- a closed reading, of the hirer's run: `refused 21 place 4`
+abbrev closedLine : List ℕ
+closedLine = 114 ∷ 101 ∷ 102 ∷ 117 ∷ 115 ∷ 101 ∷ 100 ∷ 32 ∷ 50 ∷ 49 ∷ 32 ∷ 112 ∷ 108 ∷ 97 ∷ 99 ∷ 101 ∷ 32 ∷ 52 ∷ 10 ∷ []
+
 -- the greatest place of the type `usize`: `refused 6 place 18446744073709551615`
 abbrev placeLine : List ℕ
 placeLine =
@@ -78,9 +82,10 @@ lines : map line
     ∷ answer 17 (pos 0) 3 0
     ∷ answer 20 (pos 0) 3 0
     ∷ answer 1 (pos 0) 0 0
+    ∷ answer 21 (pos 4) 0 0
     ∷ answer 6 (pos 18446744073709551615) 0 0
     ∷ [])
-    ≡ sLine ∷ negativeLine ∷ longestLine ∷ constructorLine ∷ stopLine ∷ faultLine ∷ overflowLine ∷ emptyLine ∷ placeLine ∷ []
+    ≡ sLine ∷ negativeLine ∷ longestLine ∷ constructorLine ∷ stopLine ∷ faultLine ∷ overflowLine ∷ emptyLine ∷ closedLine ∷ placeLine ∷ []
 unfolding digit digitsWithin decimal signed integer numberWord constructorWord endWord refusedWord stepsWord cellsWord placeWord lineEnd counts countedLine refusalLine lineOf line isRefusal within
 lines = refl
 

@@ -102,7 +102,7 @@ pub(crate) fn set_readings(tab: &mut Table, readings: &[i32])
 }
 
 // The entry of node `k`.
-pub(crate) fn entry(tab: &Table, k: u16) -> u64
+pub fn entry(tab: &Table, k: u16) -> u64
     requires { ⌜ k < mostNodes ⌝ }
     ensures { λ r. ⌜ r ≡ getD (now (tab .entry)) k 0 ⌝ }
 {
@@ -118,13 +118,13 @@ pub(crate) fn reading(tab: &Table, i: u16) -> i32
 }
 
 // The kind, and the first, the second and the third field of an entry.
-pub(crate) fn kind_in(x: u64) -> u16
+pub fn kind_in(x: u64) -> u16
     ensures { λ r. ⌜ r ≡ kindPart x ⌝ }
 {
     (x % 0x1_0000) as u16
 }
 
-pub(crate) fn first_in(x: u64) -> u16
+pub fn first_in(x: u64) -> u16
     ensures { λ r. ⌜ r ≡ firstPart x ⌝ }
 {
     (x / 0x1_0000 % 0x1_0000) as u16

@@ -3,3 +3,4 @@ pub mod Observed
 pub mod Starred
 pub mod Orders
 pub mod EqualCalls
+pub mod ClosedReadings

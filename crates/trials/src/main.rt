@@ -1,14 +1,15 @@
-// The readers, the translator, the length that is asked, the run, the run on rows and the context listing on the files that standard
-// input lists.
+// The readers, the translator, the length that is asked, the run, the run on rows, the hirer's run and the context listing on the
+// files that standard input lists.
 //
 // The file `stdin` beside src/ has the trials: files for the two readers; sheets and the translations that they should have, and
-// their runs; translations that no translator writes, and their runs, also on rows; cells and their listings. The file `stdout` has
-// what each should answer by document 01, and by document 02 for rows (request 1), products (2), the length that is asked (3) and
-// labels (4). Files, translations and cells are worked out by hand from these and document 002, and so are the readers' answers and
-// the runs on rows; the steps and answers of the other runs, and of the trials for labels the translations and cells too, were worked
-// out by a model written from the documents alone. A record is its length, its kind and its fields; in a change, word 0 of a record
-// is its length, word 1 its kind, and the fields follow. A comment in quotation marks is the sentence that decides the trials below
-// it; above a sheet's records comments say what the sheet is, where the number before a node's record is the node's.
+// their runs; translations that no translator writes, and their runs, also on rows and for a hirer; cells and their listings. The
+// file `stdout` has what each should answer by document 01, and by document 02 for rows (request 1), products (2), the length that is
+// asked (3), labels (4) and hirers (5). Files, translations and cells are worked out by hand from these and document 002, and so are
+// the readers' answers, the runs on rows and the hirers' runs; the steps and answers of the other runs, and of the trials for labels
+// the translations and cells too, were worked out by a model written from the documents alone. A record is its length, its kind and
+// its fields; in a change, word 0 of a record is its length, word 1 its kind, and the fields follow. A comment in quotation marks is
+// the sentence that decides the trials below it; above a sheet's records comments say what the sheet is, where the number before a
+// node's record is the node's.
 // A line of `stdin` does what its first byte says, and goes on over the lines after it that begin with a blank:
 //   =  a new trial, or trials of one file, and its name; no word is written yet
 //   -  a heading
@@ -26,6 +27,7 @@
 //   u  the translation is run: steps, nesting, cells, bytes lent for cells, bytes of the translation, changes, and the readings
 //   w  the translation is run on rows, in one call and in single runs: rows, steps, nesting, cells, bytes lent for cells, bytes
 //      of the translation, bytes lent for records, changes, and the readings of all rows
+//   h  the translation is run for a hirer, and by the owner's run: the set, whose bit i is reading i, as a number, and then as `u`
 //   l  a context is listed: the cell, bytes of cells, bytes of output
 // A run shows its answer's record of kind 64. As many cells as it made are to be those of `c`, and all bytes past them, and those
 // of the output past the translation, are to be as they were before; where the run is refused, all bytes of both are. Of rows each
@@ -37,6 +39,7 @@
 // never has.
 // The interpreter with which `rt try` begins ends at its limit of steps, and the compiled runs go through.
 mod files;
+mod hirer_trial;
 mod length_trial;
 mod listing_trial;
 mod reader_trial;
@@ -48,6 +51,7 @@ mod translator_trial;
 
 use crate::files::fill;
 use crate::files::put_entry;
+use crate::hirer_trial::try_for_hirer;
 use crate::length_trial::try_length;
 use crate::listing_trial::try_listing;
 use crate::reader_trial::try_reader;
@@ -152,6 +156,9 @@ fn tried(
     }
     if letter == b'w' {
         try_rows(text, from, translation, cells);
+    }
+    if letter == b'h' {
+        try_for_hirer(text, from, translation, cells);
     }
     if letter == b'l' {
         try_listing(text, from, cells);

@@ -2,13 +2,9 @@
 use crate::files::change_words;
 use crate::files::copy;
 use crate::files::within;
-use crate::shown::show_number;
-use crate::shown::show_part;
+use crate::shown::show_named;
 use crate::shown::show_refusal;
-use crate::text::COMMA;
-use crate::text::entry_end;
 use crate::text::number;
-use crate::text::until;
 use definitions::Layout;
 use definitions::Verdict;
 use file_writer::SPACE_BYTES;
@@ -58,8 +54,6 @@ pub(crate) fn try_reader(text: &[u8], from: usize, layout: Layout, base: &Space)
     copy(base, SPACE_BYTES, &mut file);
     change_words(text, from, &mut file);
     let size = number(text, from) as usize;
-    show_number(b"  ", size, b" bytes");
-    show_part(text, until(text, from, COMMA), entry_end(text, from));
-    io::write_all(1, b": ");
+    show_named(b"  ", text, from, b": ");
     show(verdict_of(layout, &file, size));
 }

@@ -163,13 +163,13 @@ fn recorded(answer: Answer) -> Space {
 }
 
 // Shows the fields of an answer's record.
-fn show_answer(answer: Answer) {
+pub(crate) fn show_answer(answer: Answer) {
     let record = recorded(answer);
     show_record(&record);
 }
 
 // Whether two answers have the same record.
-fn same_record(one: Answer, other: Answer) -> bool {
+pub(crate) fn same_record(one: Answer, other: Answer) -> bool {
     let first = recorded(one);
     let second = recorded(other);
     agree(&first, &second)

@@ -8,7 +8,7 @@ use widths::wide;
 use widths::wide32;
 
 // A part of the text.
-pub(crate) fn show_part(text: &[u8], from: usize, end: usize) {
+fn show_part(text: &[u8], from: usize, end: usize) {
     if end <= text.len() {
         if from <= end {
             io::write_all(1, &text[from..end]);

@@ -1,7 +1,7 @@
 // The calls for programs in C and Rust: numbers, slices of numbers, and a reference to a slice of cells, which stays the same
 // slice. include/zifnora.h says the same for C.
 ghost use mathlib.Core.Path.{_≡_};
-ghost use Rattle.zifnora_c.specs.Promise.{translationCode, TranslatesC, RunsC, RunsRowsC, JoinsC, ListsC};
+ghost use Rattle.zifnora_c.specs.Promise.{translationCode, TranslatesC, RunsC, RunsForHirerC, RunsRowsC, JoinsC, ListsC};
 
 mod codes;
 
@@ -11,6 +11,7 @@ use crate::codes::written_code;
 use answer::write_answer;
 use batch::run_rows;
 use cells::listing::list_context;
+use hirer::run_for_hirer;
 use join::translate_and_run;
 use run::run;
 use translation_length::translated_length;
@@ -51,6 +52,31 @@ pub extern "C" fn zifnora_run_slice(
         return short;
     }
     let answer = run(file, readings, steps, nesting, cells_allowed, cells);
+    write_answer(answer, rec);
+    short
+}
+
+// Runs a translation for a hirer, with a set of allowed readings, and writes the answer's record.
+#[no_mangle]
+pub extern "C" fn zifnora_run_for_hirer_slice(
+    file: &[u8],
+    set: u32,
+    readings: &[i32],
+    steps: u32,
+    nesting: u32,
+    cells_allowed: u32,
+    cells: &mut &mut [u8],
+    rec: &mut [u8],
+) -> u64
+    ensures { λ r. ⌜ RunsForHirerC (now (file .entry)) set (now (readings .entry)) steps nesting «cells_allowed» (now (now (cells .entry))) (now (rec .entry)) r
+        (now (now (cells .exit))) (now (rec .exit))
+        × (now (cells .exit) .ptr ≡ now (cells .entry) .ptr) ⌝ }
+{
+    let short = record_code(rec);
+    if short != 0 {
+        return short;
+    }
+    let answer = run_for_hirer(file, set, readings, steps, nesting, cells_allowed, cells);
     write_answer(answer, rec);
     short
 }

@@ -1,5 +1,6 @@
 //! The calls with typed results.
 
+use crate::allowed::Allowed;
 use crate::answer::{Allowances, Answer, Ended, Record, Refusal};
 use crate::raw;
 use crate::sizes::{ANSWER_BYTES, CELL_BYTES, LABEL_BYTES, MOST_ROWS};
@@ -28,6 +29,23 @@ pub fn run(
 ) -> Ended {
     let mut record = [0; ANSWER_BYTES];
     let code = raw::run(translation, readings, allowances, cells, &mut record);
+    ended(code, &record)
+}
+
+/// Runs a translation for a hirer, who may use the allowed readings and no
+/// others. It is refused with `numbers::CLOSED_READING` where any node of the
+/// translation is another reading, reached or not; else it is `run`. Two lists
+/// of readings that agree on the allowed ones end alike, cells included.
+pub fn run_for_hirer(
+    translation: &[u8],
+    allowed: Allowed,
+    readings: &[i32],
+    allowances: Allowances,
+    cells: &mut [u8],
+) -> Ended {
+    let mut record = [0; ANSWER_BYTES];
+    let set = allowed.bits();
+    let code = raw::run_for_hirer(translation, set, readings, allowances, cells, &mut record);
     ended(code, &record)
 }
 

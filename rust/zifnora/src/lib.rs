@@ -4,10 +4,11 @@
 //! repository; nothing here but `build_sheet` and the decoding of records is
 //! code of its own.
 //!
-//! `translate`, `translated_length`, `run`, `run_rows`, `translate_and_run` and `list_context` have
-//! typed results; the module `raw` has the same calls with the codes and record
+//! `translate`, `translated_length`, `run`, `run_for_hirer`, `run_rows`, `translate_and_run` and
+//! `list_context` have typed results; the module `raw` has the same calls with the codes and record
 //! bytes as the archive gives them.
 
+mod allowed;
 mod answer;
 pub mod build_sheet;
 #[cfg(feature = "archive")]
@@ -18,10 +19,12 @@ pub mod numbers;
 pub mod raw;
 pub mod sizes;
 
+pub use allowed::Allowed;
 pub use answer::{Allowances, Answer, Ended, Fault, Record, Refusal, Stop};
 #[cfg(feature = "archive")]
 pub use calls::{
-    list_context, list_context_into, run, run_rows, translate, translate_and_run, translated_length,
+    list_context, list_context_into, run, run_for_hirer, run_rows, translate, translate_and_run,
+    translated_length,
 };
 
 /// The example of the README, which `cargo test` runs.

@@ -24,6 +24,8 @@ pub const SHORT_OUTPUT: u16 = 8;
 pub const BAD_READINGS: u16 = 9;
 /// Refusal: "bad allowance". A ceiling passed, nesting 0, or cells not lent.
 pub const BAD_ALLOWANCE: u16 = 10;
+/// Refusal: "closed". A reading node outside the hirer's set.
+pub const CLOSED_READING: u16 = 21;
 
 /// Stop: "steps".
 pub const NO_STEP: u16 = 11;
@@ -54,7 +56,7 @@ pub const CONSTRUCTOR: u16 = 100;
 
 /// A call or a run of this outcome was refused.
 pub fn is_refusal(outcome: u16) -> bool {
-    (TRUNCATED..=BAD_ALLOWANCE).contains(&outcome)
+    (TRUNCATED..=BAD_ALLOWANCE).contains(&outcome) || outcome == CLOSED_READING
 }
 
 /// A run of this outcome was stopped by an allowance.

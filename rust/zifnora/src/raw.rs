@@ -4,7 +4,7 @@
 
 use crate::answer::{Allowances, Refusal};
 
-/// A lent buffer as the three calls that run take it: address and length,
+/// A lent buffer as the four calls that run take it: address and length,
 /// behind a pointer. It is as it was after the call.
 #[repr(C)]
 #[derive(PartialEq)]
@@ -35,6 +35,20 @@ extern "C" {
     fn zifnora_run_slice(
         translation: *const u8,
         translation_length: usize,
+        readings: *const i32,
+        readings_count: usize,
+        steps: u32,
+        nesting: u32,
+        cells_allowed: u32,
+        cells: *mut Lent,
+        record: *mut u8,
+        record_length: usize,
+    ) -> u64;
+
+    fn zifnora_run_for_hirer_slice(
+        translation: *const u8,
+        translation_length: usize,
+        set: u32,
         readings: *const i32,
         readings_count: usize,
         steps: u32,
@@ -83,7 +97,7 @@ extern "C" {
     ) -> u64;
 }
 
-// Safety of the six calls: every pointer comes from a live slice of the
+// Safety of the seven calls: every pointer comes from a live slice of the
 // stated length; slices that are written are borrowed mutably, so that they
 // overlap no other; the pair of the cells is a local variable.
 
@@ -113,6 +127,37 @@ pub fn run(
         zifnora_run_slice(
             translation.as_ptr(),
             translation.len(),
+            readings.as_ptr(),
+            readings.len(),
+            allowances.steps,
+            allowances.nesting,
+            allowances.cells,
+            &mut lent,
+            record.as_mut_ptr(),
+            record.len(),
+        )
+    };
+    assert!(lent == Lent::of(cells), "the pair is as it was");
+    code
+}
+
+/// Runs a translation for a hirer, with bit i of `set` for reading i, and writes
+/// the answer record.
+#[inline]
+pub fn run_for_hirer(
+    translation: &[u8],
+    set: u32,
+    readings: &[i32],
+    allowances: Allowances,
+    cells: &mut [u8],
+    record: &mut [u8],
+) -> u64 {
+    let mut lent = Lent::of(cells);
+    let code = unsafe {
+        zifnora_run_for_hirer_slice(
+            translation.as_ptr(),
+            translation.len(),
+            set,
             readings.as_ptr(),
             readings.len(),
             allowances.steps,

@@ -35,7 +35,7 @@ returns-2 c =
     let if1 = c .before .before .before .before .before .before .if1 in
     let write-answer = c .before .before .write-answer in (
       run-written _ _ (record-code .ensures)
-          (if1 .left) (run .0) (write-answer .ensures),
+          (if1 .left) (run .0 .answer) (run .0 .cells) (write-answer .ensures),
       run .1,
     )
 

@@ -5,8 +5,8 @@ use Rattle.batch.proofs.checks.check_rows.Statement.{statement}
 use Rattle.batch.proofs.checks.check_rows.Tie as tie
 use Rattle.batch.proofs.checks.check_rows.Reads as reads
 use Rattle.batch.proofs.checks.check_rows.Lts as lts
-use Rattle.batch.proofs.checks.and_then.Reads as and-then-reads
-use Rattle.batch.proofs.checks.required.Reads as required-reads
+use Rattle.definitions.proofs.verdicts.and_then.Reads as and-then-reads
+use Rattle.definitions.proofs.verdicts.required.Reads as required-reads
 use Rattle.batch.proofs.checks.rows_allowed.Reads as rows-allowed-reads
 use Rattle.file_layout.proofs.layout.readings.Reads as readings-reads
 use Rattle.widths.proofs.wide.Reads as wide-reads

@@ -1,0 +1,2 @@
+pub mod Closing
+pub mod Refusals
