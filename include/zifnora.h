@@ -12,7 +12,8 @@
  * other calls less than 32 KiB. These bounds are measured, not proved. `bench` measures on files that nest in each way in which
  * visits can nest, to 1,024 open visits, and prints: a run 12,688 bytes, 80 more for each visit that stays open, 90,824 at nesting
  * 1,024; for a hirer 12,720 and 90,856; on several rows 12,736 and 90,872; the joined call 27,984 and 90,776; translating 19,200;
- * asking for a translation's length 16,640; listing a context 24. Another build of the archive has to be measured again.
+ * asking for a translation's length 16,640; listing a context 24, of one cell as of 8,192. Another build of the archive has to be
+ * measured again.
  */
 #ifndef ZIFNORA_H
 #define ZIFNORA_H

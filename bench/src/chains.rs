@@ -1,11 +1,11 @@
 //! Translations and sheets whose visits nest in one way until the nesting
-//! allowance stops them.
+//! allowance stops them; and cells that are one context.
 
 use zifnora::build_sheet::{
     build, call, case, if_else, number, operator, put_record, Expr, Program, ADD,
 };
 use zifnora::kinds::translation::*;
-use zifnora::sizes::MOST_FUNCTIONS;
+use zifnora::sizes::{MOST_CELLS, MOST_FUNCTIONS};
 
 type Record = (u16, Vec<u16>);
 
@@ -120,4 +120,10 @@ pub fn sheets() -> Vec<(&'static str, Vec<u8>)> {
             sheet(&[0], case(again(), vec![(0, build(0, vec![]))])),
         ),
     ]
+}
+
+/// Cells up to the ceiling, each with the one before it as previous cell.
+pub fn context() -> Vec<u8> {
+    let cell = |previous: u32| [0, previous as u16].map(u16::to_le_bytes).concat();
+    (0..MOST_CELLS).flat_map(cell).collect()
 }

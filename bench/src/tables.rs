@@ -7,12 +7,14 @@ use crate::measure::{
 use crate::plain::two_bytes;
 use crate::{chains, pad, programs, stack, templates};
 use compare::generate::{ceiling, damage::records, random::Random};
-use compare::interface::{Allowances, Interface};
+use compare::interface::{count, Allowances, Interface};
 use compare::model::answer::RECORD;
 use compare::model::correct;
 use zifnora::build_sheet::Program;
 use zifnora::numbers;
-use zifnora::sizes::{MOST_NESTING, MOST_NODES, MOST_ROWS, SHEET_BYTES, TRANSLATION_BYTES};
+use zifnora::sizes::{
+    LABEL_BYTES, MOST_CELLS, MOST_NESTING, MOST_NODES, MOST_ROWS, SHEET_BYTES, TRANSLATION_BYTES,
+};
 
 const MOST_STEPS: u32 = 20_000_000;
 
@@ -209,9 +211,20 @@ pub fn stack(subject: &dyn Interface) {
     stack_line("translated length", "(sheet at all limits)", &mut || {
         subject.translated_length(&greatest, u64::MAX);
     });
-    stack_line("list context", "", &mut || {
-        subject.list_context(&cells, 1, &mut out);
-    });
+    listing_stack_lines(subject);
+}
+
+/// Listing a context of one cell, and one of all cells.
+fn listing_stack_lines(subject: &dyn Interface) {
+    let cells = chains::context();
+    let mut out = vec![0; LABEL_BYTES * MOST_CELLS as usize];
+    for (name, cell) in [("(one cell)", 1), ("(all cells)", MOST_CELLS)] {
+        let labels = count(subject.list_context(&cells, cell, &mut out));
+        assert_eq!(labels, Some(cell as usize), "{name} listed");
+        stack_line("list context", name, &mut || {
+            subject.list_context(&cells, cell, &mut out);
+        });
+    }
 }
 
 fn rows_stack_row(subject: &dyn Interface, name: &str, file: &[u8]) {

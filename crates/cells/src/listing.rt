@@ -24,6 +24,8 @@ fn count_labels(cells: &[u8], c: usize) -> Listed
     let made = cells.len() / CELL_BYTES;
     let mut at = c;
     let mut n: usize = 0;
+    // Both walks here have to stay loops (document 02, request 6): a function that called itself for each cell would show as a
+    // page of equal frames in the service engineer's debugger.
     while at != 0 {
         if made < at {
             return Listed::Refused {
@@ -44,7 +46,8 @@ fn count_labels(cells: &[u8], c: usize) -> Listed
     Listed::Count(n)
 }
 
-// Writes the labels of the context of cell `c`, of which there are `count`.
+// Writes the labels of the context of cell `c`, of which there are `count`. This is a second walk, since 5 and 8 have to be known
+// before the first byte is written: a refusal leaves the output as it was.
 fn write_labels(cells: &[u8], c: usize, count: usize, out: &mut [u8])
     requires { ⌜ Listable (now cells) c count (length (now out)) ⌝ }
     ensures { λ _. ⌜ now (out .exit) ≡ written (labelsWithin (now (cells .entry)) c c) 0 (now (out .entry)) ⌝ }
