@@ -8,11 +8,11 @@
  * Platform: x86-64, System V calling convention; the archive is ELF. Build it with `rt staticlib zifnora_c`, and link
  * target/staticlib/libzifnora_c.a. It needs `memcpy` and `memset` from what it is linked with, and nothing else (`nm -u`).
  *
- * Stack: a run takes less than 96 KiB, for an owner or a hirer, on one row of readings or on several and in the joined call, the
+ * Stack: a run takes less than 112 KiB, for an owner or a hirer, on one row of readings or on several and in the joined call, the
  * other calls less than 32 KiB. These bounds are measured, not proved. `bench` measures on files that nest in each way in which
- * visits can nest, to 1,024 open visits, and prints: a run 12,688 bytes, 80 more for each visit that stays open, 90,824 at nesting
- * 1,024; for a hirer 12,720 and 90,856; on several rows 12,736 and 90,872; the joined call 27,984 and 90,776; translating 19,200;
- * asking for a translation's length 16,640; listing a context 24, of one cell as of 8,192. Another build of the archive has to be
+ * visits can nest, to 1,024 open visits, and prints: a run 13,720 bytes, 96 more for each visit that stays open, 107,224 at nesting
+ * 1,024; for a hirer 13,752 and 107,256; on several rows 13,768 and 107,272; the joined call 27,992 and 107,144; translating 19,208;
+ * asking for a translation's length 16,648; listing a context 24, of one cell as of 960. Another build of the archive has to be
  * measured again.
  */
 #ifndef ZIFNORA_H
@@ -30,9 +30,11 @@ extern "C" {
 #define ZIFNORA_TRANSLATION_BYTES 40960u  /* a translation; a buffer of this length is always long enough */
 #define ZIFNORA_READINGS 32u              /* readings */
 #define ZIFNORA_NESTING 1024u             /* the nesting allowance, from 1 */
-#define ZIFNORA_CELLS 8192u               /* the cell allowance, from 0 */
+#define ZIFNORA_CELLS 960u                /* the cell allowance, from 0 */
 #define ZIFNORA_ROWS 16u                  /* rows of readings in one call, from 0 */
-#define ZIFNORA_CELL_BYTES 4u             /* lent for each cell: label, number of the previous cell (two bytes each) */
+#define ZIFNORA_CELL_BYTES 68u            /* lent for each cell */
+#define ZIFNORA_ENTRY_BYTES 8u            /* an entry of a cell */
+#define ZIFNORA_ENTRIES 8u                /* entries of a cell, one for each position of a parameter */
 #define ZIFNORA_RECORD_BYTES 20u          /* the answer record */
 
 /* The kinds of records, with document 01's words. */
@@ -53,7 +55,7 @@ enum zifnora_sheet_kind {
 
 enum zifnora_translation_kind {
   ZIFNORA_TRANSLATION_HEAD = 33,
-  ZIFNORA_TRANSLATION_FUNCTION = 34,
+  ZIFNORA_TRANSLATION_FUNCTION = 34,    /* node count, parameter count */
   ZIFNORA_TRANSLATION_FORMAL_LIST = 35, /* "formal": the list of its actuals */
   ZIFNORA_TRANSLATION_NUMBER = 48,
   ZIFNORA_TRANSLATION_READING = 49,
@@ -87,7 +89,7 @@ enum zifnora_outcome {
   ZIFNORA_TRUNCATED = 1,       /* "cut": the file ends inside a record, or before the last one due */
   ZIFNORA_OVERSIZE = 2,        /* "oversize": the file is above its size */
   ZIFNORA_BAD_RECORD = 3,      /* "bad record": kind not due, length wrong, operator code above 5, or bytes after the last record */
-  ZIFNORA_BAD_COUNT = 4,       /* "bad count": a count outside its range, or the sum of node counts */
+  ZIFNORA_BAD_COUNT = 4,       /* "bad count": a count outside its range, or a sum of counts */
   ZIFNORA_OUT_OF_RANGE = 5,    /* "dangling": a reference or a parameter position out of range; a damaged cell */
   ZIFNORA_BAD_TREE = 6,        /* "misgrown": a child, case or pattern rule broken */
   ZIFNORA_BAD_ARGUMENTS = 7,   /* "misfit": argument count wrong, or `result` has parameters */
@@ -119,6 +121,17 @@ static inline int zifnora_is_stop(uint32_t outcome) { return outcome >= ZIFNORA_
 static inline int zifnora_is_fault(uint32_t outcome) {
   return outcome >= ZIFNORA_NUMBER_WANTED && outcome <= ZIFNORA_OVERFLOW;
 }
+
+/* A cell, in its 68 bytes, little-endian: label (2 bytes), number of the previous cell (2), then the entries by the position of the
+ * parameter. An entry remembers the value of that parameter of the call that made the cell, once it was worked out: its kind (2),
+ * then 4 bytes, then two zero bytes. The last two bytes of the eighth entry are no zero bytes but the number of the function that
+ * was called, from the cell's making on. A call makes a cell with empty entries and writes all of its 68 bytes, so what they held
+ * before does not count. */
+enum zifnora_entry_kind {
+  ZIFNORA_ENTRY_EMPTY = 0,      /* four zero bytes */
+  ZIFNORA_ENTRY_NUMBER = 1,     /* the number (4 bytes) */
+  ZIFNORA_ENTRY_CONSTRUCTOR = 2 /* node, context (2 each) */
+};
 
 /* What a call returns: bits 32 to 47 are a refusal's number, 0 where nothing is refused; the low 32 bits are a length or a count,
  * or the refusal's place (the record's number from 0; the cell's number for a listing; 0 for 2, 8, 9 and 10). */
@@ -194,7 +207,8 @@ uint64_t zifnora_translate_and_run_slice(const uint8_t *sheet, size_t sheet_leng
  *
  * zifnora_decode_record reads the record. Bytes of `record` past 20 stay as they were.
  *
- * `cells` starts with the cells made, 4 bytes each, and stays as it was past them; a refusal leaves it as it was. */
+ * `cells` has ZIFNORA_CELL_BYTES bytes for each cell allowed, else the run is refused with 10. It starts with the cells made and
+ * stays as it was past them; a refusal leaves it as it was. */
 static inline uint64_t zifnora_run(const uint8_t *translation, size_t translation_length, const int32_t *readings,
                                    size_t readings_count, uint32_t steps, uint32_t nesting, uint32_t cells_allowed,
                                    uint8_t *cells, size_t cells_length, uint8_t *record, size_t record_length) {

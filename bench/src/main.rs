@@ -28,17 +28,25 @@ fn subject() -> (&'static dyn Interface, &'static str) {
     )
 }
 
+type Table = fn(&dyn Interface);
+
+/// The tables, by the words that choose them.
+const TABLES: [(&str, Table); 5] = [
+    ("steps", tables::steps),
+    ("sizes", tables::sizes),
+    ("translations", tables::translations),
+    ("rows", tables::rows),
+    ("stack", tables::stack),
+];
+
 fn main() {
+    let chosen: Vec<String> = std::env::args().skip(1).collect();
     let (subject, title) = subject();
     println!("{title}; plain: a Rust run over decoded nodes, same process");
-    println!();
-    tables::steps(subject);
-    println!();
-    tables::sizes(subject);
-    println!();
-    tables::translations(subject);
-    println!();
-    tables::rows(subject);
-    println!();
-    tables::stack(subject);
+    for (word, table) in TABLES {
+        if chosen.is_empty() || chosen.iter().any(|other| other == word) {
+            println!();
+            table(subject);
+        }
+    }
 }

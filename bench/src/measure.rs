@@ -94,6 +94,8 @@ pub struct RunCost {
     pub plain_accept: f64,
     /// The plain reader, and the nodes decoded.
     pub plain_decode: f64,
+    /// A run, all of it.
+    pub whole: f64,
     /// A step.
     pub step: f64,
     pub plain_step: f64,
@@ -129,6 +131,7 @@ pub fn run_cost(on: &dyn Interface, file: &[u8]) -> RunCost {
         accept: start,
         plain_accept,
         plain_decode,
+        whole: all,
         step: (all - start) / steps,
         plain_step: plain_all / steps,
     }

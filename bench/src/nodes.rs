@@ -1,6 +1,6 @@
 //! The nodes of an accepted translation, decoded once for the plain run.
 
-use crate::plain::{two_bytes, Index};
+use crate::plain::{two_bytes, Function, Index};
 use zifnora::kinds::operators;
 use zifnora::kinds::translation as kinds;
 
@@ -17,7 +17,12 @@ pub enum Operator {
 pub enum Node {
     Number(i32),
     Reading(u16),
-    Formal(u16),
+    /// The formal's number, its function and its position there.
+    Formal {
+        formal: u16,
+        function: u16,
+        position: u16,
+    },
     Select {
         node: u16,
         index: u16,
@@ -34,6 +39,7 @@ pub enum Node {
     },
     Call {
         label: u16,
+        function: u16,
         body: u16,
     },
     Tuple {
@@ -58,15 +64,25 @@ pub struct Program {
 pub fn decode(file: &[u8], index: &Index) -> Program {
     let formals = index.formals.iter();
     let nodes = index.nodes.iter();
+    let places = places(&index.functions);
     Program {
-        body: index.bodies[0],
+        body: index.functions[0].body,
         formals: formals
             .map(|&at| fields(file, at as usize).collect())
             .collect(),
         nodes: nodes
-            .map(|&at| node(file, at as usize, &index.bodies))
+            .map(|&at| node(file, at as usize, &index.functions, &places))
             .collect(),
     }
+}
+
+/// Function and position of each formal.
+fn places(functions: &[Function]) -> Vec<(u16, u16)> {
+    let numbered = (0..).zip(functions);
+    let of_function = |(number, function): (u16, &Function)| {
+        (0..function.parameters).map(move |position| (number, position))
+    };
+    numbered.flat_map(of_function).collect()
 }
 
 fn fields(file: &[u8], at: usize) -> impl Iterator<Item = u16> + '_ {
@@ -76,12 +92,19 @@ fn fields(file: &[u8], at: usize) -> impl Iterator<Item = u16> + '_ {
         .map(|pair| u16::from_le_bytes([pair[0], pair[1]]))
 }
 
-fn node(file: &[u8], at: usize, bodies: &[u16]) -> Node {
+fn node(file: &[u8], at: usize, functions: &[Function], places: &[(u16, u16)]) -> Node {
     let field = |number: usize| two_bytes(file, at + 4 + 2 * number);
     match two_bytes(file, at + 2) {
         kinds::NUMBER => Node::Number((field(0) as u32 | (field(1) as u32) << 16) as i32),
         kinds::READING => Node::Reading(field(0)),
-        kinds::FORMAL => Node::Formal(field(0)),
+        kinds::FORMAL => {
+            let (function, position) = places[field(0) as usize];
+            Node::Formal {
+                formal: field(0),
+                function,
+                position,
+            }
+        }
         kinds::SELECT => Node::Select {
             node: field(0),
             index: field(1),
@@ -98,7 +121,8 @@ fn node(file: &[u8], at: usize, bodies: &[u16]) -> Node {
         },
         kinds::CALL => Node::Call {
             label: field(0),
-            body: bodies[field(1) as usize],
+            function: field(1),
+            body: functions[field(1) as usize].body,
         },
         kinds::TUPLE => Node::Tuple {
             tag: field(0),

@@ -3,16 +3,25 @@
 
 use zifnora::kinds::operators::EQUAL;
 use zifnora::kinds::translation as kinds;
-use zifnora::sizes::{MOST_FORMALS, MOST_FUNCTIONS, MOST_NODES, MOST_READINGS, TRANSLATION_BYTES};
+use zifnora::sizes::{
+    MOST_FIELDS, MOST_FORMALS, MOST_FUNCTIONS, MOST_NODES, MOST_READINGS, TRANSLATION_BYTES,
+};
 
 const HEAD_BYTES: usize = 12;
-const FUNCTION_BYTES: usize = 6;
+const FUNCTION_BYTES: usize = 8;
 
-/// Starts of formals and nodes, and the functions' bodies.
+/// Starts of formals and nodes, and the functions.
 pub struct Index {
     pub formals: Vec<u32>,
     pub nodes: Vec<u32>,
-    pub bodies: Vec<u16>,
+    pub functions: Vec<Function>,
+}
+
+#[derive(Clone, Copy)]
+pub struct Function {
+    /// The last node.
+    pub body: u16,
+    pub parameters: u16,
 }
 
 #[derive(Clone, Copy)]
@@ -27,13 +36,13 @@ pub fn two_bytes(file: &[u8], at: usize) -> u16 {
     u16::from_le_bytes([file[at], file[at + 1]])
 }
 
-/// Checks the file and makes the index; none where document 01 refuses.
+/// Checks the file and makes the index; none where it is refused.
 pub fn accept(file: &[u8]) -> Option<Index> {
     let counts = head(file)?;
     let mut index = Index {
         formals: Vec::with_capacity(counts.formals),
         nodes: Vec::with_capacity(counts.nodes),
-        bodies: bodies(file, counts)?,
+        functions: functions(file, counts)?,
     };
     let mut at = HEAD_BYTES + FUNCTION_BYTES * counts.functions;
     for _ in 0..counts.formals {
@@ -56,21 +65,24 @@ pub fn accept(file: &[u8]) -> Option<Index> {
     (at == file.len()).then_some(index)
 }
 
-/// The last node of each function.
-fn bodies(file: &[u8], counts: Counts) -> Option<Vec<u16>> {
-    let mut bodies = Vec::with_capacity(counts.functions);
-    let mut sum = 0;
+fn functions(file: &[u8], counts: Counts) -> Option<Vec<Function>> {
+    let mut functions = Vec::with_capacity(counts.functions);
+    let (mut nodes, mut formals) = (0, 0);
     for function in 0..counts.functions {
         let at = HEAD_BYTES + FUNCTION_BYTES * function;
         record(file, at, function_length)?;
-        let count = two_bytes(file, at + 4) as usize;
-        if count == 0 {
+        let [count, parameters] = [4, 6].map(|field| two_bytes(file, at + field) as usize);
+        if count == 0 || parameters > MOST_FIELDS {
             return None;
         }
-        sum += count;
-        bodies.push((sum - 1) as u16);
+        nodes += count;
+        formals += parameters;
+        functions.push(Function {
+            body: (nodes - 1) as u16,
+            parameters: parameters as u16,
+        });
     }
-    (sum == counts.nodes).then_some(bodies)
+    (nodes == counts.nodes && formals == counts.formals).then_some(functions)
 }
 
 fn head(file: &[u8]) -> Option<Counts> {

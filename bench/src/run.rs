@@ -1,11 +1,24 @@
 //! A plain Rust run to measure against, over nodes decoded before it starts;
-//! contexts are cells in the lent bytes. A visit calls itself for operands,
-//! conditions, scrutinees and selected nodes; its last visit is a loop's turn.
+//! contexts are cells in the lent bytes, which remember the values of formals.
+//! A visit calls itself for operands, conditions, scrutinees, selected nodes and
+//! actuals whose value is remembered; its last visit is a loop's turn.
 
 use crate::nodes::{Node, Operator, Program};
 use crate::plain::two_bytes;
 use compare::interface::Allowances;
 use zifnora::numbers;
+use zifnora::sizes::{CELL_BYTES, ENTRY_BYTES};
+
+/// Where the entries of a cell start, and where its callee stands.
+const FIRST_ENTRY: usize = 4;
+const CALLEE: usize = CELL_BYTES - 2;
+
+/// The kinds of entries.
+const EMPTY: u16 = 0;
+const NUMBER: u16 = 1;
+const CONSTRUCTOR: u16 = 2;
+
+type Cell = [u8; CELL_BYTES];
 
 #[derive(Clone, Copy)]
 enum Value {
@@ -77,7 +90,26 @@ impl<'a> Run<'a> {
                     let right = self.number(*right, context, open)?;
                     return compute(*operator, left, right).map(Value::Number);
                 }
-                Node::Formal(formal) => self.actual(*formal, context)?,
+                Node::Formal {
+                    formal,
+                    function,
+                    position,
+                } => {
+                    let cell = self.head(context)?;
+                    let own = two_bytes(cell, CALLEE) == *function;
+                    if own {
+                        if let Some(value) = remembered(cell, *position) {
+                            return Ok(value);
+                        }
+                    }
+                    let (actual, tail) = self.actual(*formal, cell)?;
+                    if own {
+                        let value = self.visit(actual, tail, open + 1)?;
+                        self.remember(context, *position, value);
+                        return Ok(value);
+                    }
+                    (actual, tail)
+                }
                 Node::Select { node, index } => {
                     let (tuple, context) = self.tuple(*node, context, open)?;
                     match (*index, self.fields(tuple)) {
@@ -89,7 +121,11 @@ impl<'a> Run<'a> {
                     let condition = self.number(*condition, context, open)?;
                     (if condition != 0 { *yes } else { *no }, context)
                 }
-                Node::Call { label, body } => (*body, self.cell(*label, context)?),
+                Node::Call {
+                    label,
+                    function,
+                    body,
+                } => (*body, self.cell(*label, context, *function)?),
                 Node::Case { scrutinee, clauses } => {
                     let (tuple, _) = self.tuple(*scrutinee, context, open)?;
                     (chosen(clauses, self.fields(tuple).0)?, context)
@@ -135,28 +171,69 @@ impl<'a> Run<'a> {
         }
     }
 
-    /// The actual that the head label names, and the tail.
-    fn actual(&self, formal: u16, context: u16) -> Result<(u16, u16), u16> {
+    /// The bytes of a context's head.
+    fn head(&self, context: u16) -> Result<&Cell, u16> {
         if context == 0 {
             return Err(numbers::NO_ACTUAL);
         }
-        let cell = &self.cells[4 * context as usize - 4..][..4];
+        let cells = &self.cells[CELL_BYTES * (context as usize - 1)..];
+        Ok(cells.first_chunk().expect("a whole cell"))
+    }
+
+    /// The actual that the head label names, and the tail.
+    fn actual(&self, formal: u16, cell: &Cell) -> Result<(u16, u16), u16> {
         let (label, tail) = (two_bytes(cell, 0), two_bytes(cell, 2));
         let actuals = &self.formals[formal as usize];
         let actual = actuals.get(label as usize).ok_or(numbers::NO_ACTUAL)?;
         Ok((*actual, tail))
     }
 
-    /// Adds a cell; its number.
-    fn cell(&mut self, label: u16, context: u16) -> Result<u16, u16> {
+    /// Adds a cell with empty entries; its number.
+    fn cell(&mut self, label: u16, context: u16, function: u16) -> Result<u16, u16> {
         if self.made == self.allowances.cells {
             return Err(numbers::NO_CELL);
         }
-        let cell = &mut self.cells[4 * self.made as usize..][..4];
+        let cells = &mut self.cells[CELL_BYTES * self.made as usize..];
+        let cell: &mut Cell = cells.first_chunk_mut().expect("a whole cell");
+        *cell = [0; CELL_BYTES];
         cell[..2].copy_from_slice(&label.to_le_bytes());
-        cell[2..].copy_from_slice(&context.to_le_bytes());
+        cell[2..FIRST_ENTRY].copy_from_slice(&context.to_le_bytes());
+        cell[CALLEE..].copy_from_slice(&function.to_le_bytes());
         self.made += 1;
         Ok(self.made as u16)
+    }
+
+    /// Writes the entry of a position, all but its last two bytes.
+    fn remember(&mut self, context: u16, position: u16, value: Value) {
+        let (kind, bytes) = match value {
+            Value::Number(number) => (NUMBER, number.to_le_bytes()),
+            Value::Tuple { node, context } => {
+                let both = node as u32 | (context as u32) << 16;
+                (CONSTRUCTOR, both.to_le_bytes())
+            }
+        };
+        let at = CELL_BYTES * (context as usize - 1) + entry_at(position);
+        let entry = &mut self.cells[at..][..6];
+        entry[..2].copy_from_slice(&kind.to_le_bytes());
+        entry[2..].copy_from_slice(&bytes);
+    }
+}
+
+fn entry_at(position: u16) -> usize {
+    FIRST_ENTRY + ENTRY_BYTES * position as usize
+}
+
+/// What a cell remembers at a position.
+fn remembered(cell: &Cell, position: u16) -> Option<Value> {
+    let entry = &cell[entry_at(position)..][..6];
+    let [low, high] = [2, 4].map(|at| two_bytes(entry, at));
+    match two_bytes(entry, 0) {
+        EMPTY => None,
+        NUMBER => Some(Value::Number((low as u32 | (high as u32) << 16) as i32)),
+        _ => Some(Value::Tuple {
+            node: low,
+            context: high,
+        }),
     }
 }
 

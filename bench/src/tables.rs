@@ -8,8 +8,8 @@ use crate::plain::two_bytes;
 use crate::{chains, pad, programs, stack, templates};
 use compare::generate::{ceiling, damage::records, random::Random};
 use compare::interface::{count, Allowances, Interface};
-use compare::model::answer::RECORD;
-use compare::model::correct;
+use compare::model::answer::{Answer, RECORD};
+use compare::model::{correct, plain as forgetful, translation, Correct};
 use zifnora::build_sheet::Program;
 use zifnora::numbers;
 use zifnora::sizes::{
@@ -23,29 +23,48 @@ fn nodes(program: &Program) -> usize {
     functions.map(|function| function.1.size()).sum()
 }
 
-/// The greatest input whose run ends with a number within the limits.
+/// The allowances of a run without remembering, with the cells that it could
+/// have when cells remembered nothing.
+const WITHOUT: Allowances = Allowances {
+    steps: MOST_STEPS,
+    nesting: MOST_NESTING,
+    cells: 8192,
+};
+
+/// The answer of the rule without remembering.
+fn without(file: &[u8]) -> Answer {
+    let read = translation::read(&Correct, file).expect("accepted");
+    forgetful::run(&read, &[], WITHOUT)
+}
+
+/// The greatest input whose run ends with a number within the limits, with and
+/// without remembering.
 fn fitting(benchmark: &programs::Benchmark) -> (i32, Program) {
     let mut cells = lent_cells();
     for &input in &benchmark.inputs {
         let program = (benchmark.program)(input);
         let file = translated(correct(), &program.encode());
-        if plain_run(&file, MOST_STEPS, &mut cells).outcome == numbers::NUMBER {
+        let ended = plain_run(&file, MOST_STEPS, &mut cells).outcome;
+        if [ended, without(&file).outcome] == [numbers::NUMBER; 2] {
             return (input, program);
         }
     }
     panic!("{}: no input fits", benchmark.name)
 }
 
-/// The cost of a step.
+/// The steps with and without remembering, and the cost of a step and of a run.
 pub fn steps(subject: &dyn Interface) {
-    println!("Programs of document 002, the greatest input that fits (nesting 1,024, cells 8,192)");
-    println!("program   input  nodes  bytes      value  cells    steps   ns/step  plain  ratio");
+    println!("Programs of document 002, the greatest input that fits (nesting 1,024, cells 960)");
+    println!("and fits without remembering (nesting 1,024, cells 8,192)");
+    print!("program   input  nodes  bytes      value  cells    steps  without: cells  steps  part");
+    println!("   ns/step  plain  ratio    us/run");
     for benchmark in programs::all() {
         let (input, program) = fitting(&benchmark);
         let file = translated(subject, &program.encode());
+        let before = without(&file);
         let cost = run_cost(subject, &file);
-        println!(
-            "{:<9} {:>5} {:>6} {:>6} {:>10} {:>6} {:>8} {:>9.2} {:>6.2} {:>6.2}",
+        print!(
+            "{:<9} {:>5} {:>6} {:>6} {:>10} {:>6} {:>8} {:>15} {:>6} {:>5.2}",
             benchmark.name,
             input,
             nodes(&program),
@@ -53,9 +72,16 @@ pub fn steps(subject: &dyn Interface) {
             cost.answer.value,
             cost.answer.cells,
             cost.answer.steps,
+            before.cells,
+            before.steps,
+            cost.answer.steps as f64 / before.steps as f64
+        );
+        println!(
+            " {:>9.2} {:>6.2} {:>6.2} {:>9.3}",
             cost.step,
             cost.plain_step,
-            cost.step / cost.plain_step
+            cost.step / cost.plain_step,
+            cost.whole / 1000.0
         );
     }
 }

@@ -1,15 +1,15 @@
 //! Compares one call: the answers and whole buffers of both sides, the answers
-//! of a translated sheet's runs with call by name, and with those of the
-//! translation with a label for each call; a hirer's run with the same run on
-//! other closed readings, and with the owner's.
+//! of a translated sheet's runs with call by name, with those of the rule
+//! without remembering, and with those of the translation with a label for each
+//! call; a hirer's run with the same run on other closed readings, and with the
+//! owner's.
 
-use crate::call::{inner, After, Call, OneRun};
+use crate::call::{inner, After, Call};
 use crate::hired::{differing_with_closed, differing_with_owner};
 use crate::interface::{shown, Interface};
 use crate::labelling::{differing_run, unshared};
 use crate::model::answer::{Answer, RECORD};
-use crate::model::sheet::Sheet;
-use crate::model::{name, Behaviour, Correct};
+use crate::own_answer::{by_name, by_plain_rule};
 use std::fmt::Display;
 
 /// What a sheet's runs, and a hirer's, are compared with beside the other
@@ -17,6 +17,7 @@ use std::fmt::Display;
 #[derive(Clone, Copy, Debug, PartialEq, Eq)]
 pub struct Yardsticks {
     pub call_by_name: bool,
+    pub plain_rule: bool,
     pub old_labelling: bool,
     pub closed_readings: bool,
     pub owners_run: bool,
@@ -25,6 +26,7 @@ pub struct Yardsticks {
 impl Yardsticks {
     pub const ALL: Yardsticks = Yardsticks {
         call_by_name: true,
+        plain_rule: true,
         old_labelling: true,
         closed_readings: true,
         owners_run: true,
@@ -32,6 +34,7 @@ impl Yardsticks {
 
     pub const NONE: Yardsticks = Yardsticks {
         call_by_name: false,
+        plain_rule: false,
         old_labelling: false,
         closed_readings: false,
         owners_run: false,
@@ -48,6 +51,10 @@ pub struct Difference {
 /// What the reference left of a call on which both sides agree.
 pub struct Agreed {
     pub after: After,
+    /// How many of its runs were compared with call by name, and with the rule
+    /// without remembering.
+    pub by_name: u64,
+    pub by_plain_rule: u64,
     /// Whether the call was compared with one of the old labelling.
     pub old_labelling: bool,
 }
@@ -65,11 +72,16 @@ pub fn check(
         what: format!("{}: {what}", call.name()),
         call: Box::new(call.clone()),
     };
-    let (theirs, after) = both(call, subject, reference, by).map_err(difference)?;
+    let Both {
+        theirs,
+        ours,
+        by_name,
+        by_plain_rule,
+    } = both(call, subject, reference, by).map_err(difference)?;
     let each = by.old_labelling.then(|| unshared(call)).flatten();
     if let Some(each) = &each {
         let what = match both(each, subject, reference, by) {
-            Ok((before, _)) => differing_run(call, &theirs, each, &before),
+            Ok(before) => differing_run(call, &theirs, each, &before.theirs),
             Err(what) => Some(what),
         };
         if let Some(what) = what {
@@ -86,26 +98,42 @@ pub fn check(
         return Err(difference(what));
     }
     Ok(Agreed {
-        after,
+        after: ours,
+        by_name,
+        by_plain_rule,
         old_labelling: each.is_some(),
     })
 }
 
-/// What the subject and the reference left, if they agree with each other and
-/// with call by name; else what differs.
+/// What the subject and the reference left, and how many runs were compared.
+struct Both {
+    theirs: After,
+    ours: After,
+    by_name: u64,
+    by_plain_rule: u64,
+}
+
+/// What both sides left, if they agree with each other, with call by name and
+/// with the rule without remembering; else what differs.
 fn both(
     call: &Call,
     subject: &dyn Interface,
     reference: &dyn Interface,
     by: Yardsticks,
-) -> Result<(After, After), String> {
+) -> Result<Both, String> {
     let ours = call.perform(reference);
     let theirs = call.perform(subject);
-    let meaning = || by.call_by_name.then(|| against_meaning(call, &theirs));
-    match differs(["interface", "model"], &theirs, &ours).or_else(|| meaning().flatten()) {
-        Some(what) => Err(what),
-        None => Ok((theirs, ours)),
+    if let Some(what) = differs(["interface", "model"], &theirs, &ours) {
+        return Err(what);
     }
+    let by_name = by.call_by_name.then(|| by_name(call, &theirs));
+    let by_plain_rule = by.plain_rule.then(|| by_plain_rule(call, &theirs));
+    Ok(Both {
+        by_name: by_name.unwrap_or(Ok(0))?,
+        by_plain_rule: by_plain_rule.unwrap_or(Ok(0))?,
+        theirs,
+        ours,
+    })
 }
 
 /// Describes the first difference between two calls, which are called so.
@@ -146,31 +174,4 @@ fn differing_byte(names: [&str; 2], what: &str, one: &[u8], other: &[u8]) -> Opt
     let offset = at as i64 - (one.len() - lent) as i64 / 2;
     let shown = each(names, [one[at], other[at]]);
     Some(format!("{what}: byte {offset} of {lent}: {shown}"))
-}
-
-/// A number, constructor or run fault of a translated sheet's run has to be
-/// the sheet's own answer.
-fn against_meaning(call: &Call, after: &After) -> Option<String> {
-    let sheet = call.sheet()?;
-    let mut runs = call.runs(after);
-    runs.retain(|run| run.answer.is_own());
-    if runs.is_empty() {
-        return None;
-    }
-    match Correct.read_sheet(sheet) {
-        Ok(read) => runs.iter().find_map(|run| compare_meaning(&read, run)),
-        Err(refusal) => Some(format!("run of a sheet that is refused: {refusal:?}")),
-    }
-}
-
-/// Call by name never takes more steps, nor more depth, than the run, so the
-/// run's own figures are a budget within which it must answer.
-fn compare_meaning(sheet: &Sheet, run: &OneRun) -> Option<String> {
-    let answer = &run.answer;
-    let nesting = run.allowances.nesting;
-    let own = name::answer(sheet, run.readings, answer.steps as u64, nesting);
-    if own.outcome() == Some((answer.outcome, answer.value)) {
-        return None;
-    }
-    Some(format!("call by name gives {own:?}, the run {answer:?}"))
 }

@@ -155,7 +155,7 @@ impl Examiner<'_> {
             4 if random.chance(10) => random.bits() as u32,
             _ => random.below(lent.len() / CELL_BYTES + 2) as u32,
         };
-        let mut scratch = vec![0; 2 * lent.len()];
+        let mut scratch = vec![0; LABEL_BYTES * (lent.len() / CELL_BYTES)];
         let labels = count(self.reference.list_context(&lent, cell, &mut scratch));
         let room = sizes::room(random, LABEL_BYTES * labels.unwrap_or(3));
         let out = random.bytes(room);
@@ -175,7 +175,7 @@ impl Examiner<'_> {
         let count = random.between(65_536, 65_600);
         let mut cells = random.bytes(CELL_BYTES * count);
         for (number, cell) in cells.chunks_exact_mut(CELL_BYTES).enumerate() {
-            cell[2..].copy_from_slice(&(number.min(65_535) as u16).to_le_bytes());
+            cell[2..4].copy_from_slice(&(number.min(65_535) as u16).to_le_bytes());
         }
         let cell = random.pick(&[65_535, 65_536, count, count + 1]) as u32;
         let labels = (cell as usize).min(65_536);
@@ -189,17 +189,23 @@ impl Examiner<'_> {
 /// Some of the cells that a run left, now and then damaged; it made cells in
 /// the first `made` bytes.
 fn some_cells(random: &mut Random, cells: &[u8], made: usize) -> Vec<u8> {
-    let mut lent = match random.below(4) {
-        0 => cells[..made.min(cells.len())].to_vec(),
-        1 => cells[..random.below(cells.len().min(made + 12) + 1)].to_vec(),
-        _ => cells[..cells.len().min(made + random.below(9))].to_vec(),
+    let beyond = match random.below(4) {
+        0 => 0,
+        1 => random.below(3 * CELL_BYTES + 1),
+        2 => random.pick(&[0, 1, 2, 3, 4, CELL_BYTES - 1, CELL_BYTES]),
+        _ => random.below(9),
     };
-    if random.chance(30) {
+    let end = match random.below(5) {
+        0 => random.below(made + beyond + 1),
+        _ => made + beyond,
+    };
+    let mut lent = cells[..end.min(cells.len())].to_vec();
+    let whole = lent.len() / CELL_BYTES;
+    if random.chance(30) && whole > 0 {
         for _ in 0..random.between(1, 3) {
-            if !lent.is_empty() {
-                let at = random.below(lent.len());
-                lent[at] = random.below(1 + lent.len() / 3) as u8;
-            }
+            // Mostly the number of the previous cell.
+            let at = random.pick(&[0, 1, 2, 2, 2, 2, 3, 4, CELL_BYTES - 1]);
+            lent[CELL_BYTES * random.below(whole) + at] = random.below(whole + 2) as u8;
         }
     }
     lent

@@ -17,6 +17,7 @@ mod hired;
 pub mod interface;
 mod labelling;
 pub mod model;
+mod own_answer;
 pub mod replay;
 pub mod selftest;
 pub mod tally;

@@ -5,6 +5,7 @@ use crate::check::{Difference, Yardsticks};
 use crate::examine::Examiner;
 use crate::faulty::listed::{all, AGAINST_LABELLING, AGAINST_MEANING};
 use crate::faulty::listed_hirer::{AGAINST_CLOSED, AGAINST_OWNER};
+use crate::faulty::listed_remembering::AGAINST_PLAIN;
 use crate::faulty::Faulty;
 use crate::generate::case::{damaged, well_formed, Case};
 use crate::generate::random::Random;
@@ -81,6 +82,10 @@ pub fn selftest(subject: &dyn Interface, seed: u64) -> bool {
         call_by_name: true,
         ..Yardsticks::NONE
     };
+    let plain_rule = Yardsticks {
+        plain_rule: true,
+        ..Yardsticks::NONE
+    };
     let old_labelling = Yardsticks {
         old_labelling: true,
         ..Yardsticks::NONE
@@ -95,6 +100,7 @@ pub fn selftest(subject: &dyn Interface, seed: u64) -> bool {
     };
     let alone = [
         ("call by name", call_by_name, AGAINST_MEANING),
+        ("the rule without remembering", plain_rule, AGAINST_PLAIN),
         ("the old labelling", old_labelling, AGAINST_LABELLING),
         ("other closed readings", closed_readings, AGAINST_CLOSED),
         ("the owner's run", owners_run, AGAINST_OWNER),

@@ -22,8 +22,11 @@ pub struct Tally {
     /// Rows of batches by outcome.
     rows: [u64; 128],
     pub steps: u64,
-    /// Answers that were also compared with call by name.
+    /// Answers of sheets, those of them that were also compared with call by
+    /// name, and with the rule without remembering.
+    pub own: u64,
     pub by_name: u64,
+    pub by_plain_rule: u64,
     /// Runs that were also compared with those of the old labelling.
     pub by_labelling: u64,
     /// Hirer's runs that were also compared with the owner's.
@@ -39,7 +42,9 @@ impl Default for Tally {
             counts: [[0; 128]; KINDS.len()],
             rows: [0; 128],
             steps: 0,
+            own: 0,
             by_name: 0,
+            by_plain_rule: 0,
             by_labelling: 0,
             by_owner: 0,
             pairs: [0; 2],
@@ -64,6 +69,8 @@ impl Tally {
             self.by_owner += !closed as u64;
             self.pairs[closed as usize] += is_pair(call, after) as u64;
         }
+        self.by_name += agreed.by_name;
+        self.by_plain_rule += agreed.by_plain_rule;
         let mut number = refusal(after.code) as usize;
         for run in call.runs(after) {
             let outcome = run.answer.outcome as usize;
@@ -72,7 +79,7 @@ impl Tally {
                 _ => number = outcome,
             }
             self.steps += run.answer.steps as u64;
-            self.by_name += (call.sheet().is_some() && run.answer.is_own()) as u64;
+            self.own += (call.sheet().is_some() && run.answer.is_own()) as u64;
             // 8 is the translation's.
             let fits = run.answer.outcome != SHORT_OUTPUT;
             self.by_labelling += (agreed.old_labelling && fits) as u64;
@@ -103,7 +110,10 @@ impl Tally {
             self.calls(),
             self.steps
         );
-        println!("  answers compared with call by name {}", self.by_name);
+        println!(
+            "  answers of sheets {}, compared with call by name {}, with the rule without remembering {}",
+            self.own, self.by_name, self.by_plain_rule
+        );
         println!(
             "  runs compared with those of the old labelling {}",
             self.by_labelling

@@ -1,5 +1,5 @@
-//! The deliberate faults; `listed.rs` and `listed_hirer.rs` have their
-//! descriptions.
+//! The deliberate faults; `listed.rs`, `listed_remembering.rs` and
+//! `listed_hirer.rs` have their descriptions.
 
 #[derive(Clone, Copy, Debug, PartialEq, Eq)]
 pub enum Fault {
@@ -57,6 +57,7 @@ pub enum Fault {
     ListOldestFirst,
     ListPlace,
     ListPartCell,
+    ListShortCells,
     SizeLimit,
     UnsignedLess,
     BatchRowReadings,
@@ -74,6 +75,27 @@ pub enum Fault {
     BatchCellsCleared,
     BatchStepsShared,
     BatchEndsEarly,
+    ParametersUnchecked,
+    FormalsUnchecked,
+    ParametersNotWritten,
+    CellCeiling,
+    LentByteShort,
+    NextPosition,
+    PositionInFile,
+    EntriesLeft,
+    EntriesUsed,
+    CalleeOverwritten,
+    CalleeCleared,
+    CalleeMissing,
+    ForeignUsed,
+    ForeignRemembered,
+    ContextForNode,
+    EntryExchanged,
+    RememberedUncounted,
+    FaultRemembered,
+    StopRemembered,
+    ConstructorForgotten,
+    NothingRemembered,
     HirerSetIgnored,
     HirerSetShifted,
     HirerComplement,

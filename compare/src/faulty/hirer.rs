@@ -82,7 +82,7 @@ impl HirerBehaviour for Faulty {
 /// with numbers.
 fn reaches_closed(faulty: &Faulty, file: &[u8], hire: Hire, lent: &[u8]) -> bool {
     let read = translation::read(faulty, file).expect("21 is after its refusals");
-    if run::check_input(&read, hire.readings, hire.allowances, lent.len()).is_err() {
+    if run::check_input(faulty, &read, hire.readings, hire.allowances, lent.len()).is_err() {
         return false;
     }
     let ends = |in_place: Node| {
@@ -117,7 +117,7 @@ fn bad_input(
     number: u16,
 ) -> Option<Refusal> {
     let read = translation::read(faulty, file).ok()?;
-    let refusal = run::check_input(&read, hire.readings, hire.allowances, lent).err()?;
+    let refusal = run::check_input(faulty, &read, hire.readings, hire.allowances, lent).err()?;
     (refusal.number == number).then_some(refusal)
 }
 

@@ -1,8 +1,10 @@
-//! The deliberate faults, each with its description; those in the run for a
-//! hirer are in `listed_hirer.rs`.
+//! The deliberate faults, each with its description; those in what cells
+//! remember are in `listed_remembering.rs`, those in the run for a hirer in
+//! `listed_hirer.rs`.
 
 use super::fault::Fault;
 use super::listed_hirer::HIRER;
+use super::listed_remembering::REMEMBERING;
 
 /// Faults that the runs with a label for each call alone have to find, with
 /// both sides wrong alike.
@@ -35,6 +37,9 @@ pub const AGAINST_MEANING: &[Fault] = &[
     Fault::FirstClause,
     Fault::RightBeforeCheck,
     Fault::UnsignedLess,
+    Fault::NextPosition,
+    Fault::EntriesUsed,
+    Fault::ContextForNode,
     Fault::BatchRowReadings,
     Fault::BatchRecordPlace,
 ];
@@ -44,7 +49,7 @@ pub const AGAINST_MEANING: &[Fault] = &[
 pub type Listed = (Fault, &'static str, u64);
 
 pub fn all() -> impl Iterator<Item = Listed> {
-    OWNER.iter().chain(HIRER).copied()
+    OWNER.iter().chain(REMEMBERING).chain(HIRER).copied()
 }
 
 const OWNER: &[Listed] = &[

@@ -7,18 +7,21 @@ pub mod fault;
 mod hirer;
 pub mod listed;
 pub mod listed_hirer;
+pub mod listed_remembering;
 mod reading;
+mod remembering;
 mod running;
 mod sharing;
 mod translating;
 
 use crate::interface::Allowances;
 use crate::model::answer::Answer;
+use crate::model::cells::Value;
 use crate::model::records::{Record, Records};
-use crate::model::run::{self, Run, Value};
+use crate::model::run::{self, Run};
 use crate::model::sheet::{self, Sheet};
 use crate::model::translate::Labelling;
-use crate::model::translation::Translation;
+use crate::model::translation::{self, Translation};
 use crate::model::trees::Tree;
 use crate::model::{joined, listing, operator, rules, translate, Behaviour, Refusal};
 use fault::Fault;
@@ -61,6 +64,14 @@ impl Behaviour for Faulty {
             _ => place,
         };
         sheet::check_sum(counts, nodes_due, place)
+    }
+
+    fn parameters_fit(&self, count: u16) -> bool {
+        self.0 == Fault::ParametersUnchecked || translation::parameters_fit(count)
+    }
+
+    fn formals_fit(&self, sum: u64, due: u16) -> bool {
+        self.0 == Fault::FormalsUnchecked || sum == due as u64
     }
 
     fn check_references(&self, sheet: &Sheet) -> Result<(), Refusal> {
@@ -129,6 +140,7 @@ impl Behaviour for Faulty {
             Fault::LabelSkipped => sharing::skip_labels(translation),
             Fault::LastCallListed => sharing::list_last_calls(sheet, translation),
             Fault::IndexNotRaised => translating::lower_indices(translation),
+            Fault::ParametersNotWritten => remembering::without_parameters(translation),
             _ => translation,
         }
     }
@@ -188,6 +200,10 @@ impl Behaviour for Faulty {
             Fault::AllowanceFirst => running::allowance_first(result, allowances, lent),
             _ => result,
         }
+    }
+
+    fn bad_allowance(&self, allowances: Allowances, lent: usize) -> bool {
+        running::wrong_allowance(self.0, allowances, lent)
     }
 
     fn run_accepted(
@@ -275,6 +291,7 @@ impl Behaviour for Faulty {
             Fault::ListOldestFirst => translating::list_oldest_first(lent, cell, out),
             Fault::ListPlace => translating::list_other_place(lent, cell, out),
             Fault::ListPartCell => translating::list_part_cell(lent, cell, out),
+            Fault::ListShortCells => translating::list_short_cells(lent, cell, out),
             _ => listing::list(lent, cell, out),
         }
     }

@@ -4,11 +4,13 @@ use super::fault::Fault;
 use super::Faulty;
 use crate::interface::Allowances;
 use crate::model::answer::Answer;
-use crate::model::run::{bad_allowance, Run, Value};
+use crate::model::cells::Value;
+use crate::model::run::{bad_allowance, Run};
 use crate::model::translation::Translation;
 use crate::model::Refusal;
 use zifnora::kinds::operators::{ADD, DIVIDE, LESS, MULTIPLY};
 use zifnora::numbers;
+use zifnora::sizes::MOST_CELLS;
 
 /// 10 in place of 9 where both hold.
 pub fn allowance_first(
@@ -23,6 +25,24 @@ pub fn allowance_first(
             false => refusal,
         }
     })
+}
+
+/// Whether a fault takes allowances for bad.
+pub fn wrong_allowance(fault: Fault, allowances: Allowances, lent: usize) -> bool {
+    match fault {
+        Fault::CellCeiling => {
+            let cells = allowances.cells.min(MOST_CELLS);
+            bad_allowance(
+                Allowances {
+                    cells,
+                    ..allowances
+                },
+                lent,
+            )
+        }
+        Fault::LentByteShort => bad_allowance(allowances, lent + 1),
+        _ => bad_allowance(allowances, lent),
+    }
 }
 
 /// One cell or one open visit more than is allowed.

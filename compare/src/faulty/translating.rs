@@ -4,6 +4,7 @@
 use super::fault::Fault;
 use super::Faulty;
 use crate::model::answer::Answer;
+use crate::model::cells::FIRST_ENTRY;
 use crate::model::records::two_bytes;
 use crate::model::translation::{Node, Translation};
 use crate::model::{joined, listing, Behaviour, Refusal};
@@ -105,13 +106,21 @@ pub fn list_other_place(lent: &[u8], cell: u32, out: &mut [u8]) -> Result<u32, R
     })
 }
 
-/// Takes two bytes past the last whole cell for a cell with that label.
+/// Takes label and previous past the last whole cell for a cell.
 pub fn list_part_cell(lent: &[u8], cell: u32, out: &mut [u8]) -> Result<u32, Refusal> {
     let mut longer = lent.to_vec();
-    let part = lent.len() % CELL_BYTES;
-    if part >= LABEL_BYTES {
-        longer.truncate(lent.len() - part + LABEL_BYTES);
-        longer.extend_from_slice(&[0, 0]);
+    if lent.len() % CELL_BYTES >= FIRST_ENTRY {
+        longer.resize(lent.len().next_multiple_of(CELL_BYTES), 0);
     }
     listing::list(&longer, cell, out)
+}
+
+/// Takes label and previous alone for a cell.
+pub fn list_short_cells(lent: &[u8], cell: u32, out: &mut [u8]) -> Result<u32, Refusal> {
+    let mut cells = Vec::new();
+    for short in lent.chunks_exact(FIRST_ENTRY) {
+        cells.extend_from_slice(short);
+        cells.resize(cells.len() + CELL_BYTES - FIRST_ENTRY, 0);
+    }
+    listing::list(&cells, cell, out)
 }

@@ -2,7 +2,7 @@
 //! odd files. A case depends on the seed and its number only.
 
 use super::random::Random;
-use super::{ceiling, damage, sheet, targeted, template, translation};
+use super::{ceiling, damage, foreign, regroup, sheet, targeted, template, translation};
 use crate::model::{Behaviour, Correct};
 use zifnora::sizes::{SHEET_BYTES, TRANSLATION_BYTES};
 
@@ -50,9 +50,15 @@ pub fn damaged(seed: u64, number: u64) -> (Case, Random) {
             let file = sheet::sheet(&mut random);
             Case::Sheet(changed(&mut random, file, targeted::break_rules))
         }
-        120..=149 => {
+        120..=129 => {
             let file = translated(&sheet::sheet(&mut random));
             Case::Translation(changed(&mut random, file, either))
+        }
+        130..=139 => Case::Translation(foreign::foreign(&mut random)),
+        140..=149 => {
+            let mut file = translated(&sheet::sheet(&mut random));
+            regroup::regroup(&mut random, &mut file);
+            Case::Translation(file)
         }
         150..=179 => Case::Translation(translation::translation(&mut random)),
         _ => {

@@ -198,10 +198,11 @@ fn lengthen(random: &mut Random, file: &mut Vec<u8>, record: (usize, usize)) {
 /// Adds a number as the last node, with the counts kept consistent.
 fn add_node(file: &mut Vec<u8>, records: &[(usize, usize)]) {
     let kind = get(file, records[0].0 + 2);
-    let (function, number) = if kind == sheet::HEAD {
-        (sheet::FUNCTION, sheet::NUMBER)
+    // A sheet's function has its node count last, a translation's first.
+    let (function, number, field) = if kind == sheet::HEAD {
+        (sheet::FUNCTION, sheet::NUMBER, 6)
     } else {
-        (translation::FUNCTION, translation::NUMBER)
+        (translation::FUNCTION, translation::NUMBER, 4)
     };
     let last = records
         .iter()
@@ -210,7 +211,10 @@ fn add_node(file: &mut Vec<u8>, records: &[(usize, usize)]) {
     let (Some(last), HEAD_BYTES) = (last, records[0].1) else {
         return;
     };
-    let count_at = last.0 + last.1 - 2;
+    if last.1 < field + 2 {
+        return;
+    }
+    let count_at = last.0 + field;
     let (total, count) = (get(file, 10), get(file, count_at));
     set(file, 10, total.wrapping_add(1));
     set(file, count_at, count.wrapping_add(1));

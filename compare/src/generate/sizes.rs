@@ -6,7 +6,7 @@ use crate::model::answer::RECORD;
 use zifnora::sizes::{CELL_BYTES, MOST_CELLS, MOST_NESTING, MOST_ROWS};
 
 /// Bytes are lent for no more cells than these, whatever is allowed.
-pub const CELLS_LENT: usize = 8200;
+pub const CELLS_LENT: usize = 970;
 
 /// Allowances: mostly in range, sometimes at a ceiling or one above.
 pub fn allowances(random: &mut Random) -> Allowances {
@@ -45,7 +45,7 @@ fn cells(random: &mut Random) -> u32 {
         4..=8 => 0,
         9..=20 => random.below(8) as u32,
         21..=50 => random.below(100) as u32,
-        _ => random.below(1000) as u32,
+        _ => random.below(MOST_CELLS as usize) as u32,
     }
 }
 
@@ -56,7 +56,7 @@ pub fn lent(random: &mut Random, cells: u32) -> usize {
         0 => due.saturating_sub(1),
         1 => due.saturating_sub(CELL_BYTES),
         2 => random.below(due + 1),
-        3..=6 => due + random.between(1, 9),
+        3..=6 => due + random.between(1, CELL_BYTES + 9),
         _ => due,
     }
 }

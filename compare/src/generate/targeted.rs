@@ -59,13 +59,14 @@ pub fn break_rules(random: &mut Random, file: &mut Vec<u8>) {
         head,
     };
     for _ in 0..random.pick(&[1, 1, 1, 2, 2, 3]) {
-        match random.below(12) {
+        match random.below(14) {
             0 => parts.clause_order(random),
             1 => parts.pattern_somewhere(random),
             2 => parts.pattern_position(random),
             3 => parts.boundary(random),
             4 => parts.two_faults(random),
             5 => parts.case_elsewhere(random),
+            6 | 7 => parts.parameters(random),
             _ => parts.reference(random),
         }
     }
@@ -192,15 +193,32 @@ impl Parts<'_> {
         if next >= self.records.len() || self.kind(next) != self.kind(record) {
             return;
         }
-        let field = self.fields(record) - 1;
+        // The node count, and of a translation now and then the parameter count.
+        let parameters = self.kind(record) == translation::FUNCTION && random.chance(50);
+        let field = match self.kind(record) {
+            sheet::FUNCTION => 1,
+            _ => parameters as usize,
+        };
+        let least = !parameters as u16;
         let (low, high) = (self.get(record, field), self.get(next, field));
-        if random.chance(50) && high > 1 {
+        if random.chance(50) && high > least {
             self.set(record, field, low + 1);
             self.set(next, field, high - 1);
-        } else if low > 1 {
+        } else if low > least {
             self.set(record, field, low - 1);
             self.set(next, field, high + 1);
         }
+    }
+
+    /// Sets a function's parameter count to a neighbour or a bound.
+    fn parameters(&mut self, random: &mut Random) {
+        let Some(record) = self.some(random, &[sheet::FUNCTION, translation::FUNCTION]) else {
+            return;
+        };
+        let field = (self.kind(record) == translation::FUNCTION) as usize;
+        let old = self.get(record, field);
+        let value = random.pick(&[old + 1, old.wrapping_sub(1), 0, 8, 9, 9, 16]);
+        self.set(record, field, value);
     }
 
     /// A wrong number of arguments and a reference out of range at once.

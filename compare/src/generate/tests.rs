@@ -2,7 +2,7 @@
 
 use super::case::{well_formed, Case};
 use super::random::Random;
-use super::{ceiling, sheet, template, translation};
+use super::{ceiling, foreign, regroup, sheet, template, translation};
 use crate::model::translate::{translate, Labelling};
 use crate::model::translation as read_translation;
 use crate::model::{Behaviour, Correct};
@@ -71,5 +71,20 @@ fn random_translations_are_accepted() {
     for seed in 0..2000 {
         let file = translation::translation(&mut Random::new(seed));
         assert!(file.len() > TRANSLATION_BYTES || read_translation::read(&Correct, &file).is_ok());
+    }
+}
+
+#[test]
+fn foreign_and_regrouped_translations_are_accepted() {
+    for seed in 0..500 {
+        let mut random = Random::new(seed);
+        let file = foreign::foreign(&mut random);
+        assert!(read_translation::read(&Correct, &file).is_ok());
+        let sheet = Correct.read_sheet(&sheet::sheet(&mut random)).unwrap();
+        let before = Correct.translate(&sheet);
+        let mut file = read_translation::write(&before);
+        regroup::regroup(&mut random, &mut file);
+        let after = read_translation::read(&Correct, &file).expect("accepted");
+        assert_eq!(after.formals, before.formals);
     }
 }

@@ -3,17 +3,18 @@
 use super::random::Random;
 use zifnora::build_sheet::put_record;
 use zifnora::kinds::translation as kinds;
-use zifnora::sizes::TRANSLATION_BYTES;
+use zifnora::sizes::{MOST_FIELDS, TRANSLATION_BYTES};
 
 /// A translation whose records and references are all in range.
 pub fn translation(random: &mut Random) -> Vec<u8> {
     let (formals, functions, nodes) = match random.below(20) {
-        0 => (
-            random.between(500, 512),
-            random.between(60, 64),
-            random.between(900, 1024),
-        ),
+        0 => (random.between(480, 512), 64, random.between(900, 1024)),
         1 => (random.below(3), 1, random.between(1, 4)),
+        2..=4 => (
+            random.between(7, 20),
+            random.between(3, 5),
+            random.between(20, 60),
+        ),
         _ => (random.below(8), random.between(1, 5), random.between(5, 50)),
     };
     let readings = if random.chance(10) {
@@ -38,12 +39,12 @@ pub fn translation(random: &mut Random) -> Vec<u8> {
 
 /// A translation of exactly 40,960 bytes: long actuals fill it up.
 pub fn longest(random: &mut Random) -> Vec<u8> {
-    let (functions, nodes, formals) = (random.between(1, 64), random.between(64, 1024), 30);
+    let (functions, nodes, formals) = (random.between(4, 64), random.between(64, 1024), 30);
     let records: Vec<(u16, Vec<u16>)> = (0..nodes)
         .map(|number| node(random, number, nodes, formals, functions, 32))
         .collect();
     let used: usize = records.iter().map(|record| 4 + 2 * record.1.len()).sum();
-    let mut left = (TRANSLATION_BYTES - 12 - 6 * functions - used - 4 * formals) / 2;
+    let mut left = (TRANSLATION_BYTES - 12 - 8 * functions - used - 4 * formals) / 2;
     let mut actuals = Vec::new();
     for _ in 0..formals {
         let count = left.min(1024);
@@ -70,7 +71,8 @@ fn encode(
     ];
     put_record(&mut file, kinds::HEAD, &head);
     let mut left = records.len();
-    for number in 0..functions {
+    let parameters = parameters(random, functions, actuals.len());
+    for (number, parameters) in parameters.into_iter().enumerate() {
         let after = functions - number - 1;
         let count = if after == 0 {
             left
@@ -78,7 +80,7 @@ fn encode(
             random.between(1, (left - after).min(40))
         };
         left -= count;
-        put_record(&mut file, kinds::FUNCTION, &[count as u16]);
+        put_record(&mut file, kinds::FUNCTION, &[count as u16, parameters]);
     }
     for list in actuals {
         put_record(&mut file, kinds::FORMAL_LIST, list);
@@ -87,6 +89,26 @@ fn encode(
         put_record(&mut file, *kind, fields);
     }
     file
+}
+
+/// Parameter counts of so many functions that sum to the formals, which are no
+/// more than all functions can have.
+pub fn parameters(random: &mut Random, functions: usize, formals: usize) -> Vec<u16> {
+    let mut counts = vec![0; functions];
+    // Few functions have formals, or each may have some.
+    let mut open: Vec<usize> = (0..functions).collect();
+    let spread = random.chance(70);
+    let mut at = random.below(functions);
+    for _ in 0..formals {
+        if spread || counts[at] == MOST_FIELDS as u16 || random.chance(10) {
+            at = random.pick(&open);
+        }
+        counts[at] += 1;
+        if counts[at] == MOST_FIELDS as u16 {
+            open.retain(|&function| function != at);
+        }
+    }
+    counts
 }
 
 fn node(

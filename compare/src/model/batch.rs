@@ -2,7 +2,6 @@
 
 use super::answer::{Answer, RECORD};
 use super::behaviour::BatchBehaviour;
-use super::run::bad_allowance;
 use super::translation::{self, Translation};
 use super::Refusal;
 use crate::interface::Allowances;
@@ -31,7 +30,8 @@ pub fn run_rows<B: BatchBehaviour>(
 ) -> Result<usize, Refusal> {
     let translation = translation::read(behaviour, file)?;
     let due = behaviour.readings_due(rows.count, translation.readings);
-    let bad = behaviour.too_many(rows.count) || bad_allowance(rows.allowances, lent.len());
+    let bad =
+        behaviour.too_many(rows.count) || behaviour.bad_allowance(rows.allowances, lent.len());
     let length = RECORD as u64 * rows.count as u64;
     let refused = behaviour.first_refused([
         (BAD_READINGS, rows.readings.len() as u64 != due),

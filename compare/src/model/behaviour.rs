@@ -3,17 +3,19 @@
 
 use super::answer::Answer;
 use super::batch::{self, Rows};
+use super::cell_behaviour::CellBehaviour;
+use super::cells::Value;
 use super::hirer::{self, Hire};
 use super::records::{Record, Records};
-use super::run::{Run, Value};
+use super::run::Run;
 use super::sheet::Sheet;
 use super::translate::Labelling;
-use super::translation::Translation;
+use super::translation::{self, Translation};
 use super::trees::Tree;
 use super::{joined, listing, operator, rules, run, sheet, translate, Refusal};
 use crate::interface::Allowances;
 
-pub trait Behaviour: Sized {
+pub trait Behaviour: CellBehaviour {
     // Reading a file.
     fn read_sheet(&self, file: &[u8]) -> Result<Sheet, Refusal> {
         sheet::read(self, file)
@@ -33,6 +35,15 @@ pub trait Behaviour: Sized {
 
     fn check_sum(&self, counts: &[u16], nodes_due: u16, place: u32) -> Result<(), Refusal> {
         sheet::check_sum(counts, nodes_due, place)
+    }
+
+    // The parameter counts of a translation.
+    fn parameters_fit(&self, count: u16) -> bool {
+        translation::parameters_fit(count)
+    }
+
+    fn formals_fit(&self, sum: u64, due: u16) -> bool {
+        sum == due as u64
     }
 
     // The checks of a sheet over several records.
@@ -102,6 +113,10 @@ pub trait Behaviour: Sized {
         lent: usize,
     ) -> Result<Translation, Refusal> {
         run::accept(self, file, readings, allowances, lent)
+    }
+
+    fn bad_allowance(&self, allowances: Allowances, lent: usize) -> bool {
+        run::bad_allowance(allowances, lent)
     }
 
     fn run_accepted(
@@ -235,6 +250,8 @@ pub trait HirerBehaviour: Behaviour {
 pub struct Correct;
 
 impl Behaviour for Correct {}
+
+impl CellBehaviour for Correct {}
 
 impl BatchBehaviour for Correct {}
 

@@ -41,7 +41,13 @@ pub fn accept<B: HirerBehaviour>(
         let place = behaviour.closed_place(&translation, node);
         return Err(Refusal::new(CLOSED_READING, place));
     }
-    run::check_input(&translation, hire.readings, hire.allowances, lent)?;
+    run::check_input(
+        behaviour,
+        &translation,
+        hire.readings,
+        hire.allowances,
+        lent,
+    )?;
     Ok(translation)
 }
 

@@ -1,5 +1,6 @@
 //! The listing of a context.
 
+use super::cells::CELL_BYTES;
 use super::records::two_bytes;
 use super::Refusal;
 use zifnora::numbers::{OUT_OF_RANGE, SHORT_OUTPUT};
@@ -32,7 +33,7 @@ pub fn list(lent: &[u8], cell: u32, out: &mut [u8]) -> Result<u32, Refusal> {
 
 /// The whole cells of lent bytes: label and number of the previous cell.
 fn cells(lent: &[u8]) -> Vec<(u16, u16)> {
-    lent.chunks_exact(4)
+    lent.chunks_exact(CELL_BYTES)
         .map(|cell| (two_bytes(cell, 0), two_bytes(cell, 2)))
         .collect()
 }

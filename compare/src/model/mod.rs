@@ -1,16 +1,19 @@
 //! The independent implementation of document 01. Each of its steps stands in
-//! one of these files as the papers have it; `Behaviour`, `BatchBehaviour` and
-//! `HirerBehaviour` name the steps that a deliberately faulty model
-//! (`crate::faulty`) does otherwise.
+//! one of these files as the papers have it; `Behaviour`, `CellBehaviour`,
+//! `BatchBehaviour` and `HirerBehaviour` name the steps that a deliberately
+//! faulty model (`crate::faulty`) does otherwise.
 
 pub mod answer;
 pub mod batch;
 pub mod behaviour;
+pub mod cell_behaviour;
+pub mod cells;
 pub mod hirer;
 pub mod joined;
 pub mod listing;
 pub mod name;
 pub mod operator;
+pub mod plain;
 pub mod port;
 pub mod records;
 pub mod rules;
@@ -25,6 +28,7 @@ mod tests;
 
 use crate::interface::Interface;
 pub use behaviour::{BatchBehaviour, Behaviour, Correct, HirerBehaviour};
+pub use cell_behaviour::CellBehaviour;
 pub use zifnora::Refusal;
 
 /// A model with a behaviour, behind the calls that are compared.

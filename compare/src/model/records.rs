@@ -9,8 +9,8 @@ use zifnora::numbers::{BAD_RECORD, TRUNCATED};
 fn lengths(kind: u16) -> Option<(usize, usize, usize)> {
     Some(match kind {
         sheet::HEAD | translation::HEAD => (12, 0, 12),
-        sheet::CONSTRUCTOR | translation::FUNCTION => (6, 0, 6),
-        sheet::FUNCTION => (8, 0, 8),
+        sheet::CONSTRUCTOR => (6, 0, 6),
+        sheet::FUNCTION | translation::FUNCTION => (8, 0, 8),
         translation::FORMAL_LIST => (4, 2, 2052),
         sheet::NUMBER | translation::NUMBER => (8, 0, 8),
         sheet::READING | translation::READING => (6, 0, 6),

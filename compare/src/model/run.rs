@@ -1,37 +1,27 @@
 //! The run of a translation.
 
 use super::answer::Answer;
+use super::cells::{Cell, Value, CELL_BYTES};
 use super::translation::{self, Node, Translation};
 use super::{Behaviour, Refusal};
 use crate::interface::Allowances;
 use zifnora::numbers;
 
-/// The ceilings of the allowances, and the bytes lent for each cell.
+/// The ceilings of the allowances.
 const NESTING: u32 = 1024;
-const CELLS: u32 = 8192;
-const CELL_BYTES: usize = 4;
-
-/// What a visit ends with when it is no stop and no fault.
-#[derive(Clone, Copy, Debug)]
-pub enum Value {
-    Number(i32),
-    Tuple { node: u16, context: u16 },
-}
-
-/// A context is a number of a cell; 0 is the empty context.
-#[derive(Clone, Copy, Debug)]
-struct Cell {
-    label: u16,
-    previous: u16,
-}
+const CELLS: u32 = 960;
 
 pub struct Run<'a, B> {
     behaviour: &'a B,
-    translation: &'a Translation,
+    pub translation: &'a Translation,
     readings: &'a [i32],
     allowances: Allowances,
-    steps: u32,
-    cells: Vec<Cell>,
+    /// The lent bytes, as they were before the run until it has ended.
+    pub lent: &'a mut [u8],
+    /// Function and position of each formal.
+    places: Vec<(u16, u16)>,
+    pub steps: u32,
+    pub cells: Vec<Cell>,
 }
 
 /// Runs a translation file; the cells made are left in the lent bytes.
@@ -57,12 +47,13 @@ pub fn accept<B: Behaviour>(
     lent: usize,
 ) -> Result<Translation, Refusal> {
     let translation = translation::read(behaviour, file)?;
-    check_input(&translation, readings, allowances, lent)?;
+    check_input(behaviour, &translation, readings, allowances, lent)?;
     Ok(translation)
 }
 
 /// 9, then 10.
-pub fn check_input(
+pub fn check_input<B: Behaviour>(
+    behaviour: &B,
     translation: &Translation,
     readings: &[i32],
     allowances: Allowances,
@@ -71,7 +62,7 @@ pub fn check_input(
     if readings.len() != translation.readings as usize {
         return Err(Refusal::new(numbers::BAD_READINGS, 0));
     }
-    if bad_allowance(allowances, lent) {
+    if behaviour.bad_allowance(allowances, lent) {
         return Err(Refusal::new(numbers::BAD_ALLOWANCE, 0));
     }
     Ok(())
@@ -92,19 +83,21 @@ pub fn run_accepted<B: Behaviour>(
     allowances: Allowances,
     lent: &mut [u8],
 ) -> Answer {
+    let formals = 0..translation.formals.len() as u16;
     let mut run = Run {
         behaviour,
         translation,
         readings,
         allowances,
+        lent,
+        places: formals
+            .map(|formal| behaviour.place_of(translation, formal))
+            .collect(),
         steps: 0,
         cells: Vec::new(),
     };
     let end = run.visit(translation.bodies[0], 0, 1);
-    for (cell, bytes) in run.cells.iter().zip(lent.chunks_exact_mut(CELL_BYTES)) {
-        bytes[..2].copy_from_slice(&cell.label.to_le_bytes());
-        bytes[2..].copy_from_slice(&cell.previous.to_le_bytes());
-    }
+    behaviour.write_cells(&run.cells, run.lent);
     run.answer(end)
 }
 
@@ -186,10 +179,8 @@ impl<B: Behaviour> Run<'_, B> {
         if self.cells.len() == self.allowances.cells as usize {
             return Err(numbers::NO_CELL);
         }
-        self.cells.push(Cell {
-            label,
-            previous: context,
-        });
+        let cell = Cell::new(label, context, function);
+        self.cells.push(self.behaviour.new_cell(self, cell));
         let cell = self.cells.len() as u16;
         let body = self.translation.bodies[function as usize];
         self.visit(body, cell, open + 1)
@@ -231,11 +222,33 @@ impl<B: Behaviour> Run<'_, B> {
         Ok((left, right))
     }
 
-    /// The actual that the head label names, under the tail.
+    /// "if the head cell remembers it, that value is used, else the actual is
+    /// visited and a value is remembered".
     fn formal(&mut self, formal: u16, context: u16, open: u32) -> Result<Value, u16> {
         if context == 0 {
             return Err(numbers::NO_ACTUAL);
         }
+        let number = context as usize - 1;
+        let cell = self.cells[number];
+        let (function, position) = self.places[formal as usize];
+        let behaviour = self.behaviour;
+        if behaviour.uses(cell.callee, function) {
+            if let Some(value) = cell.remembered(position) {
+                return Ok(behaviour.recall(self, value));
+            }
+        }
+        let end = self.actual(formal, context, open);
+        match behaviour.worth_remembering(end) {
+            Some(value) if behaviour.remembers(cell.callee, function) => {
+                behaviour.remember(&mut self.cells[number], position, value);
+            }
+            _ => {}
+        }
+        end
+    }
+
+    /// The actual that the head label names, under the tail.
+    fn actual(&mut self, formal: u16, context: u16, open: u32) -> Result<Value, u16> {
         let cell = self.cells[context as usize - 1];
         let actuals = &self.translation.formals[formal as usize];
         let Some(&actual) = actuals.get(cell.label as usize) else {

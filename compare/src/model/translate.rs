@@ -27,6 +27,7 @@ pub fn translate<B: Behaviour>(behaviour: &B, sheet: &Sheet, labelling: Labellin
     Translation {
         readings: sheet.readings,
         counts: sheet.counts.clone(),
+        parameters: sheet.parameters.clone(),
         formals: calls.formals,
         nodes,
         bodies: sheet.bodies.clone(),

@@ -43,6 +43,8 @@ pub struct Translation {
     pub readings: u16,
     /// Node count of each function.
     pub counts: Vec<u16>,
+    /// Parameter count of each function.
+    pub parameters: Vec<u16>,
     /// Actuals of each formal, label 0 first.
     pub formals: Vec<Vec<u16>>,
     pub nodes: Vec<Node>,
@@ -57,12 +59,32 @@ const READINGS: u16 = 32;
 const FORMALS: u16 = 512;
 const FUNCTIONS: u16 = 64;
 const NODES: u16 = 1024;
+const PARAMETERS: u16 = 8;
 
 impl Translation {
     /// The number of a node's record.
     pub fn record_of(&self, node: usize) -> u32 {
         (1 + self.counts.len() + self.formals.len() + node) as u32
     }
+
+    /// The function of a formal and its position there: formals go by
+    /// function, then position.
+    pub fn place_of(&self, formal: u16) -> (u16, u16) {
+        let (mut function, mut position) = (0, formal);
+        for &parameters in &self.parameters {
+            if position < parameters {
+                break;
+            }
+            position -= parameters;
+            function += 1;
+        }
+        (function, position)
+    }
+}
+
+/// "0 to 8".
+pub fn parameters_fit(count: u16) -> bool {
+    count <= PARAMETERS
 }
 
 /// Reads a translation: accepted, or the first refusal.
@@ -84,7 +106,8 @@ pub fn read_records<B: Behaviour>(behaviour: &B, file: &[u8]) -> Result<Translat
     if !ranges || !(1..=FUNCTIONS).contains(&functions) || !(1..=NODES).contains(&nodes_due) {
         return Err(Refusal::new(BAD_COUNT, 0));
     }
-    let counts = read_functions(behaviour, &mut records, functions, nodes_due)?;
+    let (counts, parameters) =
+        read_functions(behaviour, &mut records, functions, nodes_due, formals_due)?;
     let mut formals = Vec::new();
     for _ in 0..formals_due {
         let record = behaviour.next_record(&mut records, &[kinds::FORMAL_LIST])?;
@@ -101,28 +124,38 @@ pub fn read_records<B: Behaviour>(behaviour: &B, file: &[u8]) -> Result<Translat
         nodes,
         bodies: bodies(&counts),
         counts,
+        parameters,
     })
 }
 
-/// Node counts of the functions.
+/// Node counts and parameter counts of the functions. Their sums are the nodes
+/// and the formals due, else 4 at the last function.
 fn read_functions<B: Behaviour>(
     behaviour: &B,
     records: &mut Records,
     functions: u16,
     nodes_due: u16,
-) -> Result<Vec<u16>, Refusal> {
-    let mut counts = Vec::new();
-    let mut sum: u64 = 0;
+    formals_due: u16,
+) -> Result<(Vec<u16>, Vec<u16>), Refusal> {
+    let (mut counts, mut parameters) = (Vec::new(), Vec::new());
     for function in 1..=functions {
         let record = behaviour.next_record(records, &[kinds::FUNCTION])?;
-        let count = record.field(0);
-        counts.push(count);
-        sum += count as u64;
-        if count < 1 || function == functions && sum != nodes_due as u64 {
+        counts.push(record.field(0));
+        parameters.push(record.field(1));
+        let fits = record.field(0) >= 1 && behaviour.parameters_fit(record.field(1));
+        let last = function == functions;
+        let sums = !last
+            || sum(&counts) == nodes_due as u64
+                && behaviour.formals_fit(sum(&parameters), formals_due);
+        if !fits || !sums {
             return Err(Refusal::new(BAD_COUNT, record.number));
         }
     }
-    Ok(counts)
+    Ok((counts, parameters))
+}
+
+fn sum(counts: &[u16]) -> u64 {
+    counts.iter().map(|&count| count as u64).sum()
 }
 
 fn node(record: Record) -> Node {
@@ -218,8 +251,8 @@ pub fn write(translation: &Translation) -> Vec<u8> {
         translation.nodes.len() as u16,
     ];
     put_record(&mut file, kinds::HEAD, &head);
-    for &count in &translation.counts {
-        put_record(&mut file, kinds::FUNCTION, &[count]);
+    for (&count, &parameters) in translation.counts.iter().zip(&translation.parameters) {
+        put_record(&mut file, kinds::FUNCTION, &[count, parameters]);
     }
     for actuals in &translation.formals {
         put_record(&mut file, kinds::FORMAL_LIST, actuals);

@@ -5,10 +5,12 @@ pub mod Sections
 pub mod SectionFields
 pub mod Sums
 pub mod Counts
+pub mod FormalPlaces
 pub mod Owners
 pub mod Choices
 pub mod SheetRecords
 pub mod Checks
+pub mod ParameterCounts
 pub mod Names
 pub mod Elements
 pub mod Children

@@ -1,21 +1,18 @@
 -- The runs of nodes that functions own, in a file whose shape is accepted: the runs follow each other and fill the nodes, a
 -- body is the last node of its run, and each node has one owner.
 use mathlib.Core.Path.{_≡_, refl}
-use Prim.Native.Nat.{ℕ, suc, _+_, _-_, _≤_, _<_}
+use Prim.Native.Nat.{ℕ, suc, _+_, _≤_, _<_}
 use mathlib.Core.List.{List}
 use native.Mathlib.Omega.{arith}
 use native.Mathlib.Nat.{suc-pred-eq-of-pos}
-use native.Mathlib.Decide.{decLe, decLt}
-use lib.Dec.{leb}
-use borrow.Author.Tests.{le-leb, lt-leb}
 use Rattle.definitions.specs.Lists.{sumOf}
 use Rattle.definitions.specs.Layouts.{functions, nodes, nodeCount, runEnd, bodyOf, ownerOf}
+use Rattle.definitions.specs.FormalPlaces.{functionBy}
 use Rattle.definitions.specs.Shape.{fileShape}
 use Rattle.definitions.specs.declared.Layout.{Layout}
 use Rattle.definitions.specs.declared.Verdict.the-variants.{Accepted}
 use Rattle.accepted.proofs.Sums.{sum-rises}
-use Rattle.accepted.proofs.Counts.{count-rises, count-limit, count-all, count-none-from}
-use Rattle.accepted.proofs.Head.{functions-least}
+use Rattle.accepted.proofs.FormalPlaces.{function-unique, function-below, function-not-ended}
 use Rattle.accepted.proofs.Sections.{node-count-least, node-counts-sum}
 
 module _ (y : Layout) (b : List ℕ) (accepted : fileShape y b ≡ Accepted) where
@@ -33,9 +30,6 @@ module _ (y : Layout) (b : List ℕ) (accepted : fileShape y b ≡ Accepted) whe
   unfolding runEnd
   end-before-start f g h = sum-rises (suc f) g (nodeCount y b) h
 
-  pub ends-rise : (f g : ℕ) → f < g → g < functions b → runEnd y b f < runEnd y b g
-  ends-rise f g h k = omega (arith, end-before-start f g h, start-below-end g k)
-
   pub end-within : (f : ℕ) → f < functions b → runEnd y b f ≤ nodes b
   end-within f h = omega (arith, end-before-start f (functions b) h, node-counts-sum y b accepted)
 
@@ -51,49 +45,23 @@ module _ (y : Layout) (b : List ℕ) (accepted : fileShape y b ≡ Accepted) whe
   pub body-below : (f : ℕ) → f < functions b → bodyOf y b f < nodes b
   body-below f h = omega (arith, body-before-end f h, end-within f h)
 
-  -- the functions whose runs end at a node or before it are those before its owner
-  ended-before : (k f : ℕ) → f < functions b → runEnd y b f ≤ k → f < ownerOf y b k
-  unfolding ownerOf
-  ended-before k f h e =
-      let p = count-all (suc f) (λ g. leb (runEnd y b g) k) (λ g l. le-leb (runEnd y b g) k (ended g l)) in
-      omega (arith, p, count-rises (suc f) (functions b) (λ g. leb (runEnd y b g) k) h)
-    where
-      ended : (g : ℕ) → g < suc f → runEnd y b g ≤ k
-      ended g l = elim (decLt g f) [ yes q ↦ omega (arith, q, ends-rise g f q h, e) | no q ↦ let z : g ≡ f = omega (arith, l, q) in rw z e ]
-
-  not-ended : (k f : ℕ) → f < functions b → k < runEnd y b f → ownerOf y b k ≤ f
-  unfolding ownerOf
-  not-ended k f h e =
-      let p = count-none-from f (functions b) (λ g. leb (runEnd y b g) k) (omega arith) (λ g l m. lt-leb (runEnd y b g) k (later g l m)) in
-      omega (arith, p, count-limit f (λ g. leb (runEnd y b g) k))
-    where
-      later : (g : ℕ) → f ≤ g → g < functions b → k < runEnd y b g
-      later g l m = elim (decLt f g) [ yes q ↦ omega (arith, q, ends-rise f g q m, e) | no q ↦ let z : g ≡ f = omega (arith, l, q) in rw z e ]
+  -- a node's owner is found among the nodes as a formal's function among the formals
+  owner-is : (k : ℕ) → ownerOf y b k ≡ functionBy (functions b) (nodeCount y b) k
+  unfolding ownerOf runEnd functionBy
+  owner-is k = refl
 
   -- the owner of a node is a function
   pub owner-below : (k : ℕ) → k < nodes b → ownerOf y b k < functions b
-  owner-below k h =
-      let l = functions-least y b accepted in
-      let e : runEnd y b (functions b - 1) ≡ nodes b = last-end (functions b - 1) (omega arith) in
-      omega (arith, not-ended k (functions b - 1) (omega arith) (omega arith))
+  owner-below k h = rw owner-is (function-below (nodeCount y b) (functions b) k (omega (arith, node-counts-sum y b accepted)))
 
   pub owner-not-ended : (k : ℕ) → k < nodes b → k < runEnd y b (ownerOf y b k)
-  owner-not-ended k h =
-      elim (decLe (runEnd y b (ownerOf y b k)) k) [
-        | yes p ↦ absurd (omega (arith, ended-before k (ownerOf y b k) (owner-below k h) p))
-        | no p ↦ omega (arith, p)
-      ]
+  unfolding runEnd
+  owner-not-ended k h = rw owner-is (function-not-ended (nodeCount y b) (functions b) k (rw owner-is at (owner-below k h)))
 
   -- a function whose run holds the node is the owner
   pub owner-unique : (k f : ℕ) → f < functions b → sumOf f (nodeCount y b) ≤ k → k < runEnd y b f → ownerOf y b k ≡ f
-  owner-unique k f h s e =
-      let l : ownerOf y b k ≤ f = not-ended k f h e in
-      elim (decLt (ownerOf y b k) f) [
-        | yes p ↦
-            let n : k < nodes b = omega (arith, e, end-within f h) in
-            absurd (omega (arith, end-before-start (ownerOf y b k) f p, owner-not-ended k n, s))
-        | no p ↦ omega (arith, l, p)
-      ]
+  unfolding runEnd
+  owner-unique k f h s e = rw owner-is (function-unique (nodeCount y b) (functions b) f k h s e)
 
   -- the owner of a body is its function
   pub owner-of-body : (f : ℕ) → f < functions b → ownerOf y b (bodyOf y b f) ≡ f

@@ -13,7 +13,7 @@ use Rattle.definitions.specs.TranslationKinds
 use Rattle.definitions.specs.Lists.{sumOf}
 use Rattle.definitions.specs.Layouts.{items, functions, nodes, firstFunction, firstNode, sectionKind, nodeKind, isDue, itemRecord, functionRecord, nodeRecord, nodeCount}
 use Rattle.definitions.specs.References.{parameters, arity}
-use Rattle.definitions.specs.Shape.{runCounts, counts, fileShape}
+use Rattle.definitions.specs.Shape.{runCounts, parameterCounts, counts, fileShape}
 use Rattle.definitions.specs.Ranges.{within}
 use Rattle.definitions.specs.declared.Layout.{Layout}
 use Rattle.definitions.specs.declared.Layout.the-variants.{Sheet, Translation}
@@ -94,14 +94,19 @@ module _ (b : List ℕ) (accepted : fileShape Translation b ≡ Accepted) where
       section-kind Translation b (1 + functions b + p) _ (omega arith) (omega arith) (kind-due Translation b accepted (1 + functions b + p) (omega arith))
       ∙ rw (lt-leb (1 + functions b + p) (functions b) (omega arith)) refl
 
+  pub translation-counts : (f : ℕ) → f < functions b
+      → (parameterCounts b (1 + f) (functionRecord Translation b f) && runCounts Translation b (1 + f) (functionRecord Translation b f)) ≡ true
+  unfolding counts
+  translation-counts f h =
+      rw (ne-eqb (1 + f) 0 (λ p. omega (arith, p)), translation-function-kind f h) at (counts-right Translation b accepted (1 + f) (omega arith))
+
 -- the counts of a function
 run-counts : (y : Layout) (b : List ℕ) → fileShape y b ≡ Accepted → (f : ℕ) → f < functions b
     → runCounts y b (firstFunction y b + f) (functionRecord y b f) ≡ true
-unfolding counts
 run-counts Sheet b e f h =
     and-eq-true-iff (within 0 8 (parameters b f)) _ .0 (sheet-counts b e f h) .1
 run-counts Translation b e f h =
-    rw (ne-eqb (1 + f) 0 (λ p. omega (arith, p)), translation-function-kind b e f h) at (counts-right Translation b e (1 + f) (omega arith))
+    and-eq-true-iff (parameterCounts b (1 + f) (functionRecord Translation b f)) _ .0 (translation-counts b e f h) .1
 
 module _ (y : Layout) (b : List ℕ) (accepted : fileShape y b ≡ Accepted) where
   -- "node count n from 1"

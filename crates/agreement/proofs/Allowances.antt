@@ -1,13 +1,13 @@
 -- The rule at its allowances: an outcome that is no stop stays at all larger ones; with a label for each call it is the sheet's own,
--- and the sheet's own is reached. Each law stands for visits from any state whose cells are in order first, then for the whole
+-- and the sheet's own is reached. These two stand for visits from any state whose cells are in order first, then for the whole
 -- evaluation.
-use mathlib.Core.Path.{_≡_, refl, sym, _∙_}
+use mathlib.Core.Path.{_≡_, refl, sym, ap, _∙_}
+use mathlib.Core.Logic.{_↔_}
 use Prim.Native.Nat.{ℕ, _≤_}
 use mathlib.Core.List.{List, []}
 use mathlib.Core.Bool.{false}
 use native.Mathlib.Omega.{arith}
 use lib.IntN.{ℤ}
-use lib.ListN.{length}
 use Rattle.definitions.specs.Numbers.{isStop}
 use Rattle.definitions.specs.Layouts.{bodyOf}
 use Rattle.definitions.specs.SheetNodes.{sheetNodeOf}
@@ -27,42 +27,41 @@ use Rattle.readback.proofs.Nodes.{body-read}
 use Rattle.rule_laws.specs.Reads.{stateOf}
 use Rattle.rule_laws.specs.Found.{stopped}
 use Rattle.rule_laws.specs.Reached.{Allowed}
-use Rattle.agreement.specs.Answers.{ruleOutcome}
+use Rattle.cell_rules.specs.Contexts.{outermost}
+use Rattle.cell_rules.specs.InOrder.{StandsInOrder}
+use Rattle.cell_rules.proofs.InOrder.{order-none}
+use Rattle.cell_rules.proofs.CellReads.{cellReads}
+use Rattle.cell_rules.proofs.CellsToLabels.{finds-all}
+use Rattle.cell_rules.proofs.LabelsToCells.{follows}
+use Rattle.cell_rules.proofs.Stays.{evaluation-stays}
+use Rattle.cell_rules.proofs.Evaluations.{stop-shown, same-outcomes}
+use Rattle.agreement.specs.Answers.{ruleOutcome, plainOutcome, RuleGives, PlainGives}
 use Rattle.rule_laws.specs.Derivations.{depthOf, stepsOf, cellsOf}
-use Rattle.agreement.specs.Contexts.{Stands, outermost}
 use Rattle.agreement.specs.Corresponds.{At, Visited}
-use Rattle.agreement.proofs.CellReads.{cellReads}
-use Rattle.agreement.proofs.LabelsToCells.{follows}
-use Rattle.agreement.proofs.CellsToLabels.{finds-all}
 use Rattle.agreement.proofs.Corresponds.{start-at}
 use Rattle.agreement.proofs.Becomes.{becomes}
 use Rattle.agreement.proofs.Sound.{sound}
 use Rattle.agreement.proofs.Complete.{complete}
-use Rattle.agreement.proofs.Outcomes.{same-shown, same-meant, stop-shown}
+use Rattle.agreement.proofs.Outcomes.{same-meant}
 
 -- the visit of node k under cell w, at a nesting and a cell allowance, from so many steps left and these cells
 abbrev pub visitOf : List ℕ → List ℤ → ℕ → ℕ → ℕ → List Cell → ℕ → ℕ → Reached ℕ (List Cell)
 visitOf t rs nesting cellsAllowed left store k w = visited (byCells t cellsAllowed) t rs nesting k w (stateOf left store)
 
--- an outcome that is no stop stays at all allowances each at least as large, of any translation file
 module _ (t : List ℕ) (rs : List ℤ) where
-  pub visit-stays : (left nesting cellsAllowed left′ nesting′ cellsAllowed′ k w : ℕ) {store : List Cell} {ws : List ℕ} → Stands store w ws
-      → length store ≤ cellsAllowed → left ≤ left′ → nesting ≤ nesting′ → cellsAllowed ≤ cellsAllowed′
-      → stopped (visitOf t rs nesting cellsAllowed left store k w .ending) ≡ false
-      → endingOutcome t (visitOf t rs nesting′ cellsAllowed′ left′ store k w .ending) ≡ endingOutcome t (visitOf t rs nesting cellsAllowed left store k w .ending)
-  visit-stays left nesting cellsAllowed left′ nesting′ cellsAllowed′ k w {store} s fits a b c h =
-      let f = finds-all t rs cellsAllowed nesting .finds k w (stateOf left store) (record { stands = s; room = fits }) h .comes in
-      let p = f .arrives .went in
-      let g = follows t rs cellsAllowed′ nesting′ left′ k w (f .visits) s (record { depth = omega arith; steps = omega arith; cells = omega arith }) in
-      same-shown t (g .shows) (f .arrives .shows)
-
+  -- an outcome that is no stop stays at all allowances each at least as large, of any translation file
   pub rule-stays : (steps nesting cellsAllowed steps′ nesting′ cellsAllowed′ : ℕ) → steps ≤ steps′ → nesting ≤ nesting′ → cellsAllowed ≤ cellsAllowed′
       → isStop (ruleOutcome t rs steps nesting cellsAllowed .outcome) ≡ false
       → ruleOutcome t rs steps′ nesting′ cellsAllowed′ ≡ ruleOutcome t rs steps nesting cellsAllowed
-  unfolding ruleOutcome ruleEnd evaluation
+  unfolding ruleOutcome ruleEnd
   rule-stays steps nesting cellsAllowed steps′ nesting′ cellsAllowed′ a b c h =
-      visit-stays steps nesting cellsAllowed steps′ nesting′ cellsAllowed′ (bodyOf Translation t 0) 0 outermost (omega arith) a b c
-      (sym (stop-shown t (ruleEnd t rs steps nesting cellsAllowed .ending)) ∙ h)
+      ap (λ (r : Reached ℕ (List Cell)). endingOutcome t (r .ending))
+      (evaluation-stays t rs b c steps steps′ a (sym (stop-shown t (evaluation t rs steps nesting cellsAllowed .ending)) ∙ h))
+
+  -- and the rule without remembering gives it too, at some allowances, and none besides
+  pub plain-gives-same : {a : Outcome} → isStop (a .outcome) ≡ false → RuleGives t rs a ↔ PlainGives t rs a
+  unfolding ruleOutcome ruleEnd plainOutcome
+  plain-gives-same h = same-outcomes t rs h
 
 -- a node's meaning with this outcome
 pub record MeansOutcome (b : List ℕ) (rs : List ℤ) (k : ℕ) (s : Setting) (a : Outcome) : Type 0 where
@@ -80,16 +79,18 @@ pub record Reaches (t : List ℕ) (rs : List ℤ) (a : Outcome) : Type 0 where
 
 module _ (b : List ℕ) (accepted : sheetVerdict b ≡ Accepted) (rs : List ℤ) where
   -- an outcome that is no stop is the sheet's own
-  pub visit-sound : (left nesting cellsAllowed k w : ℕ) {store : List Cell} {ws : List ℕ} {s : Setting} → Stands store w ws → length store ≤ cellsAllowed
-      → At b rs k ws s
+  pub visit-sound : (left nesting cellsAllowed k w : ℕ) {store : List Cell} {ws : List ℕ} {s : Setting} → StandsInOrder (unsharedTranslation b) rs store w ws → At b rs k ws s
       → stopped (visitOf (unsharedTranslation b) rs nesting cellsAllowed left store k w .ending) ≡ false
       → MeansOutcome b rs k s (endingOutcome (unsharedTranslation b) (visitOf (unsharedTranslation b) rs nesting cellsAllowed left store k w .ending))
-  visit-sound left nesting cellsAllowed k w {store} s fits a h =
-      let f = finds-all (unsharedTranslation b) rs cellsAllowed nesting .finds k w (stateOf left store) (record { stands = s; room = fits }) h .comes in
+  visit-sound left nesting cellsAllowed k w {store} s a h =
+      let f = finds-all (unsharedTranslation b) rs cellsAllowed nesting .finds k w (stateOf left store) s h .comes in
       let m = sound b accepted (f .visits) (becomes b accepted k (a .below)) refl a in
       record { end = m .end; means = m .means; agrees = sym (same-meant accepted (f .arrives .shows) (m .agrees)) }
 
-  -- the body at which evaluation starts is the sheet's
+  -- evaluation starts with no cells, at the sheet's body
+  no-cells : StandsInOrder (unsharedTranslation b) rs [] 0 []
+  no-cells = record { stands = outermost; order = order-none (unsharedTranslation b) rs }
+
   start-read : bodyOf Translation (unsharedTranslation b) 0 ≡ bodyOf Sheet b 0
   unfolding unsharedTranslation
   start-read = body-read neverShared b accepted 0 (functions-least Sheet b (sheet-shape b accepted))
@@ -107,12 +108,12 @@ module _ (b : List ℕ) (accepted : sheetVerdict b ≡ Accepted) (rs : List ℤ)
       let p = rule-start steps nesting cellsAllowed in
       let r = visitOf (unsharedTranslation b) rs nesting cellsAllowed steps [] (bodyOf Sheet b 0) 0 in
       let q = sym (stop-shown (unsharedTranslation b) (r .ending)) ∙ (rw p at h) in
-      let m = visit-sound steps nesting cellsAllowed (bodyOf Sheet b 0) 0 outermost (omega arith) (start-at b accepted) q in
+      let m = visit-sound steps nesting cellsAllowed (bodyOf Sheet b 0) 0 no-cells (start-at b accepted) q in
       record { end = m .end; means = m .means; agrees = m .agrees ∙ sym p }
 
   -- the sheet's own outcome is reached, and had from there on
-  pub visit-complete : (left nesting cellsAllowed k w : ℕ) {store : List Cell} {ws : List ℕ} {d : End} (v : Visited b rs k ws d) → Stands store w ws
-      → Allowed (cellReads (unsharedTranslation b) cellsAllowed) cellsAllowed (v .trace) nesting (stateOf left store)
+  pub visit-complete : (left nesting cellsAllowed k w : ℕ) {store : List Cell} {ws : List ℕ} {d : End} (v : Visited b rs k ws d) → StandsInOrder (unsharedTranslation b) rs store w ws
+      → Allowed (cellReads (unsharedTranslation b) rs) cellsAllowed (v .trace) nesting (stateOf left store)
       → endingOutcome (unsharedTranslation b) (visitOf (unsharedTranslation b) rs nesting cellsAllowed left store k w .ending) ≡ outcomeOf d
   visit-complete left nesting cellsAllowed k w v s p =
       same-meant accepted (follows (unsharedTranslation b) rs cellsAllowed nesting left k w (v .visits) s p .shows) (v .agrees)
@@ -126,6 +127,6 @@ module _ (b : List ℕ) (accepted : sheetVerdict b ≡ Accepted) (rs : List ℤ)
         cellsAllowed = cellsOf (v .trace);
         gives = λ steps nesting cellsAllowed p q r.
             rule-start steps nesting cellsAllowed
-            ∙ visit-complete steps nesting cellsAllowed (bodyOf Sheet b 0) 0 v outermost (record { depth = q; steps = p; cells = omega arith })
+            ∙ visit-complete steps nesting cellsAllowed (bodyOf Sheet b 0) 0 v no-cells (record { depth = q; steps = p; cells = omega arith })
             ∙ o .agrees;
       }

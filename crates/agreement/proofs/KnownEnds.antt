@@ -1,30 +1,27 @@
 -- The rule ends with a number, a constructor, a stop or one of the run faults, whatever the file; its value is among any
--- numbers that hold the file's literals and tags, the readings and what operators make of them; and it makes no more cells than
--- allowed.
+-- numbers that hold the file's literals and tags, the readings and what operators make of them; it makes no more cells than
+-- allowed, and each has its eight entries.
 use mathlib.Core.Path.{_≡_, refl}
-use Prim.Native.Nat.{ℕ, suc, _≤_, _<_}
-use mathlib.Core.List.{List, [], _∷_, _++_}
-use mathlib.Core.Option.{Option, none, some}
-use mathlib.Core.Bool.{Bool, true, false, _||_, or-true}
-use native.Mathlib.Omega.{arith}
-use native.Mathlib.Nat.{le-refl}
+use Prim.Native.Nat.{ℕ, _≤_}
+use mathlib.Core.List.{List, []}
+use mathlib.Core.Bool.{true, _||_, or-true}
 use lib.IntN.{ℤ, pos}
-use lib.ListN.{length, getD, length-append}
-use lib.Dec.{ltb}
-use borrow.Author.Tests.{ltb-true}
-use Rattle.definitions.specs.Numbers.{noCell, noActual, isStop, isFault, isAnswer}
-use Rattle.definitions.specs.Ranges.{within}
+use lib.ListN.{length, getD}
+use Rattle.definitions.specs.Numbers.{isStop, isFault, isAnswer}
 use Rattle.definitions.specs.Layouts.{bodyOf}
 use Rattle.definitions.specs.Operators.{gives, computed}
 use Rattle.definitions.specs.Outcomes.{numberOutcome, constructorOutcome, endOutcome}
-use Rattle.definitions.specs.TranslationNodes.{number, translationNodeOf, actual, tagOf}
-use Rattle.definitions.specs.Rule.{Ending, State, Visit, visited}
-use Rattle.definitions.specs.Cells.{Cell, cellOf, underTail, formalByCells, withCell, whereCell, callByCells, byCells, evaluation}
+use Rattle.definitions.specs.TranslationNodes.{number, translationNodeOf, tagOf}
+use Rattle.definitions.specs.Rule.{Value, Ending, value}
+use Rattle.definitions.specs.Cells.{Cell}
+use Rattle.definitions.specs.Cells.{evaluation}
 use Rattle.definitions.specs.Run.{endingOutcome, ruleEnd}
 use Rattle.definitions.specs.declared.Layout.the-variants.{Translation}
 use Rattle.laws.proofs.Classes.{fault-answer}
-use Rattle.rule_laws.specs.Keeps.{Keeps, Proper, an-integer, a-constructor, an-end, Kept, Keeping, KeepingHooks}
-use Rattle.rule_laws.proofs.Keeps.{kept-stop, kept-fault, kept-onward, kept-node, visit-keeps}
+use Rattle.laws.proofs.CellBytes.{FullCells}
+use Rattle.rule_laws.specs.Keeps.{Keeps, Proper, an-integer, a-constructor, an-end, Kept}
+use Rattle.cell_rules.proofs.CellsKept.{CellsKept, cells-keep}
+use Rattle.agreement.proofs.KnownCells.{Among, a-number, any-constructor, CellsKnown, none-known, added-known, value-known}
 
 -- the number of an answer or a stop
 abbrev Known : ℕ → Type 0
@@ -49,22 +46,19 @@ any-numbers b rs =
     record { Number = λ z. Unit {0}; literals = λ k e. tt; readings = λ i. tt; tags = λ k. tt; operators = λ o p q e. tt }
 
 module _ (b : List ℕ) (rs : List ℤ) (cellsAllowed : ℕ) (N : Closed b rs) where
-  one-more : (m : List Cell) (c : Cell) → length m < cellsAllowed → length (m ++ (c ∷ [])) ≤ cellsAllowed
-  one-more m c h = omega (arith, length-append m (c ∷ []), h)
-
-  -- these numbers come out, any constructors, and the ends that are known; no more cells are made than allowed
+  -- these numbers come out, any constructors, and the ends that are known; the cells stay known
   abbrev known : Keeps b rs ℕ (List Cell)
   known =
       record {
-        Becomes = λ m n. length m ≤ cellsAllowed → length n ≤ cellsAllowed;
+        Becomes = λ m n. CellsKnown (N .Number) cellsAllowed m → CellsKnown (N .Number) cellsAllowed n;
         stays = λ m h. h;
         onward = λ p q h. q (p h);
-        At = λ m k w. Unit {0};
-        at-onward = λ g h. tt;
-        at-mentioned = λ e g h. tt;
-        Built = λ m k w. Unit {0};
-        built-tuple = λ e h. tt;
-        built-field = λ i e t. tt;
+        At = λ m k w. CellsKnown (N .Number) cellsAllowed m;
+        at-onward = λ g h. g h;
+        at-mentioned = λ e g h. h;
+        Built = λ m k w. CellsKnown (N .Number) cellsAllowed m;
+        built-tuple = λ e h. h;
+        built-field = λ i e h. h;
         Number = N .Number;
         number-literal = λ {m} {k} e h. N .literals k e;
         number-reading = N .readings;
@@ -75,34 +69,29 @@ module _ (b : List ℕ) (rs : List ℤ) (cellsAllowed : ℕ) (N : Closed b rs) w
         fault-ends = fault-known;
       }
 
-  module _ (visit : Visit ℕ (List Cell)) (ih : Keeping known visit) where
-    tail-kept : (p : ℕ) (o : Option Cell) (s : State (List Cell)) → Kept known s (underTail b visit p o s)
-    unfolding underTail isFault within
-    tail-kept p none s = kept-fault known s noActual refl
-    tail-kept p (some c) s = kept-node known s (actual b p (c .label)) noActual _ refl (λ n e. ih .keeps n (c .previous) s tt)
+  -- a value that is remembered, and one that is used
+  proper-among : {m : List Cell} {v : Value ℕ} → Proper known m (value v) → Among (N .Number) v
+  proper-among (an-integer n) = a-number n
+  proper-among (a-constructor c) = any-constructor
 
-    cell-kept : (x : Bool) (f label w : ℕ) (s : State (List Cell)) → ltb (length (s .store)) cellsAllowed ≡ x
-        → Kept known s (whereCell x s (λ u. visit (bodyOf Translation b f) (suc (length (u .store))) (withCell label w u)))
-    unfolding whereCell withCell isStop within
-    cell-kept false f label w s e = kept-stop known s noCell refl
-    cell-kept true f label w s e =
-        kept-onward known (le-refl (s .left)) (λ h. one-more (s .store) _ (ltb-true (length (s .store)) cellsAllowed e))
-        (ih .keeps (bodyOf Translation b f) (suc (length (s .store))) (withCell label w s) tt)
+  used-proper : {m : List Cell} {v : Value ℕ} → CellsKnown (N .Number) cellsAllowed m → Among (N .Number) v → Proper known m (value v)
+  used-proper h (a-number n) = an-integer n
+  used-proper h any-constructor = a-constructor h
 
-  hooks : KeepingHooks known (byCells b cellsAllowed)
-  unfolding byCells formalByCells callByCells
-  hooks =
+  cells-stay-known : CellsKept known cellsAllowed
+  cells-stay-known =
       record {
-        formal-keeps = λ n ih k p w s e h. tail-kept (visited (byCells b cellsAllowed) b rs n) ih p (cellOf (s .store) w) s;
-        call-keeps = λ n ih k l f w s e h. cell-kept (visited (byCells b cellsAllowed) b rs n) ih (ltb (length (s .store)) cellsAllowed) f l w s refl;
+        built-onward = λ g h. g h;
+        actual-at = λ e h q f. h;
+        recalled-proper = λ {c = c} {x} {v} i h q f. used-proper h (h .among c i x v q f);
+        remembers = λ w i p h. value-known _ _ w i _ (proper-among p) h;
+        grows = λ e h room. added-known _ _ _ _ _ room;
+        body-at = λ e h room. added-known _ _ _ _ _ room h;
       }
 
   rule-keeps : (steps nesting : ℕ) → Kept known (record { left = steps; store = [] }) (ruleEnd b rs steps nesting cellsAllowed)
   unfolding ruleEnd evaluation
-  rule-keeps steps nesting = visit-keeps known (byCells b cellsAllowed) hooks nesting .keeps (bodyOf Translation b 0) 0 _ tt
-
-  rule-proper : (steps nesting : ℕ) → Proper known (ruleEnd b rs steps nesting cellsAllowed .state .store) (ruleEnd b rs steps nesting cellsAllowed .ending)
-  rule-proper steps nesting = rule-keeps steps nesting .proper
+  rule-keeps steps nesting = cells-keep known cellsAllowed cells-stay-known nesting .keeps (bodyOf Translation b 0) 0 _ (none-known (N .Number) cellsAllowed)
 
   outcome-known : {m : List Cell} {e : Ending ℕ} → Proper known m e → Known (endingOutcome b e .outcome)
   unfolding endingOutcome numberOutcome constructorOutcome endOutcome isAnswer
@@ -117,11 +106,17 @@ module _ (b : List ℕ) (rs : List ℤ) (cellsAllowed : ℕ) (N : Closed b rs) w
   value-among h (an-end n) = h
 
   pub rule-value : (steps nesting : ℕ) → N .Number (pos 0) → N .Number (endingOutcome b (ruleEnd b rs steps nesting cellsAllowed .ending) .value)
-  rule-value steps nesting h = value-among h (rule-proper steps nesting)
+  rule-value steps nesting h = value-among h (rule-keeps steps nesting .proper)
 
-pub rule-known : (b : List ℕ) (rs : List ℤ) (cellsAllowed steps nesting : ℕ)
-    → (isAnswer (endingOutcome b (ruleEnd b rs steps nesting cellsAllowed .ending) .outcome) || isStop (endingOutcome b (ruleEnd b rs steps nesting cellsAllowed .ending) .outcome)) ≡ true
-rule-known b rs cellsAllowed steps nesting = outcome-known b rs cellsAllowed (any-numbers b rs) (rule-proper b rs cellsAllowed (any-numbers b rs) steps nesting)
+module _ (b : List ℕ) (rs : List ℤ) (cellsAllowed steps nesting : ℕ) where
+  pub rule-known : (isAnswer (endingOutcome b (ruleEnd b rs steps nesting cellsAllowed .ending) .outcome) || isStop (endingOutcome b (ruleEnd b rs steps nesting cellsAllowed .ending) .outcome)) ≡ true
+  rule-known = outcome-known b rs cellsAllowed (any-numbers b rs) (rule-keeps b rs cellsAllowed (any-numbers b rs) steps nesting .proper)
 
-pub rule-cells-allowed : (b : List ℕ) (rs : List ℤ) (cellsAllowed steps nesting : ℕ) → length (ruleEnd b rs steps nesting cellsAllowed .state .store) ≤ cellsAllowed
-rule-cells-allowed b rs cellsAllowed steps nesting = rule-keeps b rs cellsAllowed (any-numbers b rs) steps nesting .becomes (omega arith)
+  cells-known : CellsKnown (any-numbers b rs .Number) cellsAllowed (ruleEnd b rs steps nesting cellsAllowed .state .store)
+  cells-known = rule-keeps b rs cellsAllowed (any-numbers b rs) steps nesting .becomes (none-known _ cellsAllowed)
+
+  pub rule-cells-allowed : length (ruleEnd b rs steps nesting cellsAllowed .state .store) ≤ cellsAllowed
+  rule-cells-allowed = cells-known .room
+
+  pub rule-cells-full : FullCells (ruleEnd b rs steps nesting cellsAllowed .state .store)
+  rule-cells-full = cells-known .full

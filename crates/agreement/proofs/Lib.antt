@@ -9,9 +9,5 @@ pub mod Complete
 pub mod Meant
 pub mod Becomes
 pub mod Corresponds
-pub mod Unique
-pub mod CellsToLabels
-pub mod LabelsToCells
-pub mod CellReads
-pub mod Contexts
+pub mod KnownCells
 pub mod KnownEnds

@@ -20,7 +20,7 @@ use Rattle.agreement.specs.Meaning
 use Rattle.definitions.specs.declared.Layout.the-variants.{Sheet}
 use Rattle.rule_laws.specs.Derivations.{Trace, NotNumber, constructor-came, ended-before, NotConstructor, number-came, ended-first, endingOf, Derivation}
 use Rattle.agreement.specs.Corresponds.{At, Agrees, integers, constructors, ends, Meant}
-use Rattle.agreement.proofs.Unique.{visits-one}
+use Rattle.cell_rules.proofs.Unique.{visits-one}
 use Rattle.agreement.proofs.Corresponds.{ArgumentAt, argument-at, FieldAt}
 
 -- an operator's result

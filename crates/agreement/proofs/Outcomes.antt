@@ -1,4 +1,4 @@
--- Laws of outcomes: those of endings that show and mean the same are equal, and a sheet's own answer is a number, a
+-- Laws of outcomes: those of endings that agree are equal, and a sheet's own answer is a number, a
 -- constructor or one of the run faults that the meaning has.
 use mathlib.Core.Path.{_≡_, refl}
 use Prim.Native.Nat.{ℕ, _≤_}
@@ -6,15 +6,14 @@ use mathlib.Core.List.{List}
 use mathlib.Core.Bool.{true}
 use native.Mathlib.Omega.{arith}
 use lib.IntN.{ℤ}
-use Rattle.definitions.specs.Numbers.{numberWanted, constructorWanted, noClause, zeroDivisor, noActual, noField, overflow, isStop, isFault, isAnswer}
-use Rattle.definitions.specs.Ranges.{within}
+use Rattle.definitions.specs.Numbers.{numberWanted, constructorWanted, noClause, zeroDivisor, noActual, noField, overflow, isFault, isAnswer}
 use Rattle.definitions.specs.Operators.{Computed}
 use Rattle.definitions.specs.SheetNodes.{SheetNode}
 use Rattle.definitions.specs.Outcomes.{Outcome, numberOutcome, constructorOutcome, endOutcome}
 use Rattle.definitions.specs.Checks.{sheetVerdict}
 use Rattle.definitions.specs.Labels.{neverShared}
 use Rattle.definitions.specs.Translate.{unsharedTranslation}
-use Rattle.definitions.specs.Rule.{Ending, value, ended, integer, constructor}
+use Rattle.definitions.specs.Rule.{Ending, value, integer}
 use Rattle.definitions.specs.Run.{endingOutcome}
 use Rattle.laws.proofs.Ranges.{within-both}
 use Rattle.laws.proofs.Classes.{fault-answer}
@@ -25,17 +24,8 @@ use Rattle.agreement.specs.Meaning.{pattern-field, if-nonzero, if-zero, 
 use Rattle.definitions.specs.declared.Verdict.the-variants.{Accepted}
 use Rattle.readback.proofs.Nodes.{tag-read}
 use Rattle.rule_laws.specs.Reads.{Shows, an-integer, a-constructor, an-end}
-use Rattle.rule_laws.specs.Found.{stopped}
 use Rattle.rule_laws.proofs.Computing.{Result, a-number, out-of-range, no-divisor, computed-result}
 use Rattle.agreement.specs.Corresponds.{Agrees, integers, constructors, ends}
-
--- two endings over cells that are one over labels
-pub same-shown : (t : List ℕ) {A B : ℕ → ℕ → List ℕ → Type 0} {x y : Ending ℕ} {e : Ending (List ℕ)} → Shows A x e → Shows B y e
-    → endingOutcome t x ≡ endingOutcome t y
-unfolding endingOutcome
-same-shown t an-integer an-integer = refl
-same-shown t (a-constructor s) (a-constructor r) = refl
-same-shown t an-end an-end = refl
 
 -- an ending over cells and the end that the sheet's node means
 pub same-meant : {b : List ℕ} {rs : List ℤ} {A : ℕ → ℕ → List ℕ → Type 0} {x : Ending ℕ} {e : Ending (List ℕ)} {d : End} → sheetVerdict b ≡ Accepted
@@ -45,13 +35,6 @@ unfolding endingOutcome outcomeOf unsharedTranslation
 same-meant accepted an-integer integers = refl
 same-meant {b} accepted (a-constructor s) (constructors {k} a h) = rw (tag-read neverShared b accepted k (a .below) h) refl
 same-meant accepted an-end ends = refl
-
--- an ending is stopped when its outcome is a stop's
-pub stop-shown : (t : List ℕ) (x : Ending ℕ) → isStop (endingOutcome t x .outcome) ≡ stopped x
-unfolding endingOutcome numberOutcome constructorOutcome endOutcome isStop within
-stop-shown t (value (integer z)) = refl
-stop-shown t (value (constructor k w)) = refl
-stop-shown t (ended n) = refl
 
 -- an end that is a value, or one of the run faults that the meaning has
 data OwnEnd : End → Type 0 where

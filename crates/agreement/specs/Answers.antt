@@ -9,7 +9,9 @@ use lib.ListN.{length}
 use Rattle.definitions.specs.Numbers.{isStop}
 use Rattle.definitions.specs.Outcomes.{Outcome}
 use Rattle.definitions.specs.Translate.{translation}
+use Rattle.definitions.specs.PlainCells.{plainEvaluation}
 use Rattle.definitions.specs.Run.{Answer, endingOutcome, ruleEnd, refusal, runVerdict, runAnswer}
+use Rattle.cell_rules.specs.Gives.{Gives}
 use Rattle.agreement.specs.Meaning.{OwnAnswer}
 use Rattle.definitions.specs.declared.Verdict.the-variants.{Accepted, Refused}
 
@@ -17,12 +19,16 @@ use Rattle.definitions.specs.declared.Verdict.the-variants.{Accepted, Refused}
 unfoldable pub ruleOutcome : List ℕ → List ℤ → ℕ → ℕ → ℕ → Outcome
 ruleOutcome t rs steps nesting cellsAllowed = endingOutcome t (ruleEnd t rs steps nesting cellsAllowed .ending)
 
--- the rule gives this outcome and value at some allowances
-pub record RuleGives (t : List ℕ) (rs : List ℤ) (a : Outcome) : Type 0 where
-  pub steps : ℕ
-  pub nesting : ℕ
-  pub cellsAllowed : ℕ
-  pub gives : ruleOutcome t rs steps nesting cellsAllowed ≡ a
+-- the same of the rule without remembering
+unfoldable pub plainOutcome : List ℕ → List ℤ → ℕ → ℕ → ℕ → Outcome
+plainOutcome t rs steps nesting cellsAllowed = endingOutcome t (plainEvaluation t rs steps nesting cellsAllowed .ending)
+
+-- each gives this outcome and value at some allowances
+abbrev pub RuleGives : List ℕ → List ℤ → Outcome → Type 0
+RuleGives t rs a = Gives (ruleOutcome t rs) a
+
+abbrev pub PlainGives : List ℕ → List ℤ → Outcome → Type 0
+PlainGives t rs a = Gives (plainOutcome t rs) a
 
 -- the outcome and value of a run's answer
 unfoldable pub answerOutcome : Answer → Outcome

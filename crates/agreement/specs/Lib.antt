@@ -1,5 +1,4 @@
 pub mod Meaning
 pub mod Overflows
 pub mod Answers
-pub mod Contexts
 pub mod Corresponds

@@ -25,7 +25,9 @@ use Rattle.definitions.specs.Outcomes
 use Rattle.definitions.specs.Translate
 use Rattle.definitions.specs.TranslationNodes
 use Rattle.definitions.specs.Rule
+use Rattle.definitions.specs.FormalPlaces
 use Rattle.definitions.specs.Cells
+use Rattle.definitions.specs.CellBytes
 use Rattle.definitions.specs.Run
 use Rattle.definitions.specs.AnswerRecord
 use Rattle.definitions.specs.RunsInTurn
@@ -44,7 +46,7 @@ unfolding
     Layouts.sectionKind Layouts.isDue Layouts.runEnd Layouts.bodyOf
     Kinds.row Kinds.rows Kinds.rowIn Kinds.rowOf Kinds.allows
     Verdicts._andThen_ Verdicts.require Verdicts.firstOf Output.writtenOf Output.outputOf
-    Ranges.within Shape.headCounts Shape.runCounts Shape.counts Shape.operatorCode Shape.shapeAt Shape.shape
+    Ranges.within Shape.headCounts Shape.runCounts Shape.parameterCounts Shape.counts Shape.operatorCode Shape.shapeAt Shape.shape
     Shape.fileShape
     References.fromFirst References.fromSecond References.everyOther References.childCount References.childField
     References.children References.child References.clauses References.namesInRange References.inRange
@@ -58,8 +60,11 @@ unfolding
     TranslationNodes.tupleFields
     Rule.reach Rule.withStep Rule.numberDue Rule.constructorDue Rule.nodeDue Rule.resultOf Rule.selected
     Rule.evaluated Rule.visited
-    Cells.cellOf Cells.underTail Cells.formalByCells Cells.withCell Cells.whereCell Cells.callByCells Cells.byCells
-    Cells.evaluation Cells.cellWords Cells.cellBytes
+    FormalPlaces.functionBy FormalPlaces.positionBy
+    Cells.newCell Cells.cellOf Cells.entryAt Cells.withEntry Cells.changed Cells.withValue Cells.keeping
+    Cells.remembered Cells.recalled Cells.whereOwn Cells.underCell Cells.formalByCells Cells.withCell Rule.whereCell
+    Cells.callByCells Cells.byCells Cells.evaluation
+    CellBytes.entryWords CellBytes.lastWord CellBytes.entriesWords CellBytes.cellWords CellBytes.cellBytes
     Run.endingOutcome Run.endingNode Run.endingContext Run.reachedAnswer Run.ruleEnd Run.ruleAnswer Run.ruleCells
     Run.refusal Run.runVerdict Run.answerAfter Run.runAnswer Run.cellsOver Run.bytesAfter Run.runCells
     AnswerRecord.answerWords AnswerRecord.answerBytes
@@ -71,8 +76,8 @@ unfoldable pub translation : List ℕ
 translation =
     Bytes.bytesOf
     (Translate.recordWords TranslationKinds.head (1 ∷ 1 ∷ 2 ∷ 12 ∷ [])
-    ++ Translate.recordWords TranslationKinds.function (9 ∷ [])
-    ++ Translate.recordWords TranslationKinds.function (3 ∷ [])
+    ++ Translate.recordWords TranslationKinds.function (9 ∷ 0 ∷ [])
+    ++ Translate.recordWords TranslationKinds.function (3 ∷ 1 ∷ [])
     ++ Translate.recordWords TranslationKinds.formalList (1 ∷ 3 ∷ 6 ∷ [])
     ++ Translate.recordWords TranslationKinds.reading (0 ∷ [])
     ++ Translate.recordWords TranslationKinds.number (7 ∷ 0 ∷ [])
@@ -87,23 +92,27 @@ translation =
     ++ Translate.recordWords TranslationKinds.formal (0 ∷ [])
     ++ Translate.recordWords TranslationKinds.operator (0 ∷ 9 ∷ 10 ∷ []))
 
+-- the bytes of a cell that a call of g made under the empty context, and which remembers a number below 65,536
+unfoldable pub cellOfG : ℕ → ℕ → List ℕ
+cellOfG label a = Bytes.bytesOf (label ∷ 0 ∷ 1 ∷ a ∷ replicate 29 0 ++ (1 ∷ []))
+
 -- what the runs in turn are on the readings 1 and 0, in three cells that held 170s, with room for 41 bytes: the second run makes one cell,
--- of label 2, and the first run's second cell, of label 1, stays past it
+-- of label 2, and the first run's second cell, of label 1, stays past it with what it remembers
 pub record TwoRows (r : Written) (after room′ : List ℕ) : Type 0 where
   pub answer : r ≡ answers.Length 40
-  pub cells : after ≡ 2 ∷ 0 ∷ 0 ∷ 0 ∷ 1 ∷ 0 ∷ 0 ∷ 0 ∷ 170 ∷ 170 ∷ 170 ∷ 170 ∷ []
-  -- the numbers 10 after 15 steps with 2 cells, and 200 after 8 steps with 1 cell
-  pub records : room′ ≡ 20 ∷ 0 ∷ 64 ∷ 0 ∷ 0 ∷ 0 ∷ 10 ∷ 0 ∷ 0 ∷ 0 ∷ 15 ∷ 0 ∷ 0 ∷ 0 ∷ 0 ∷ 0 ∷ 0 ∷ 0 ∷ 2 ∷ 0
-      ∷ 20 ∷ 0 ∷ 64 ∷ 0 ∷ 0 ∷ 0 ∷ 200 ∷ 0 ∷ 0 ∷ 0 ∷ 8 ∷ 0 ∷ 0 ∷ 0 ∷ 0 ∷ 0 ∷ 0 ∷ 0 ∷ 1 ∷ 0 ∷ 170 ∷ []
+  pub cells : after ≡ cellOfG 2 100 ++ cellOfG 1 2 ++ replicate 68 170
+  -- the numbers 10 after 13 steps with 2 cells, and 200 after 7 steps with 1 cell
+  pub records : room′ ≡ 20 ∷ 0 ∷ 64 ∷ 0 ∷ 0 ∷ 0 ∷ 10 ∷ 0 ∷ 0 ∷ 0 ∷ 13 ∷ 0 ∷ 0 ∷ 0 ∷ 0 ∷ 0 ∷ 0 ∷ 0 ∷ 2 ∷ 0
+      ∷ 20 ∷ 0 ∷ 64 ∷ 0 ∷ 0 ∷ 0 ∷ 200 ∷ 0 ∷ 0 ∷ 0 ∷ 7 ∷ 0 ∷ 0 ∷ 0 ∷ 0 ∷ 0 ∷ 0 ∷ 0 ∷ 1 ∷ 0 ∷ 170 ∷ []
 
 pub two-rows : (r : Written) (after room′ : List ℕ)
-    → Promise.RunsRows translation 2 (pos 1 ∷ pos 0 ∷ []) 100 10 3 (replicate 12 170) (replicate 41 170) r after room′ → TwoRows r after room′
-unfolding opened translation
+    → Promise.RunsRows translation 2 (pos 1 ∷ pos 0 ∷ []) 100 10 3 (replicate 204 170) (replicate 41 170) r after room′ → TwoRows r after room′
+unfolding opened translation cellOfG
 two-rows r after room′ t = record { answer = t .answer; cells = t .cells; records = t .records }
 
 -- the order of refusals, in three cells and with readings of 1: by the number of rows, of readings and of nested visits, and the room for records
 abbrev refusal : ℕ → ℕ → ℕ → ℕ → Verdict
-refusal rows given nesting room = Promise.rowsVerdict translation rows (replicate given (pos 1)) nesting 3 12 room
+refusal rows given nesting room = Promise.rowsVerdict translation rows (replicate given (pos 1)) nesting 3 204 room
 
 pub in-order :
     (refusal 17 0 0 0 ∷ refusal 17 17 1 0 ∷ refusal 2 2 1 39 ∷ refusal 2 2 1 40 ∷ refusal 0 0 1 0 ∷ [])

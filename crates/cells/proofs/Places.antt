@@ -1,17 +1,13 @@
--- The fields of a cell, what is past the end, and a cell added.
-use mathlib.Core.Path.{_≡_, refl, ap, _∙_}
+-- The fields of a cell, and what is past the end.
+use mathlib.Core.Path.{_≡_, ap, _∙_}
 use Prim.Native.Nat.{ℕ, _+_, _*_, _-_, _/_, _%_, _≤_, _<_}
 use mathlib.Core.List.{List}
 use native.Mathlib.Omega.{arith}
 use lib.ListN.{length, getD}
-use lib.Seq.{sets}
-use borrow.Author.Tests.{lt-ltb, le-ltb}
 use Rattle.definitions.specs.Sizes.{cellSize}
-use Rattle.definitions.specs.Bytes.{word, wordBytes}
+use Rattle.definitions.specs.Bytes.{word}
 use Rattle.definitions.specs.Listing.{labelAt, previousAt}
 use Rattle.laws.proofs.Bytes.{word-past}
-use Rattle.file_fields.proofs.FieldWrites.{two-words}
-use Rattle.cells.specs.Added.{cellAdded}
 
 module _ (b : List ℕ) (c i : ℕ) (e : i ≡ c - 1) where
   pub label-read : (r : ℕ) → r ≡ word b (cellSize * i) → r ≡ labelAt b c
@@ -43,14 +39,3 @@ cell-by-bytes b {c} {x} r ex h el ep e =
       e .0 ∙ el ∙ ap (λ (i : ℕ). getD b i 0 + 256 * getD b (i + 1) 0) at,
       e .1 ∙ ep ∙ ap (λ (i : ℕ). getD b (i + 2) 0 + 256 * getD b (cellSize * x - cellSize + 3) 0) at ∙ ap (λ (i : ℕ). getD b (cellSize * (c - 1) + 2) 0 + 256 * getD b i 0) last,
     )
-
--- a cell added after those made
-pub cell-written : (l : List ℕ) {m r : List ℕ} {made : ℕ} (x y : ℕ) → made < length l / cellSize → m ≡ sets l (cellSize * made) (wordBytes x)
-    → r ≡ sets m (cellSize * made + 2) (wordBytes y)
-    → r ≡ cellAdded l made x y
-unfolding cellAdded
-cell-written l {m} {r} {made} x y h e f = rw (lt-ltb made (length l / cellSize) h) (two-words l m r (cellSize * made) x y e f)
-
-pub cell-past : (l : List ℕ) (made x y : ℕ) → length l / cellSize ≤ made → l ≡ cellAdded l made x y
-unfolding cellAdded
-cell-past l made x y h = rw (le-ltb made (length l / cellSize) h) refl

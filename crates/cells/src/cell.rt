@@ -1,18 +1,24 @@
-// Cells of 4 bytes: label, number of the previous cell. Cells count from 1.
+// Cells of 68 bytes: label, number of the previous cell, eight entries of 8 bytes, and in the last two bytes of the eighth the callee.
+// Cells count from 1, entries from 0.
 ghost use mathlib.Core.Path.{_≡_};
 ghost use Prim.Native.Nat.{_+_, _-_, _*_, _/_, _%_, _<_};
-ghost use lib.ListN.{length};
+ghost use lib.ListN.{length, replicate};
 ghost use lib.Seq.{sets};
 ghost use Rattle.definitions.specs.Bytes.{wordBytes};
 ghost use Rattle.definitions.specs.Listing.{labelAt, previousAt};
-ghost use Rattle.cells.specs.Added.{cellAdded};
+ghost use Rattle.cells.specs.LentCells.{calleeAt, cellAdded};
 use definitions::sizes::CELL_BYTES;
 use file_fields::bytes::field_of;
 use file_fields::bytes::word;
 use widths::wide;
 
+// Where the entries and the callee stand in a cell.
+pub(crate) const ENTRIES_PLACE: usize = 4;
+
+const CALLEE_PLACE: usize = 66;
+
 // The place of cell `c` among the cells, counted from 0; 0 for the empty context.
-fn index(c: usize) -> usize
+pub(crate) fn index(c: usize) -> usize
     ensures { λ r. ⌜ r ≡ c - 1 ⌝ }
 {
     if c == 0 { 0 } else { c - 1 }
@@ -69,7 +75,7 @@ pub fn cell_at(cells: &[u8], c: u16) -> u32
 }
 
 // Writes a field of two bytes at a place inside.
-fn set_word(b: &mut [u8], at: usize, n: u16)
+pub(crate) fn set_word(b: &mut [u8], at: usize, n: u16)
     requires { ⌜ at + 1 < length (now b) ⌝ }
     ensures { λ _. ⌜ now (b .exit) ≡ sets (now (b .entry)) at (wordBytes n) ⌝ }
 {
@@ -77,12 +83,34 @@ fn set_word(b: &mut [u8], at: usize, n: u16)
     b[at + 1] = (n / 256) as u8;
 }
 
-// Adds a cell after those made, where it fits.
-pub fn add_cell(cells: &mut [u8], made: usize, label: u16, previous: u16)
-    ensures { λ _. ⌜ now (cells .exit) ≡ cellAdded (now (cells .entry)) made label previous ⌝ }
+// The callee of cell `c`; 0 where it is not there.
+pub fn callee_at(cells: &[u8], c: u16) -> u16
+    ensures { λ r. ⌜ r ≡ calleeAt (now (cells .entry)) c ⌝ }
+{
+    word(cells, CELL_BYTES * index(wide(c)) + CALLEE_PLACE)
+}
+
+// Clears the entries of the cell at a place inside.
+fn clear_entries(b: &mut [u8], at: usize)
+    requires { ⌜ at + 66 < length (now b) ⌝ }
+    ensures { λ _. ⌜ now (b .exit) ≡ sets (now (b .entry)) (at + 4) (replicate 62 0) ⌝ }
+{
+    let mut i: usize = ENTRIES_PLACE;
+    while i < CALLEE_PLACE {
+        b[at + i] = 0;
+        i += 1;
+    }
+}
+
+// Adds a cell after those made, where it fits. Its entries are empty.
+pub fn add_cell(cells: &mut [u8], made: usize, label: u16, previous: u16, callee: u16)
+    ensures { λ _. ⌜ now (cells .exit) ≡ cellAdded (now (cells .entry)) made label previous callee ⌝ }
 {
     if made < cells.len() / CELL_BYTES {
-        set_word(cells, CELL_BYTES * made, label);
-        set_word(cells, CELL_BYTES * made + 2, previous);
+        let at = CELL_BYTES * made;
+        set_word(cells, at, label);
+        set_word(cells, at + 2, previous);
+        clear_entries(cells, at);
+        set_word(cells, at + CALLEE_PLACE, callee);
     }
 }

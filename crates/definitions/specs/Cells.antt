@@ -1,50 +1,95 @@
--- Contexts kept as cells (document 01, "Run": "a context is a list of labels, kept as cells of 4 bytes: label, number of
--- the previous cell (0 is the empty context; cells count from 1)"), and the evaluation rule over them.
+-- Contexts kept as cells that remember the values of formals (document 01, "Run"; document 02, request 7: "a cell remembers the value
+-- of each formal"), and the evaluation rule over them.
 use Prim.Native.Nat.{ℕ, zero, suc}
 use mathlib.Core.List.{List, [], _∷_, _++_}
 use mathlib.Core.Option.{Option, none, some}
 use mathlib.Core.Bool.{Bool, true, false}
 use lib.IntN.{ℤ}
-use lib.ListN.{length, getElem?}
-use lib.Dec.{ltb}
-use Rattle.definitions.specs.Bytes.{bytesOf}
-use Rattle.definitions.specs.Numbers.{noCell, noActual}
+use lib.ListN.{length, getElem?, getD, set, replicate}
+use lib.Dec.{ltb, eqb}
+use Rattle.definitions.specs.Sizes.{mostFields}
+use Rattle.definitions.specs.Numbers.{noActual}
 use Rattle.definitions.specs.Layouts.{bodyOf}
+use Rattle.definitions.specs.FormalPlaces.{functionOf, positionOf}
 use Rattle.definitions.specs.TranslationNodes.{actual}
-use Rattle.definitions.specs.Rule.{State, Reached, Visit, Contexts, reach, ended, nodeDue, visited}
+use Rattle.definitions.specs.Rule.{Value, Ending, value, ended, State, Reached, Visit, Contexts, reach, nodeDue, whereCell, visited}
 use Rattle.definitions.specs.declared.Layout.the-variants.{Translation}
 
+-- what a cell remembers at a position: a value, or nothing
+abbrev pub Entry : Type 0
+Entry = Option (Value ℕ)
+
+-- "label, previous, then eight entries by position"; the callee is the function whose call made the cell
 pub record Cell : Type 0 where
   pub label : ℕ
   pub previous : ℕ
+  pub callee : ℕ
+  pub entries : List Entry
+
+-- "New cells have empty entries"
+unfoldable pub newCell : ℕ → ℕ → ℕ → Cell
+newCell label w f = record { label = label; previous = w; callee = f; entries = replicate mostFields none }
 
 -- the cell of a context, none for the empty one
 unfoldable pub cellOf : List Cell → ℕ → Option Cell
 cellOf cs zero = none
 cellOf cs (suc c) = getElem? cs c
 
+-- what a cell remembers at a position, and the cell that remembers a value there
+unfoldable pub entryAt : Cell → ℕ → Entry
+entryAt c i = getD (c .entries) i none
+
+unfoldable pub withEntry : ℕ → Value ℕ → Cell → Cell
+withEntry i v c = record { label = c .label; previous = c .previous; callee = c .callee; entries = set (c .entries) i (some v) }
+
+-- the cells with one changed
+unfoldable pub changed : (Cell → Cell) → List Cell → ℕ → List Cell
+changed f [] c = []
+changed f (x ∷ cs) zero = f x ∷ cs
+changed f (x ∷ cs) (suc c) = x ∷ changed f cs c
+
+-- the cells in which the one of context w remembers a value
+unfoldable pub withValue : ℕ → ℕ → Value ℕ → List Cell → List Cell
+withValue zero i v cs = cs
+withValue (suc c) i v cs = changed (withEntry i v) cs c
+
+-- "a value is remembered": of a visit's end, a value and never a stop or a fault
+unfoldable pub keeping : ℕ → ℕ → Ending ℕ → State (List Cell) → State (List Cell)
+keeping w i (value v) s = record { left = s .left; store = withValue w i v (s .store) }
+keeping w i (ended n) s = s
+
+unfoldable pub remembered : ℕ → ℕ → Reached ℕ (List Cell) → Reached ℕ (List Cell)
+remembered w i r = reach (r .ending) (keeping w i (r .ending) (r .state))
+
+-- "if the head cell remembers it, that value is used, else .."
+unfoldable pub recalled : {S : Type 0} → Entry → State S → Reached ℕ S → Reached ℕ S
+recalled none s otherwise = otherwise
+recalled (some v) s otherwise = reach (value v) s
+
+-- "A formal visited under a cell that another function's call made remembers nothing", and uses nothing
+unfoldable pub whereOwn : Bool → ℕ → ℕ → Entry → State (List Cell) → Reached ℕ (List Cell) → Reached ℕ (List Cell)
+whereOwn false w i o s actual = actual
+whereOwn true w i o s actual = recalled o s (remembered w i actual)
+
 -- "formal: visit the actual that the head label names, under the tail"; no head, or no such actual, is 18
-unfoldable pub underTail : List ℕ → Visit ℕ (List Cell) → ℕ → Option Cell → State (List Cell) → Reached ℕ (List Cell)
-underTail b visit p none s = reach (ended noActual) s
-underTail b visit p (some c) s = nodeDue (actual b p (c .label)) noActual s (λ n. visit n (c .previous) s)
+unfoldable pub underCell : List ℕ → Visit ℕ (List Cell) → ℕ → ℕ → Option Cell → State (List Cell) → Reached ℕ (List Cell)
+underCell b visit p w none s = reach (ended noActual) s
+underCell b visit p w (some c) s =
+    whereOwn (eqb (functionOf b p) (c .callee)) w (positionOf b p) (entryAt c (positionOf b p)) s
+    (nodeDue (actual b p (c .label)) noActual s (λ n. visit n (c .previous) s))
 
 unfoldable pub formalByCells : List ℕ → Visit ℕ (List Cell) → ℕ → ℕ → State (List Cell) → Reached ℕ (List Cell)
-formalByCells b visit p w s = underTail b visit p (cellOf (s .store) w) s
+formalByCells b visit p w s = underCell b visit p w (cellOf (s .store) w) s
 
 -- the state with a cell added
-unfoldable pub withCell : ℕ → ℕ → State (List Cell) → State (List Cell)
-withCell label w s =
-    record { left = s .left; store = s .store ++ (record { label = label; previous = w } ∷ []) }
+unfoldable pub withCell : ℕ → ℕ → ℕ → State (List Cell) → State (List Cell)
+withCell label w f s = record { left = s .left; store = s .store ++ (newCell label w f ∷ []) }
 
 -- "call: no cell left, stop 13; else add a cell and visit the body under it"
-unfoldable pub whereCell : Bool → State (List Cell) → (State (List Cell) → Reached ℕ (List Cell)) → Reached ℕ (List Cell)
-whereCell false s go = reach (ended noCell) s
-whereCell true s go = go s
-
 unfoldable pub callByCells : List ℕ → ℕ → Visit ℕ (List Cell) → ℕ → ℕ → ℕ → State (List Cell) → Reached ℕ (List Cell)
 callByCells b cellsAllowed visit label f w s =
     whereCell (ltb (length (s .store)) cellsAllowed) s
-    (λ t. visit (bodyOf Translation b f) (suc (length (t .store))) (withCell label w t))
+    (λ t. visit (bodyOf Translation b f) (suc (length (t .store))) (withCell label w f t))
 
 unfoldable pub byCells : List ℕ → ℕ → Contexts ℕ (List Cell)
 byCells b cellsAllowed = record { atFormal = formalByCells b; atCall = callByCells b cellsAllowed }
@@ -53,11 +98,3 @@ byCells b cellsAllowed = record { atFormal = formalByCells b; atCall = callByCel
 unfoldable pub evaluation : List ℕ → List ℤ → ℕ → ℕ → ℕ → Reached ℕ (List Cell)
 evaluation b rs steps nesting cellsAllowed =
     visited (byCells b cellsAllowed) b rs nesting (bodyOf Translation b 0) 0 (record { left = steps; store = [] })
-
--- the bytes of cells
-unfoldable pub cellWords : List Cell → List ℕ
-cellWords [] = []
-cellWords (c ∷ cs) = c .label ∷ c .previous ∷ cellWords cs
-
-unfoldable pub cellBytes : List Cell → List ℕ
-cellBytes cs = bytesOf (cellWords cs)

@@ -1,5 +1,6 @@
 -- The kinds with least, step and greatest length (document 01, "Each kind has a fixed length or a least, a step and a
--- greatest"), in the paper's order. A fixed length is a least that is the greatest.
+-- greatest"), in the paper's order; a translation's function has the length of document 02, request 7. A fixed length is a least
+-- that is the greatest.
 use Prim.Native.Nat.{ℕ, _-_, _%_}
 use mathlib.Core.List.{List, [], _∷_}
 use mathlib.Core.Bool.{Bool, cond, _&&_}
@@ -31,7 +32,7 @@ rows =
     ∷ row SheetKinds.build 6 2 22
     ∷ row SheetKinds.caseOf 10 4 262
     ∷ row TranslationKinds.head 12 2 12
-    ∷ row TranslationKinds.function 6 2 6
+    ∷ row TranslationKinds.function 8 2 8
     ∷ row TranslationKinds.formalList 4 2 2052
     ∷ row TranslationKinds.number 8 2 8
     ∷ row TranslationKinds.reading 6 2 6

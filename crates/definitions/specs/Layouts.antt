@@ -78,6 +78,10 @@ countField Translation = 0
 abbrev pub nodeCount : Layout → List ℕ → ℕ → ℕ
 nodeCount y b f = field (functionRecord y b f) (countField y)
 
+-- the parameter count of function f in a translation (document 02, request 7)
+abbrev pub parameterCount : List ℕ → ℕ → ℕ
+parameterCount b f = field (functionRecord Translation b f) 1
+
 -- the first node after the run of function f, the last node of that run, and the function whose run holds node k
 unfoldable pub runEnd : Layout → List ℕ → ℕ → ℕ
 runEnd y b f = sumOf (suc f) (nodeCount y b)

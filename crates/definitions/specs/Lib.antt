@@ -22,8 +22,11 @@ pub mod Outcomes
 pub mod Trees
 pub mod Labels
 pub mod Translate
+pub mod FormalPlaces
 pub mod Rule
+pub mod PlainCells
 pub mod Cells
+pub mod CellBytes
 pub mod Run
 pub mod AnswerRecord
 pub mod RunsInTurn

@@ -4,10 +4,10 @@
 use Prim.Native.Nat.{ℕ, zero, suc}
 use mathlib.Core.List.{List}
 use mathlib.Core.Option.{Option, none, some}
-use mathlib.Core.Bool.{cond}
+use mathlib.Core.Bool.{Bool, true, false, cond}
 use lib.IntN.{ℤ, pos}
 use lib.ListN.{getD, getElem?}
-use Rattle.definitions.specs.Numbers.{noStep, noNesting, numberWanted, constructorWanted, noClause, noField}
+use Rattle.definitions.specs.Numbers.{noStep, noNesting, noCell, numberWanted, constructorWanted, noClause, noField}
 use Rattle.definitions.specs.Operators.{Computed, gives, faults, computed, isZero}
 use Rattle.definitions.specs.NodeFields.{chosen}
 use Rattle.definitions.specs.TranslationNodes.{TranslationNode, number, reading, formal, select, operator, conditional, call, tuple, caseOf, translationNodeOf, tagOf, tupleFields}
@@ -65,6 +65,11 @@ constructorDue (ended n) s go = reach (ended n) s
 unfoldable pub nodeDue : {C S : Type 0} → Option ℕ → ℕ → State S → (ℕ → Reached C S) → Reached C S
 nodeDue none fault s go = reach (ended fault) s
 nodeDue (some k) fault s go = go k
+
+-- "no cell left, stop 13"; else go on
+unfoldable pub whereCell : {C S : Type 0} → Bool → State S → (State S → Reached C S) → Reached C S
+whereCell false s go = reach (ended noCell) s
+whereCell true s go = go s
 
 -- an operator's result
 unfoldable pub resultOf : {C S : Type 0} → Computed → State S → Reached C S

@@ -14,7 +14,8 @@ use Rattle.definitions.specs.Checks.{translationVerdict}
 use Rattle.definitions.specs.Outcomes.{Outcome, numberOutcome, constructorOutcome, endOutcome}
 use Rattle.definitions.specs.TranslationNodes.{tagOf}
 use Rattle.definitions.specs.Rule.{integer, constructor, Ending, value, ended, Reached}
-use Rattle.definitions.specs.Cells.{Cell, evaluation, cellBytes}
+use Rattle.definitions.specs.Cells.{Cell, evaluation}
+use Rattle.definitions.specs.CellBytes.{cellBytes}
 use Rattle.definitions.specs.declared.Verdict.{Verdict}
 use Rattle.definitions.specs.declared.Verdict.the-variants.{Accepted, Refused}
 
@@ -75,7 +76,7 @@ ruleCells b rs steps nesting cells before = cellsOver before (ruleEnd b rs steps
 unfoldable pub refusal : ℕ → ℕ → Answer
 refusal n p = record { outcome = n; value = pos p; steps = 0; node = 0; context = 0; cells = 0 }
 
--- "nesting 1..1,024; cells 0..8,192, with 4 bytes lent for each"; `lent` is how many cell bytes are lent
+-- "nesting 1..1,024; cells 0..960, with 68 bytes lent for each"; `lent` is how many cell bytes are lent
 abbrev pub allowancesFit : ℕ → ℕ → ℕ → Bool
 allowancesFit nesting cells lent = within 1 mostNesting nesting && leb cells mostCells && leb (cellSize * cells) lent
 

@@ -16,7 +16,7 @@ use Rattle.definitions.specs.Sizes.{sheetBytes, translationBytes, mostRe
 use Rattle.definitions.specs.Numbers.{truncated, oversize, badRecord, badCount}
 use Rattle.definitions.specs.Verdicts.{_andThen_, require, firstOf}
 use Rattle.definitions.specs.Lists.{sumOf}
-use Rattle.definitions.specs.Layouts.{readings, items, functions, nodes, firstFunction, due, isDue, countField, nodeCount}
+use Rattle.definitions.specs.Layouts.{readings, items, functions, nodes, firstFunction, due, isDue, countField, nodeCount, parameterCount}
 use Rattle.definitions.specs.declared.Layout.{Layout}
 use Rattle.definitions.specs.declared.Layout.the-variants.{Sheet, Translation}
 use Rattle.definitions.specs.declared.Verdict.{Verdict}
@@ -42,13 +42,19 @@ runCounts y b r rec =
     leb 1 (field rec (countField y))
     && cond (eqb (suc r) (firstFunction y b + functions b)) (eqb (sumOf (functions b) (nodeCount y b)) (nodes b)) true
 
+-- document 02, request 7: "0 to 8, else 4 at that function; a sum that isn't P is 4 at the last function"
+unfoldable pub parameterCounts : List ℕ → ℕ → List ℕ → Bool
+parameterCounts b r rec =
+    within 0 mostFields (field rec 1)
+    && cond (eqb (suc r) (firstFunction Translation b + functions b)) (eqb (sumOf (functions b) (parameterCount b)) (items b)) true
+
 -- the counts of record r by its kind; "arity 0..8", "parameters 0..8"
 unfoldable pub counts : Layout → List ℕ → ℕ → List ℕ → Bool
 counts y b r rec =
     cond (eqb r 0) (headCounts y b)
     (cond (eqb (kindOf rec) SheetKinds.constructor) (within 0 mostFields (field rec 0))
     (cond (eqb (kindOf rec) SheetKinds.function) (within 0 mostFields (field rec 0) && runCounts y b r rec)
-    (cond (eqb (kindOf rec) TranslationKinds.function) (runCounts y b r rec) true)))
+    (cond (eqb (kindOf rec) TranslationKinds.function) (parameterCounts b r rec && runCounts y b r rec) true)))
 
 -- "operator code above 5"
 unfoldable pub operatorCode : List ℕ → Bool

@@ -41,13 +41,17 @@ mostRecords = 1601
 abbrev pub mostNesting : ℕ
 mostNesting = 1024
 
--- "cells 0..8,192"
+-- document 02, request 7: "The cell ceiling becomes 960"
 abbrev pub mostCells : ℕ
-mostCells = 8192
+mostCells = 960
 
--- "with 4 bytes lent for each"
+-- "A cell becomes 68 bytes"
 abbrev pub cellSize : ℕ
-cellSize = 4
+cellSize = 68
+
+-- "entries by position of 8 bytes"
+abbrev pub entrySize : ℕ
+entrySize = 8
 
 -- "Record kind 64, 20 bytes"
 abbrev pub answerSize : ℕ

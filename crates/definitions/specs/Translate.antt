@@ -57,7 +57,7 @@ unfoldable pub headWords : List ℕ → List ℕ
 headWords b = recordWords TranslationKinds.head (readings b ∷ formals b ∷ functions b ∷ nodes b ∷ [])
 
 unfoldable pub functionWords : List ℕ → ℕ → List ℕ
-functionWords b f = recordWords TranslationKinds.function (nodeCount Sheet b f ∷ [])
+functionWords b f = recordWords TranslationKinds.function (nodeCount Sheet b f ∷ parameters b f ∷ [])
 
 unfoldable pub formalWords : Labelling → List ℕ → ℕ → List ℕ
 formalWords same b f = joined (parameters b f) (λ i. recordWords TranslationKinds.formalList (actuals same b f i))

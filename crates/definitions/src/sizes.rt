@@ -23,12 +23,15 @@ pub const MOST_FIELDS: usize = 8;
 // The records of the largest translation: one head, 64 functions, 512 formals, 1,024 nodes. A sheet has fewer.
 pub const MOST_RECORDS: usize = 1601;
 
-// "nesting 1..1,024; cells 0..8,192, with 4 bytes lent for each".
+// "nesting 1..1,024".
 pub const MOST_NESTING: u32 = 1024;
 
-pub const MOST_CELLS: u32 = 8192;
+// Document 02, request 7: "The cell ceiling becomes 960", "A cell becomes 68 bytes", "entries by position of 8 bytes".
+pub const MOST_CELLS: u32 = 960;
 
-pub const CELL_BYTES: usize = 4;
+pub const CELL_BYTES: usize = 68;
+
+pub const ENTRY_BYTES: usize = 8;
 
 // "Record kind 64, 20 bytes".
 pub const ANSWER_BYTES: usize = 20;

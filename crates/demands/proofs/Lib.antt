@@ -17,3 +17,4 @@ pub mod Demands
 pub mod Requests
 pub mod SharedLabels
 pub mod HiredTrailers
+pub mod RememberedValues

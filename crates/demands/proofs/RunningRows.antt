@@ -23,7 +23,7 @@ use Rattle.definitions.specs.declared.Verdict.the-variants.{Accepted, Refused}
 use Rattle.laws.proofs.Verdicts.{both-accepted, required}
 use Rattle.laws.proofs.Joined.{joined-split}
 use Rattle.laws.proofs.CellBytes.{over-size}
-use Rattle.agreement.proofs.KnownEnds.{rule-cells-allowed}
+use Rattle.agreement.proofs.KnownEnds.{rule-cells-allowed, rule-cells-full}
 use Rattle.allowances.proofs.Limits.{fitting}
 use Rattle.answer.proofs.Records.{answer-length}
 use Rattle.batch.specs.Promise.{rowsVerdict, rowsRecords}
@@ -44,7 +44,7 @@ module _ (b : List ℕ) (rs : List ℤ) (steps nesting cellsAllowed : ℕ) (befo
   kept-by (Refused n p) e = refl
   kept-by Accepted e =
       let fit = fitting nesting cellsAllowed (length before) _ refl (required _ badAllowance 0 (both-accepted _ _ e .1)) in
-      over-size before _ (omega (arith, rule-cells-allowed b rs cellsAllowed steps nesting, fit .lends))
+      over-size before _ (rule-cells-full b rs cellsAllowed steps nesting) (omega (arith, rule-cells-allowed b rs cellsAllowed steps nesting, fit .lends))
 
   cells-kept : length (runCells b rs steps nesting cellsAllowed before) ≡ length before
   unfolding runCells

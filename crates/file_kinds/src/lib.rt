@@ -54,7 +54,7 @@ const ROWS: Rows = [
     NONE,
     NONE,
     [12, 2, 12], // 33: head
-    [6, 2, 6], // 34: function
+    [8, 2, 8], // 34: function
     [4, 2, 2052], // 35: formal (a list of actuals)
     NONE,
     NONE,

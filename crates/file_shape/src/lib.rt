@@ -3,9 +3,10 @@ ghost use mathlib.Core.Path.{_≡_};
 ghost use Prim.Native.Nat.{_+_, _≤_};
 ghost use lib.ListN.{length};
 ghost use Rattle.definitions.specs.Sizes.{mostRecords};
+ghost use Rattle.definitions.specs.Records.{field};
 ghost use Rattle.definitions.specs.Lists.{sumOf};
-ghost use Rattle.definitions.specs.Layouts.{functions, firstFunction, nodeCount, due};
-ghost use Rattle.definitions.specs.Shape.{fileLimit, headCounts, runCounts, counts, operatorCode, shapeAt};
+ghost use Rattle.definitions.specs.Layouts.{functions, firstFunction, functionRecord, due};
+ghost use Rattle.definitions.specs.Shape.{fileLimit, headCounts, runCounts, parameterCounts, counts, operatorCode, shapeAt};
 ghost use Rattle.file_records.specs.Index.{Indexed};
 ghost use Rattle.file_shape.specs.Walks.{WalkAt, Walked};
 use definitions::Layout;
@@ -64,14 +65,13 @@ fn head_counts(y: Layout, b: &[u8]) -> bool
     n <= MOST_NODES
 }
 
-// The sum of the functions' node counts.
-fn run_total(y: Layout, b: &[u8], starts: &Starts) -> usize
+// The sum of field `j` over the functions' records.
+fn field_total(y: Layout, b: &[u8], starts: &Starts, j: usize) -> usize
     requires { ⌜ Indexed (now b) (now starts) (firstFunction y (now b) + functions (now b)) ⌝ }
-    ensures { λ r. ⌜ r ≡ sumOf (functions (now (b .entry))) (nodeCount y (now (b .entry))) ⌝ }
+    ensures { λ r. ⌜ r ≡ sumOf (functions (now (b .entry))) (λ f. field (functionRecord y (now (b .entry)) f) j) ⌝ }
 {
     let first = first_function(y, b);
     let count = functions(b) as usize;
-    let j = count_field(y);
     let mut total: usize = 0;
     let mut f: usize = 0;
     while f < count {
@@ -86,11 +86,27 @@ fn run_counts(y: Layout, b: &[u8], starts: &Starts, r: usize, rec: &[u8]) -> boo
     requires { ⌜ Indexed (now b) (now starts) (r + 1) ⌝ }
     ensures { λ t. ⌜ t ≡ runCounts y (now (b .entry)) r (now (rec .entry)) ⌝ }
 {
-    if field(rec, count_field(y)) < 1 {
+    let j = count_field(y);
+    if field(rec, j) < 1 {
         return false;
     }
     if r + 1 == first_function(y, b) + functions(b) as usize {
-        return run_total(y, b, starts) == nodes(b) as usize;
+        return field_total(y, b, starts, j) == nodes(b) as usize;
+    }
+    true
+}
+
+// A translation's parameter counts: the function's own, and at the last function the sum.
+fn parameter_counts(b: &[u8], starts: &Starts, r: usize, rec: &[u8]) -> bool
+    requires { ⌜ Indexed (now b) (now starts) (r + 1) ⌝ }
+    ensures { λ t. ⌜ t ≡ parameterCounts (now (b .entry)) r (now (rec .entry)) ⌝ }
+{
+    if MOST_FIELDS < field(rec, 1) as usize {
+        return false;
+    }
+    let y = Layout::Translation;
+    if r + 1 == first_function(y, b) + functions(b) as usize {
+        return field_total(y, b, starts, 1) == items(b) as usize;
     }
     true
 }
@@ -114,6 +130,9 @@ fn counts(y: Layout, b: &[u8], starts: &Starts, r: usize, rec: &[u8]) -> bool
         return run_counts(y, b, starts, r, rec);
     }
     if k == translation_kinds::FUNCTION {
+        if !parameter_counts(b, starts, r, rec) {
+            return false;
+        }
         return run_counts(y, b, starts, r, rec);
     }
     true

@@ -6,11 +6,11 @@ use mathlib.Core.Path.{_≡_}
 use lib.Dec.{leb, ltb}
 use lib.ListN.{length, getD}
 use lib.Seq.{sets}
-use Rattle.definitions.specs.Sizes.{translationBytes}
+use Rattle.definitions.specs.Sizes.{mostCells, cellSize}
 
--- how many bytes the space has: one more than document 01 allows the larger of its two files
+-- how many bytes the space has: those of one cell more than there may be
 abbrev pub spaceBytes : ℕ
-spaceBytes = translationBytes + 1
+spaceBytes = cellSize * (mostCells + 1)
 
 -- a word fits at the places below this one
 abbrev pub wordPlaces : ℕ

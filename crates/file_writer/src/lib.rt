@@ -3,11 +3,12 @@
 ghost use mathlib.Core.Path.{_≡_};
 ghost use Prim.Native.Nat.{_+_, _*_, _<_};
 ghost use Rattle.file_writer.specs.Writing.{walkEnd, wordBytes, written, Written, skipped, startOf};
-use definitions::sizes::TRANSLATION_BYTES;
+use definitions::sizes::CELL_BYTES;
+use definitions::sizes::MOST_CELLS;
 use widths::wide8;
 
-// How many bytes the space has: one more than document 01 allows the larger of its two files.
-pub const SPACE_BYTES: usize = TRANSLATION_BYTES + 1;
+// How many bytes the space has: those of one cell more than there may be. A file may have fewer.
+pub const SPACE_BYTES: usize = CELL_BYTES * (MOST_CELLS as usize + 1);
 
 // A word fits at the places below this one.
 const WORD_PLACES: usize = SPACE_BYTES - 1;

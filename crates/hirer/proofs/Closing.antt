@@ -36,7 +36,7 @@ module _ {b tab : List ℕ} (t : Readable b tab) {k : ℕ} (h : k < nodes b) whe
 
     module _ (e : kind ≡ kinds.reading) {i : ℕ} (ei : i ≡ firstPart x) where
       first-is : i ≡ field (nodeRecord b k) 0
-      first-is = ei ∙ rw ex (t .table .entry k h .first)
+      first-is = ei ∙ rw ex (t .table .entry k h .first (λ q. omega (arith, q, kind-is, e)))
 
       pub reading-narrow : i < mostReadings
       reading-narrow =

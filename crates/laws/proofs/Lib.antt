@@ -16,5 +16,7 @@ pub mod Walk
 pub mod ByteFiles
 pub mod NodeKinds
 pub mod Stores
+pub mod Words
+pub mod Cells
 pub mod CellBytes
 pub mod FirstPassing

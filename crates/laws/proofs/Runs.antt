@@ -5,7 +5,7 @@ use mathlib.Core.List.{List}
 use native.Mathlib.Omega.{arith}
 use Rattle.definitions.specs.Records.{recordOf, field}
 use Rattle.definitions.specs.Lists.{sumOf}
-use Rattle.definitions.specs.Layouts.{firstFunction, countField, nodeCount}
+use Rattle.definitions.specs.Layouts.{firstFunction, functionRecord, countField, nodeCount}
 use Rattle.definitions.specs.declared.Layout.{Layout}
 use Rattle.laws.proofs.Lists.{sum-more, sum-none}
 
@@ -21,6 +21,10 @@ pub total-more : (b : List ℕ) (first j n total x : ℕ) → Totalled b first j
 total-more b first j n total x t e =
     record { is = rw (t .is, e) (sym (sum-more n (λ i. field (recordOf b (first + i)) j))) }
 
+pub total-fields : (y : Layout) (b : List ℕ) (first j n m total : ℕ) → Totalled b first j n total → first ≡ firstFunction y b → n ≡ m
+    → total ≡ sumOf m (λ f. field (functionRecord y b f) j)
+total-fields y b first j n m total t e g = t .is ∙ rw (e, g) refl
+
 pub total-counts : (y : Layout) (b : List ℕ) (first j n m total : ℕ) → Totalled b first j n total → first ≡ firstFunction y b → j ≡ countField y
     → n ≡ m → total ≡ sumOf m (nodeCount y b)
-total-counts y b first j n m total t e f g = t .is ∙ rw (e, f, g) refl
+total-counts y b first j n m total t e f g = total-fields y b first j n m total t e g ∙ rw f refl

@@ -1,6 +1,6 @@
 -- Laws of the layouts' numbers and of the checks of a record's shape: what each is where the tests went one way or the
 -- other. What was read of the file, and what a test answered, stand as variables with an equation.
-use mathlib.Core.Path.{_≡_, refl}
+use mathlib.Core.Path.{_≡_, refl, ap, _∙_}
 use Prim.Native.Nat.{ℕ, suc, _+_, _-_, _≤_, _<_}
 use mathlib.Core.List.{List}
 use mathlib.Core.Bool.{Bool, true, false, _&&_}
@@ -18,8 +18,9 @@ use Rattle.definitions.specs.Records.{recordAt, kindOf, field}
 use Rattle.definitions.specs.Kinds.{rowOf, allows}
 use Rattle.definitions.specs.Lists.{sumOf}
 use Rattle.definitions.specs.Verdicts.{_andThen_, require}
-use Rattle.definitions.specs.Layouts.{readings, items, functions, nodes, firstItem, firstFunction, firstNode, headKind, sectionKind, nodeKind, isDue, countField, nodeCount}
-use Rattle.definitions.specs.Shape.{itemLimit, headCounts, runCounts, counts, operatorCode, shapeAt}
+use Rattle.definitions.specs.Layouts.{readings, items, functions, nodes, firstItem, firstFunction, firstNode, headKind, sectionKind, nodeKind, isDue}
+use Rattle.definitions.specs.Layouts.{functionRecord, countField, nodeCount, parameterCount}
+use Rattle.definitions.specs.Shape.{itemLimit, headCounts, runCounts, parameterCounts, counts, operatorCode, shapeAt}
 use Rattle.definitions.specs.Ranges.{within}
 use Rattle.laws.proofs.Ranges.{within-both, within-below, within-above}
 use Rattle.definitions.specs.declared.Layout.{Layout}
@@ -136,17 +137,36 @@ unfolding runCounts
 run-empty y b rec r n j q e h = rw (← q, ← e, lt-leb 1 n h) refl
 
 pub run-last : (y : Layout) (b rec : List ℕ) (r n j f c s m : ℕ) → j ≡ countField y → n ≡ field rec j → 1 ≤ n
-    → f ≡ firstFunction y b → c ≡ functions b → r + 1 ≡ f + c → s ≡ sumOf (functions b) (nodeCount y b) → m ≡ nodes b
+    → f ≡ firstFunction y b → c ≡ functions b → r + 1 ≡ f + c → s ≡ sumOf (functions b) (λ i. field (functionRecord y b i) j) → m ≡ nodes b
     → eqb s m ≡ runCounts y b r rec
 unfolding runCounts
 run-last y b rec r n j f c s m q e h i k l g o =
-    rw (← q, ← e, le-leb 1 n h, ← i, ← k, eq-eqb (suc r) (f + c) (omega (arith, l)), g, k, o) refl
+    let z : s ≡ sumOf (functions b) (nodeCount y b) = g ∙ ap (λ x. sumOf (functions b) (λ i. field (functionRecord y b i) x)) q in
+    rw (← q, ← e, le-leb 1 n h, ← i, ← k, eq-eqb (suc r) (f + c) (omega (arith, l)), z, k, o) refl
 
 pub run-inner : (y : Layout) (b rec : List ℕ) (r n j f c : ℕ) → j ≡ countField y → n ≡ field rec j → 1 ≤ n
     → f ≡ firstFunction y b → c ≡ functions b → (r + 1 ≡ f + c → ⊥) → true ≡ runCounts y b r rec
 unfolding runCounts
 run-inner y b rec r n j f c q e h i k l =
     rw (← q, ← e, le-leb 1 n h, ← i, ← k, ne-eqb (suc r) (f + c) (λ p. l (omega (arith, p)))) refl
+
+-- and its parameter counts in a translation
+pub parameters-above : (b rec : List ℕ) (r n : ℕ) → n ≡ field rec 1 → 8 < n → false ≡ parameterCounts b r rec
+unfolding parameterCounts
+parameters-above b rec r n e h = rw (← e, within-above 0 8 n h) refl
+
+pub parameters-last : (b rec : List ℕ) (r n f c s m : ℕ) → n ≡ field rec 1 → n ≤ 8
+    → f ≡ firstFunction Translation b → c ≡ functions b → r + 1 ≡ f + c → s ≡ sumOf (functions b) (parameterCount b) → m ≡ items b
+    → eqb s m ≡ parameterCounts b r rec
+unfolding parameterCounts
+parameters-last b rec r n f c s m e h i k l g o =
+    rw (← e, within-both 0 8 n (omega arith) h, eq-eqb (suc r) (1 + functions b) (omega (arith, i, k, l)), g, o) refl
+
+pub parameters-inner : (b rec : List ℕ) (r n f c : ℕ) → n ≡ field rec 1 → n ≤ 8
+    → f ≡ firstFunction Translation b → c ≡ functions b → (r + 1 ≡ f + c → ⊥) → true ≡ parameterCounts b r rec
+unfolding parameterCounts
+parameters-inner b rec r n f c e h i k l =
+    rw (← e, within-both 0 8 n (omega arith) h, ne-eqb (suc r) (1 + functions b) (λ p. l (omega (arith, i, k, p)))) refl
 
 -- the counts of a record
 pub counts-head : (y : Layout) (b rec : List ℕ) (r : ℕ) (t : Bool) → r ≡ 0 → t ≡ headCounts y b → t ≡ counts y b r rec
@@ -166,9 +186,14 @@ module _ (y : Layout) (b rec : List ℕ) (r k : ℕ) (er : r ≡ 0 → ⊥) (ek 
   unfolding counts
   counts-sheet-run a t e f h g = rw (ne-eqb r 0 er, ← ek, e, ← f, within-both 0 8 a (omega arith) h, g) refl
 
-  pub counts-run : (t : Bool) → k ≡ TranslationKinds.function → t ≡ runCounts y b r rec → t ≡ counts y b r rec
+  pub counts-formals : (t : Bool) → k ≡ TranslationKinds.function → t ≡ parameterCounts b r rec → t ≡ false → false ≡ counts y b r rec
   unfolding counts
-  counts-run t e f = rw (ne-eqb r 0 er, ← ek, e, f) refl
+  counts-formals t e f h = rw (ne-eqb r 0 er, ← ek, e, ← f, h) refl
+
+  pub counts-run : (t u : Bool) → k ≡ TranslationKinds.function → t ≡ parameterCounts b r rec → t ≡ true → u ≡ runCounts y b r rec
+      → u ≡ counts y b r rec
+  unfolding counts
+  counts-run t u e f h g = rw (ne-eqb r 0 er, ← ek, e, ← f, h, g) refl
 
   pub counts-other : (k ≡ 2 → ⊥) → (k ≡ 3 → ⊥) → (k ≡ TranslationKinds.function → ⊥) → true ≡ counts y b r rec
   unfolding counts

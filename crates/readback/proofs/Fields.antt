@@ -15,7 +15,7 @@ use Rattle.definitions.specs.References.{clauses, clauseConstructor}
 use Rattle.definitions.specs.NodeFields.{Clause, fieldsFrom, clauseList}
 use Rattle.definitions.specs.Translate.{recordWords, clauseWords}
 use Rattle.laws.proofs.Lists.{listed-length, listed-at}
-use Rattle.readback.proofs.Words.{word-read}
+use Rattle.laws.proofs.Words.{word-read}
 use Rattle.readback.proofs.Made.{record-bytes}
 
 -- words that 16 bits hold

@@ -58,6 +58,10 @@ fit-clauses (c ∷ cs) f =
     fit-more (c .constructor) (node ∷ clauseWords cs) (f 0 c refl .0)
     (fit-more (node) (clauseWords cs) (f 0 c refl .1) (fit-clauses cs (λ j d e. f (suc j) d e)))
 
+-- the fields of a function's record
+abbrev pub functionFields : List ℕ → ℕ → List ℕ
+functionFields b f = nodeCount Sheet b f ∷ parameters b f ∷ []
+
 module _ (b : List ℕ) (accepted : sheetVerdict b ≡ Accepted) where
   -- a formal is one of all, and there are at most 512
   pub formal-in-range : (f i : ℕ) → f < functions b → i < parameters b f → formalOf b f i < formals b
@@ -88,11 +92,12 @@ module _ (b : List ℕ) (accepted : sheetVerdict b ≡ Accepted) where
       omega (arith, p .below, arity-limit b (sheet-shape b accepted) (p .constructor) c)
 
   -- a function's record
-  pub function-writable : (f : ℕ) → f < functions b → Writable (nodeCount Sheet b f ∷ [])
+  pub function-writable : (f : ℕ) → f < functions b → Writable (functionFields b f)
   function-writable f h =
       let s = sheet-shape b accepted in
-      writable-one (nodeCount Sheet b f)
+      writable-two (nodeCount Sheet b f) (parameters b f)
       (omega (arith, sum-term f (functions b) (nodeCount Sheet b) h, node-counts-sum Sheet b s, nodes-limit Sheet b s))
+      (omega (arith, parameters-limit b s f h))
 
 module _ (same : Labelling) (b : List ℕ) (accepted : sheetVerdict b ≡ Accepted) where
   -- a formal's record

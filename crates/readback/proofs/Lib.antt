@@ -1,4 +1,3 @@
-pub mod Words
 pub mod Made
 pub mod Fields
 pub mod Signed

@@ -12,7 +12,7 @@ use Rattle.definitions.specs.Records.{whole, next, startOf, recordAt, recordOf}
 use Rattle.definitions.specs.Lists.{joined, sumOf}
 use Rattle.definitions.specs.Translate.{recordWords}
 use Rattle.laws.proofs.Records.{is-whole, record-whole, next-whole, start-zero, start-next}
-use Rattle.readback.proofs.Words.{bytes-length, bytes-append, first-word, word-behind}
+use Rattle.laws.proofs.Words.{bytes-length, bytes-append, first-word, word-behind}
 
 -- a record has a word for its length, one for its kind and one for each field
 pub words-length : (k : ℕ) (fs : List ℕ) → length (recordWords k fs) ≡ 2 + length fs

@@ -9,7 +9,7 @@ use mir.Syntax.{w32}
 use Rattle.definitions.specs.Bytes.{signed, words32, bytesOf}
 use Rattle.definitions.specs.TranslationKinds
 use Rattle.definitions.specs.Operators.{residue}
-use Rattle.definitions.specs.Layouts.{functions, nodes, nodeRecord, nodeCount, runEnd, bodyOf, ownerOf}
+use Rattle.definitions.specs.Layouts.{functions, nodes, nodeRecord, nodeCount, parameterCount, runEnd, bodyOf, ownerOf}
 use Rattle.definitions.specs.References.{parameters}
 use Rattle.definitions.specs.NodeFields.{Clause}
 use Rattle.definitions.specs.SheetNodes.{SheetNode, number, reading, parameter, patternVariable, operator, conditional, call, build, caseOf, sheetNodeOf, scrutineeOf}
@@ -26,7 +26,7 @@ use Rattle.accepted.proofs.Checks.{sheet-shape}
 use Rattle.readback.specs.TranslatedNode.{translatedNode, translatedKind, translatedFields}
 use Rattle.readback.proofs.Fields.{Fit, kind-read, field-read, fields-read, fields-after, clauses-read}
 use Rattle.readback.proofs.Signed.{signed-read}
-use Rattle.readback.proofs.Fitting.{function-writable, formal-writable, node-writable}
+use Rattle.readback.proofs.Fitting.{functionFields, function-writable, formal-writable, node-writable}
 use Rattle.readback.proofs.Records.{node-words, function-written, formal-written, node-written}
 
 -- a number of a sheet is a signed field
@@ -74,12 +74,18 @@ module _ (same : Labelling) (b : List ℕ) (k : ℕ) where
       rw (kind-read TranslationKinds.caseOf (m ∷ clauseWords cs) (omega arith), field-read TranslationKinds.caseOf (m ∷ clauseWords cs) f 0, clauses-read TranslationKinds.caseOf m cs f) refl
 
 module _ (same : Labelling) (b : List ℕ) (accepted : sheetVerdict b ≡ Accepted) where
-  -- the functions' runs are the sheet's
+  -- the functions' runs and parameters are the sheet's
   pub node-count-read : (f : ℕ) → f < functions b → nodeCount Translation (translationBy same b) f ≡ nodeCount Sheet b f
   unfolding functionWords
   node-count-read f h =
       rw (function-written same b accepted f h)
-      (field-read TranslationKinds.function (nodeCount Sheet b f ∷ []) (function-writable b accepted f h .fit) 0)
+      (field-read TranslationKinds.function (functionFields b f) (function-writable b accepted f h .fit) 0)
+
+  pub parameter-count-read : (f : ℕ) → f < functions b → parameterCount (translationBy same b) f ≡ parameters b f
+  unfolding functionWords
+  parameter-count-read f h =
+      rw (function-written same b accepted f h)
+      (field-read TranslationKinds.function (functionFields b f) (function-writable b accepted f h .fit) 1)
 
   pub run-end-read : (f : ℕ) → f < functions b → runEnd Translation (translationBy same b) f ≡ runEnd Sheet b f
   unfolding runEnd

@@ -9,7 +9,7 @@ use Rattle.definitions.specs.Bytes.{word, bytesOf}
 use Rattle.definitions.specs.Records.{startOf, recordOf}
 use Rattle.definitions.specs.TranslationKinds
 use Rattle.definitions.specs.Lists.{joined, sumOf}
-use Rattle.definitions.specs.Layouts.{readings, items, functions, nodes, due, itemRecord, functionRecord, nodeRecord, nodeCount}
+use Rattle.definitions.specs.Layouts.{readings, items, functions, nodes, due, itemRecord, functionRecord, nodeRecord}
 use Rattle.definitions.specs.References.{parameters}
 use Rattle.definitions.specs.SheetNodes.{SheetNode, number, reading, parameter, patternVariable, operator, conditional, call, build, caseOf, sheetNodeOf}
 use Rattle.definitions.specs.Checks.{sheetVerdict}
@@ -20,10 +20,10 @@ use Rattle.definitions.specs.declared.Verdict.the-variants.{Accepted}
 use Rattle.accepted.proofs.Head.{readings-limit, functions-limit, nodes-limit}
 use Rattle.accepted.proofs.Checks.{sheet-shape}
 use Rattle.readback.specs.TranslatedNode.{translatedKind, translatedFields}
-use Rattle.readback.proofs.Words.{word-read}
+use Rattle.laws.proofs.Words.{word-read}
 use Rattle.readback.proofs.Made.{Made, made-nothing, made-one, made-both, made-joined, made-record, made-end}
 use Rattle.laws.proofs.Joined.{joined-split}
-use Rattle.readback.proofs.Fitting.{formals-limit, function-writable, formal-writable, node-writable}
+use Rattle.readback.proofs.Fitting.{functionFields, formals-limit, function-writable, formal-writable, node-writable}
 
 -- a node's words are a record of its kind and fields
 pub translated-words : (same : Labelling) (b : List ℕ) (k : ℕ) (nd : SheetNode)
@@ -75,7 +75,7 @@ module _ (b : List ℕ) (accepted : sheetVerdict b ≡ Accepted) where
 
   made-function : (f : ℕ) → f < functions b → Made 1 (functionWords b f)
   unfolding functionWords
-  made-function f h = made-one TranslationKinds.function (nodeCount Sheet b f ∷ []) (function-writable b accepted f h .short)
+  made-function f h = made-one TranslationKinds.function (functionFields b f) (function-writable b accepted f h .short)
 
   -- as many records stand before a function's as its number says
   made-before-function : (f : ℕ) → f ≤ functions b → Made (1 + f) (beforeFunction b f)
@@ -137,7 +137,7 @@ module _ (same : Labelling) (b : List ℕ) (accepted : sheetVerdict b ≡ Accept
   function-written f h =
       let s = joined-split (functionWords b) (functions b) f h in
       made-record (translationWords same b) (beforeFunction b f) (s .rest ++ joined (functions b) (formalWords same b) ++ joined (nodes b) (nodeWords same b))
-      (1 + f) TranslationKinds.function (nodeCount Sheet b f ∷ []) (made-before-function b accepted f (omega arith)) (function-writable b accepted f h .short)
+      (1 + f) TranslationKinds.function (functionFields b f) (made-before-function b accepted f (omega arith)) (function-writable b accepted f h .short)
       (rw (s .is) (simp append-assoc))
 
   pub head-written : recordOf (translationBy same b) 0 ≡ bytesOf (headWords b)

@@ -13,8 +13,8 @@ use Rattle.definitions.specs.Records.{kindOf}
 use Rattle.definitions.specs.TranslationKinds
 use Rattle.definitions.specs.Kinds.{row, rows, rowIn, rowOf, allows}
 use Rattle.definitions.specs.Lists.{sumOf}
-use Rattle.definitions.specs.Layouts.{readings, items, functions, nodes, firstNode, isDue, nodeCount}
-use Rattle.definitions.specs.Shape.{headCounts, runCounts, counts, operatorCode}
+use Rattle.definitions.specs.Layouts.{readings, items, functions, nodes, firstNode, isDue, nodeCount, parameterCount}
+use Rattle.definitions.specs.Shape.{headCounts, runCounts, parameterCounts, counts, operatorCode}
 use Rattle.definitions.specs.References.{parameters, fromFirst, fromSecond, everyOther, children, child, namesInRange}
 use Rattle.definitions.specs.Checks.{sheetVerdict}
 use Rattle.definitions.specs.Labels.{Labelling, actuals}
@@ -25,14 +25,14 @@ use Rattle.laws.proofs.Ranges.{within-both}
 use Rattle.laws.proofs.Shape.{due-section, section-function, section-formal, counts-run, counts-other}
 use Rattle.accepted.proofs.Sums.{sum-same}
 use Rattle.accepted.proofs.Head.{readings-limit, functions-least, functions-limit, nodes-least, nodes-limit}
-use Rattle.accepted.proofs.Sections.{node-count-least, node-counts-sum}
+use Rattle.accepted.proofs.Sections.{parameters-limit, node-count-least, node-counts-sum}
 use Rattle.accepted.proofs.TranslationNames.{list-mentions, list-mention}
 use Rattle.accepted.proofs.Checks.{sheet-shape}
 use Rattle.readback.proofs.Fields.{element-is, kind-read, count-read, field-read}
 use Rattle.readback.proofs.Labels.{actuals-limit, actuals-below}
-use Rattle.readback.proofs.Fitting.{formals-limit, formal-in-range, function-writable, formal-writable}
+use Rattle.readback.proofs.Fitting.{functionFields, formals-limit, formal-in-range, function-writable, formal-writable}
 use Rattle.readback.proofs.Records.{formalPart, translation-readings, translation-items, translation-functions, translation-nodes, head-written, function-written, formal-written}
-use Rattle.readback.proofs.Nodes.{node-count-read}
+use Rattle.readback.proofs.Nodes.{node-count-read, parameter-count-read}
 use Rattle.readback.proofs.Passing.{Passes, row-allows, names-there, no-mention}
 
 -- no node is named where there is no place for one
@@ -86,24 +86,43 @@ module _ (same : Labelling) (b : List ℕ) (accepted : sheetVerdict b ≡ Accept
       ∙ node-counts-sum Sheet b (sheet-shape b accepted))
 
   run-counts : (f : ℕ) → f < functions b
-      → runCounts Translation (translationBy same b) (1 + f) (bytesOf (recordWords TranslationKinds.function (nodeCount Sheet b f ∷ []))) ≡ true
+      → runCounts Translation (translationBy same b) (1 + f) (bytesOf (recordWords TranslationKinds.function (functionFields b f))) ≡ true
   unfolding runCounts
   run-counts f h =
       let t = translationBy same b in
       let l = node-count-least Sheet b (sheet-shape b accepted) f h in
       rw (
-        field-read TranslationKinds.function (nodeCount Sheet b f ∷ []) (function-writable b accepted f h .fit) 0,
+        field-read TranslationKinds.function (functionFields b f) (function-writable b accepted f h .fit) 0,
         le-leb 1 (nodeCount Sheet b f) l,
         eq-eqb (sumOf (functions t) (nodeCount Translation t)) (nodes t) counts-sum,
       )
       (both-ways (eqb (suc (1 + f)) (1 + functions t)))
 
+  -- its parameters are at most eight, and all sum to the formals
+  parameters-sum : sumOf (functions (translationBy same b)) (parameterCount (translationBy same b)) ≡ items (translationBy same b)
+  unfolding formals
+  parameters-sum =
+      rw (translation-functions same b accepted, translation-items same b accepted)
+      (sum-same (functions b) (parameterCount (translationBy same b)) (parameters b) (parameter-count-read same b accepted))
+
+  parameter-counts : (f : ℕ) → f < functions b
+      → parameterCounts (translationBy same b) (1 + f) (bytesOf (recordWords TranslationKinds.function (functionFields b f))) ≡ true
+  unfolding parameterCounts
+  parameter-counts f h =
+      let t = translationBy same b in
+      rw (
+        field-read TranslationKinds.function (functionFields b f) (function-writable b accepted f h .fit) 1,
+        within-both 0 8 (parameters b f) (omega arith) (parameters-limit b (sheet-shape b accepted) f h),
+        eq-eqb (sumOf (functions t) (parameterCount t)) (items t) parameters-sum,
+      )
+      (both-ways (eqb (suc (1 + f)) (1 + functions t)))
+
   pub function-passes : (f : ℕ) → f < functions b
-      → Passes (translationBy same b) (1 + f) TranslationKinds.function (nodeCount Sheet b f ∷ [])
+      → Passes (translationBy same b) (1 + f) TranslationKinds.function (functionFields b f)
   unfolding functionWords rowOf rows rowIn row allows operatorCode namesInRange everyOther fromFirst fromSecond
   function-passes f h =
       let t = translationBy same b in
-      let fs = nodeCount Sheet b f ∷ [] in
+      let fs = functionFields b f in
       let rec = bytesOf (recordWords TranslationKinds.function fs) in
       let k : kindOf rec ≡ TranslationKinds.function = kind-read TranslationKinds.function fs (omega arith) in
       let l : f < functions t = rw (translation-functions same b accepted) h in
@@ -115,7 +134,9 @@ module _ (same : Labelling) (b : List ℕ) (accepted : sheetVerdict b ≡ Accept
             (section-function Translation t (1 + f) (functions t) refl refl (omega (arith, l))));
         allowed = refl;
         code = rw k refl;
-        counts = sym (counts-run Translation t rec (1 + f) TranslationKinds.function (λ e. omega (arith, e)) (sym k) true refl (sym (run-counts f h)));
+        counts =
+            sym (counts-run Translation t rec (1 + f) TranslationKinds.function (λ e. omega (arith, e)) (sym k) true true refl
+            (sym (parameter-counts f h)) refl (sym (run-counts f h)));
         named = names-there t (1 + f) rec (none-below t rec (no-mention rec TranslationKinds.function k refl refl refl)) (rw k refl);
       }
 

@@ -15,7 +15,7 @@ use Rattle.definitions.specs.Records.{recordOf, kindOf, field, fieldCount}
 use Rattle.definitions.specs.SheetKinds
 use Rattle.definitions.specs.TranslationKinds
 use Rattle.definitions.specs.Lists.{joined, sumOf, countOf}
-use Rattle.definitions.specs.Layouts.{readings, items, functions, nodes, firstNode, due, functionRecord, nodeRecord, nodeCount}
+use Rattle.definitions.specs.Layouts.{readings, items, functions, nodes, firstNode, due, functionRecord, nodeRecord}
 use Rattle.definitions.specs.References.{parameters, clauses, clauseConstructor}
 use Rattle.definitions.specs.NodeFields.{Clause, fieldsFrom, clauseList}
 use Rattle.definitions.specs.SheetNodes.{SheetNode, call, sheetNodeOf}
@@ -33,12 +33,12 @@ use Rattle.accepted.proofs.SheetRecords.{SheetRecord, is-number, is-reading, is
 use Rattle.accepted.proofs.Checks.{sheet-shape}
 use Rattle.accepted.proofs.Names.{call-fields}
 use Rattle.readback.specs.TranslatedNode.{translatedKind, translatedFields}
-use Rattle.readback.proofs.Words.{bytes-length}
+use Rattle.laws.proofs.Words.{bytes-length}
 use Rattle.readback.proofs.Made.{words-length}
 use Rattle.readback.proofs.Fields.{clause-words}
 use Rattle.laws.proofs.Joined.{joined-length}
 use Rattle.readback.proofs.Labels.{actuals-length}
-use Rattle.readback.proofs.Fitting.{formals-limit}
+use Rattle.readback.proofs.Fitting.{functionFields, formals-limit}
 use Rattle.readback.proofs.Records.{node-words, formalPart}
 use Rattle.readback.proofs.Totals.{sum-both, sum-twice, sum-constant, sum-below, sum-parts, count-weighed, sum-chosen}
 
@@ -114,12 +114,12 @@ halved true n e = refl
 halved false n e = omega (arith, e)
 
 module _ (b : List ℕ) (accepted : sheetVerdict b ≡ Accepted) where
-  -- the functions cost three words each
-  functions-size : sumOf (functions b) (λ f. length (functionWords b f)) ≡ functions b * 3
+  -- the functions cost four words each
+  functions-size : sumOf (functions b) (λ f. length (functionWords b f)) ≡ functions b * 4
   unfolding functionWords
   functions-size =
-      sum-same (functions b) (λ f. length (functionWords b f)) (λ f. 3) (λ f h. words-length TranslationKinds.function (nodeCount Sheet b f ∷ []))
-      ∙ sum-constant (functions b) 3
+      sum-same (functions b) (λ f. length (functionWords b f)) (λ f. 4) (λ f h. words-length TranslationKinds.function (functionFields b f))
+      ∙ sum-constant (functions b) 4
 
   -- the sheet's head, functions and nodes are within its length
   function-length : (f : ℕ) → f < functions b → length (functionRecord Sheet b f) ≡ 8
@@ -192,7 +192,7 @@ module _ (same : Labelling) (b : List ℕ) (accepted : sheetVerdict b ≡ Accept
       ∙ rw (sum-twice m p, count-weighed m (nodes b) p (isFirst same b)) refl
 
   pub words-size : length (translationWords same b)
-      ≡ 6 + functions b * 3 + sumOf (functions b) (λ f. length (formalWords same b f)) + sumOf (nodes b) (λ k. length (nodeWords same b k))
+      ≡ 6 + functions b * 4 + sumOf (functions b) (λ f. length (formalWords same b f)) + sumOf (nodes b) (λ k. length (nodeWords same b k))
   unfolding translationWords headWords
   words-size =
       let h = headWords b in

@@ -6,3 +6,4 @@ pub mod Lockstep
 pub mod Arrivals
 pub mod Found
 pub mod Reached
+pub mod Later

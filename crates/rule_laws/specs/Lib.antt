@@ -4,3 +4,4 @@ pub mod Derivations
 pub mod Reads
 pub mod Found
 pub mod Reached
+pub mod Later

@@ -10,23 +10,24 @@ use lib.ListN.{length, getD, set, length-set}
 use mir.Syntax.{w32}
 use mir.Val.{toZ, SFits}
 use mir.ValLaws.{toZ-ofZ}
-use Rattle.definitions.specs.Sizes.{translationBytes, mostNodes}
+use Rattle.definitions.specs.Sizes.{translationBytes, mostNodes, mostFormals}
 use Rattle.definitions.specs.TranslationKinds as kinds
 use Rattle.definitions.specs.Bytes.{word}
 use Rattle.definitions.specs.Records.{whole, startOf, recordAt, recordOf, kindOf, field, fieldCount}
 use Rattle.definitions.specs.Operators.{residue}
-use Rattle.definitions.specs.Layouts.{functions, nodes, firstNode, due, nodeRecord, bodyOf}
+use Rattle.definitions.specs.Layouts.{items, functions, nodes, firstNode, due, nodeRecord, bodyOf}
 use Rattle.definitions.specs.Shape.{fileShape}
 use Rattle.definitions.specs.declared.Layout.the-variants.{Translation}
 use Rattle.definitions.specs.declared.Verdict.the-variants.{Accepted}
 use Rattle.laws.proofs.Records.{whole-is, record-length, record-word}
-use Rattle.accepted.proofs.Head.{nodes-limit}
+use Rattle.accepted.proofs.Head.{items-limit, nodes-limit}
 use Rattle.accepted.proofs.Records.{within-limit, record-whole, record-fields}
 use Rattle.accepted.proofs.Checks.{translation-shape}
 use Rattle.accepted.proofs.TranslationNames.{formal-below, translation-call-below}
 use Rattle.file_records.specs.Index.{Indexed, Opened, startIn}
 use Rattle.file_records.proofs.Indices.{start-inside, indexed-record}
 use Rattle.format.proofs.RunTables.{entry-more}
+use Rattle.run.specs.FormalTable.{placeOf, FormalTable}
 use Rattle.run.specs.NodeTable.{tableEntries, Parts, EntryOf, NodeTable, ListEntry}
 use Rattle.run.specs.States.{Ready}
 use Rattle.run.proofs.NodeKinds.{is-formal, is-call, node-is}
@@ -93,28 +94,32 @@ module _ (b rec : List ℕ) (k kind x first : ℕ) (er : rec ≡ nodeRecord b k)
   first-is : first ≡ field (nodeRecord b k) 0
   first-is = ef ∙ ap (λ l. field l 0) er
 
-  pub entry-of-formal : (r : ℕ) → kind ≡ kinds.formal → r ≡ 1 + functions b + first → ListEntry b kind first r x → EntryOf b k x
-  entry-of-formal r n g t =
+  pub entry-of-formal : (r p : ℕ) → kind ≡ kinds.formal → r ≡ 1 + functions b + first → p ≡ placeOf b first → ListEntry b kind p r x → EntryOf b k x
+  entry-of-formal r p n g ep t =
       let q : kindOf (nodeRecord b k) ≡ kinds.formal = sym kind-is ∙ n in
       record {
         kind = t .part-0 ∙ kind-is;
-        first = t .part-1 ∙ first-is;
+        first = λ d. absurd (d q);
+        place = λ d. t .part-1 ∙ ep ∙ ap (placeOf b) first-is;
         second = λ d. absurd (d .no-formal q);
         third = λ d. absurd (d .no-formal q);
         actuals = λ d. rw (g, first-is) at (t .list);
+        callee = λ d. absurd (omega (arith, q, d));
         body = λ d. absurd (omega (arith, q, d));
         list = λ d. absurd (omega (arith, q, d));
       }
 
-  pub entry-of-call : (f y : ℕ) → kind ≡ kinds.call → f ≡ field rec 1 → y ≡ bodyOf Translation b f → Parts x kind first 0 y → EntryOf b k x
+  pub entry-of-call : (f y : ℕ) → kind ≡ kinds.call → f ≡ field rec 1 → y ≡ bodyOf Translation b f → Parts x kind first f y → EntryOf b k x
   entry-of-call f y n g ey t =
       let q : kindOf (nodeRecord b k) ≡ kinds.call = sym kind-is ∙ n in
       record {
         kind = t .part-0 ∙ kind-is;
-        first = t .part-1 ∙ first-is;
+        first = λ d. t .part-1 ∙ first-is;
+        place = λ d. absurd (omega (arith, q, d));
         second = λ d. absurd (d .no-call q);
         third = λ d. absurd (d .no-call q);
         actuals = λ d. absurd (omega (arith, q, d));
+        callee = λ d. t .part-2 ∙ g ∙ ap (λ l. field l 1) er;
         body = λ d. t .part-3 ∙ ey ∙ ap (bodyOf Translation b) (g ∙ ap (λ l. field l 1) er);
         list = λ d. absurd (omega (arith, q, d));
       }
@@ -124,10 +129,12 @@ module _ (b rec : List ℕ) (k kind x first : ℕ) (er : rec ≡ nodeRecord b k)
       let q = kind-is in
       record {
         kind = t .part-0 ∙ kind-is;
-        first = t .part-1 ∙ first-is;
+        first = λ d. t .part-1 ∙ first-is;
+        place = λ d. absurd (omega (arith, q, n, d));
         second = λ d. absurd (let l = d .no-list in omega arith);
         third = λ d. absurd (let l = d .no-list in omega arith);
         actuals = λ d. absurd (omega (arith, q, n, d));
+        callee = λ d. absurd (omega (arith, q, n, d));
         body = λ d. absurd (omega (arith, q, n, d));
         list = λ d. rw g at (t .list);
       }
@@ -138,10 +145,12 @@ module _ (b rec : List ℕ) (k kind x first : ℕ) (er : rec ≡ nodeRecord b k)
       let q = kind-is in
       record {
         kind = t .part-0 ∙ kind-is;
-        first = t .part-1 ∙ first-is;
+        first = λ d. t .part-1 ∙ first-is;
+        place = λ d. absurd (n1 (q ∙ d));
         second = λ d. t .part-2 ∙ ey ∙ ap (λ l. field l 1) er;
         third = λ d. t .part-3 ∙ ez ∙ ap (λ l. field l 2) er;
         actuals = λ d. absurd (n1 (q ∙ d));
+        callee = λ d. absurd (n2 (q ∙ d));
         body = λ d. absurd (n2 (q ∙ d));
         list = λ d. absurd (omega (arith, q, l, d));
       }
@@ -151,6 +160,14 @@ module _ (b index ends rec : List ℕ) (k kind : ℕ) (ready : Ready b index end
   pub formal-record : (first y f : ℕ) → kind ≡ kinds.formal → first ≡ field rec 0 → y ≡ first → f ≡ 1 + functions b → f + y < due b
   formal-record first y f n ef ey eg =
       let l = formal-below b (ready .accepted) k h (is-formal (node-is h er e n)) in omega arith
+
+  pub formal-entry : (places : List ℕ) (first y : ℕ) → FormalTable b places → kind ≡ kinds.formal → first ≡ field rec 0 → y ≡ first
+      → (y < mostFormals) × (getD places y 0 ≡ placeOf b first)
+  formal-entry places first y t n ef ey =
+      let l = formal-below b (ready .accepted) k h (is-formal (node-is h er e n)) in
+      let m = items-limit Translation b (translation-shape b (ready .accepted)) in
+      let p : first < items b = rw ef l in
+      (omega arith, rw ey (t .place first p))
 
   pub function-there : (f : ℕ) → kind ≡ kinds.call → f ≡ field rec 1 → f < functions b
   function-there f n ef = rw ef (translation-call-below b (ready .accepted) k h (is-call (node-is h er e n)))

@@ -1,11 +1,7 @@
-pub mod Lockstep
-pub mod Held
-pub mod Labels
-pub mod Runs
 pub mod LookUps
 pub mod Outcomes
 pub mod Packing
-pub mod Falls
+pub mod Remembered
 pub mod Endings
 pub mod NodeKinds
 pub mod Steps
@@ -15,9 +11,11 @@ pub mod Remains
 pub mod Operands
 pub mod Visiting
 pub mod SimpleSteps
+pub mod FormalSteps
 pub mod NumberSteps
 pub mod ConstructorSteps
 pub mod Answering
+pub mod Places
 pub mod Entries
 pub mod ReadingEntries
 pub mod EntryReads

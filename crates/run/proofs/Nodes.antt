@@ -4,6 +4,7 @@ use Prim.Native.Nat.{ℕ, _+_, _*_, _-_, _≤_, _<_}
 use mathlib.Core.List.{List}
 use mathlib.Core.Bool.{cond}
 use native.Mathlib.Omega.{arith}
+use native.Mathlib.Nat.{le-trans}
 use lib.IntN.{ℤ}
 use lib.ListN.{getD, getElem?, length, set}
 use lib.Seq.{getD-set-same, getD-set-other}
@@ -22,6 +23,10 @@ use Rattle.accepted.specs.Mention as Mention
 use Rattle.accepted.proofs.Owners.{body-below}
 use Rattle.accepted.proofs.Checks.{translation-shape}
 use Rattle.accepted.proofs.TranslationNames.{formal-below, translation-call-below, actual-below}
+use Rattle.laws.proofs.ByteFiles.{Bytes}
+use Rattle.lent_rule.specs.Standing.{TupleAt, NarrowReadings, Standing, Inside, Good}
+use Rattle.lent_rule.proofs.Tuples.{member-below, clause-below, branch-below}
+use Rattle.lent_rule.proofs.Good.{visit-good}
 use Rattle.run.specs.declared.state.Value.{Value}
 use Rattle.run.specs.declared.state.Value.the-variants.{Constructor}
 use Rattle.run.specs.declared.state.Outcome.the-variants as outcomes
@@ -29,9 +34,8 @@ use Rattle.run.specs.declared.state.State.{State}
 use Rattle.run.specs.declared.look_up.Found.{Found}
 use Rattle.run.specs.declared.look_up.Found.the-variants.{Node}
 use Rattle.run.specs.Packed.{outcomeIn}
-use Rattle.run.specs.States.{below, above, foundOf, endingOf, valueOf, stateOf, reachedOf, NodeIs, visits, Equipped, Visits}
+use Rattle.run.specs.States.{below, above, foundOf, endingOf, valueOf, stateOf, reachedOf, NodeIs, visits, Equipped, InContext, Visits}
 use Rattle.run.proofs.Endings.{found-some}
-use Rattle.run.proofs.Falls.{TupleAt, Good, visit-good, member-below, clause-below, branch-below}
 use Rattle.run.proofs.NodeKinds.{is-formal, is-conditional, is-call, is-case}
 
 -- the measures: two for each step left, and one more at the function of a kind
@@ -68,25 +72,59 @@ pub member-child : {b : List ℕ} {k x : ℕ} {o : Found} (i : ℕ) → translat
 unfolding tupleFields
 member-child {b} {k} {x} i accepted t e f = member-below b accepted k i x t (found-some e f)
 
--- after a visit
-module _ (b : List ℕ) (accepted : translationVerdict b ≡ Accepted) (rs : List ℤ) (cellsAllowed n x w left made : ℕ) (cells : List ℕ) (r : State)
-    (during : List ℕ) (below : x < nodes b) (g : reachedOf r during ≡ visits b rs cellsAllowed n x w (stateOf left made cells)) where
-  pub reached-good : Good b left (reachedOf r during)
+-- after a visit, from lent bytes that hold cells in order
+module _ (b : List ℕ) (accepted : translationVerdict b ≡ Accepted) (bytes : Bytes b) (rs : List ℤ) (narrow : NarrowReadings rs)
+    (cellsAllowed n x w left made : ℕ) (cells : List ℕ) (r : State) (during : List ℕ) (below : x < nodes b)
+    (stands : Standing b cellsAllowed (record { bytes = cells; made = made })) (context : w ≤ made)
+    (g : reachedOf r during ≡ visits b rs cellsAllowed n x w (stateOf left made cells)) where
+  reached-good : Good b cellsAllowed left made (reachedOf r during)
   unfolding visits stateOf
-  reached-good = rw (← g) at (visit-good b accepted rs cellsAllowed n x w (stateOf left made cells) below)
+  reached-good = rw (← g) at (visit-good b accepted bytes rs narrow cellsAllowed n x w (stateOf left made cells) stands below context)
 
   pub reached-falls : r .left ≤ left
   unfolding reachedOf reach stateOf
   reached-falls = reached-good .falls
 
-  reached-tuple : (m u : ℕ) → r .outcome ≡ outcomes.Value (Constructor m u) → TupleAt b m
-  unfolding reachedOf reach endingOf valueOf
-  reached-tuple m u e = rw e at (reached-good .inside)
+  pub reached-grows : made ≤ r .made
+  unfolding reachedOf reach stateOf
+  reached-grows = reached-good .grows
+
+  pub reached-stands : Standing b cellsAllowed (record { bytes = during; made = r .made })
+  unfolding reachedOf reach stateOf
+  reached-stands = reached-good .standing
+
+  pub reached-inside : Inside b (r .made) (endingOf (r .outcome))
+  unfolding reachedOf reach stateOf
+  reached-inside = reached-good .inside
+
+  pub reached-tuple : (m u : ℕ) → r .outcome ≡ outcomes.Value (Constructor m u) → TupleAt b m × (u ≤ r .made)
+  unfolding endingOf valueOf
+  reached-tuple m u e = rw e at reached-inside
 
 module _ {b tab : List ℕ} {limits p k w : ℕ} {counts : List ℕ} {cells : RefT (List ℕ)} {x : ℕ} {counts′ : List ℕ} {cells′ : RefT (List ℕ)}
-    (q : Equipped b tab) (at : (below p ≡ k) × (above p ≡ w)) (there : k < nodes b) (v : Visits b tab limits p counts cells x counts′ cells′) where
-  pub visit-falls : getD counts′ 0 0 ≤ getD counts 0 0
-  visit-falls = reached-falls b (q .accepted) (q .readings) _ _ _ _ _ _ _ _ _ (rw (at .0) there) (v .same (q .readings) (q .held))
+    (q : Equipped b tab) (at : (below p ≡ k) × (above p ≡ w)) (there : k < nodes b) (c : InContext b (above limits) w counts (cells .now))
+    (v : Visits b tab limits p counts cells x counts′ cells′) where
+  here : below p < nodes b
+  here = rw (at .0) there
 
-  pub visit-tuple : {m u : ℕ} → outcomeIn x ≡ outcomes.Value (Constructor m u) → TupleAt b m
-  visit-tuple e = reached-tuple b (q .accepted) (q .readings) _ _ _ _ _ _ _ _ _ (rw (at .0) there) (v .same (q .readings) (q .held)) _ _ e
+  under : above p ≤ getD counts 1 0
+  under = rw (at .1) (c .made)
+
+  pub visit-falls : getD counts′ 0 0 ≤ getD counts 0 0
+  visit-falls =
+      reached-falls b (q .accepted) (q .bytes) (q .readings) (q .narrow) _ _ _ _ _ _ _ _ _ here (c .standing) under (v .same (q .readings) (q .held))
+
+  -- what an earlier context stands in
+  pub visit-context : {u : ℕ} → u ≤ getD counts 1 0 → InContext b (above limits) u counts′ (cells′ .now)
+  visit-context h =
+      let same = v .same (q .readings) (q .held) in
+      let grows = reached-grows b (q .accepted) (q .bytes) (q .readings) (q .narrow) _ _ _ _ _ _ _ _ _ here (c .standing) under same in
+      record {
+        size = v .size;
+        standing = reached-stands b (q .accepted) (q .bytes) (q .readings) (q .narrow) _ _ _ _ _ _ _ _ _ here (c .standing) under same;
+        made = le-trans h grows;
+      }
+
+  pub visit-tuple : {m u : ℕ} → outcomeIn x ≡ outcomes.Value (Constructor m u) → TupleAt b m × (u ≤ getD counts′ 1 0)
+  visit-tuple e =
+      reached-tuple b (q .accepted) (q .bytes) (q .readings) (q .narrow) _ _ _ _ _ _ _ _ _ here (c .standing) under (v .same (q .readings) (q .held)) _ _ e

@@ -4,6 +4,7 @@ use mathlib.Core.Path.{_≡_, refl, _∙_}
 use Prim.Native.Nat.{ℕ, _+_, _*_, _≤_, _<_}
 use mathlib.Core.List.{List}
 use mathlib.Core.Bool.{cond}
+use native.Mathlib.Omega.{arith}
 use lib.IntN.{ℤ}
 use lib.ListN.{length, getD}
 use denote.Ref.{RefT}
@@ -23,18 +24,18 @@ use Rattle.run.specs.declared.state.Value.{Value}
 use Rattle.run.specs.declared.state.Value.the-variants.{Number, Constructor}
 use Rattle.run.specs.declared.state.Outcome.{Outcome}
 use Rattle.run.specs.declared.state.Outcome.the-variants as outcomes
-use Rattle.run.specs.Lent.{Lent}
+use Rattle.lent_rule.specs.Lent.{Lent}
 use Rattle.run.specs.NodeTable.{firstPart, secondPart, thirdPart}
 use Rattle.run.specs.Packed.{outcomeIn}
-use Rattle.run.specs.States.{below, above, endingOf, reachedOf, countedState, visits, evaluates, NodeIs, Visitable, Evaluable, Visits, Evaluates}
+use Rattle.run.specs.States.{below, above, endingOf, reachedOf, countedState, visits, evaluates, NodeIs, InContext, Visitable, Evaluable, Visits, Evaluates}
 use Rattle.run.proofs.Endings.{number-ended, number-constructor, number-there, constructor-ended, constructor-number, constructor-there}
 use Rattle.run.proofs.NodeKinds.{is-select, is-operator, is-conditional, is-case}
-use Rattle.run.proofs.Falls.{TupleAt}
+use Rattle.lent_rule.specs.Standing.{TupleAt}
 use Rattle.run.proofs.EntryReads.{plain-operator, first-read, second-read, third-read, member-room, entry-room}
 use Rattle.run.proofs.Steps.{worked-out}
 use Rattle.run.proofs.Counting.{visitable-at, visits-at}
-use Rattle.run.proofs.Nodes.{falls-on, visit-falls, visit-tuple}
-use Rattle.run.proofs.Remains.{Asked, asked-falls, Remains, remains-as, remains-ends}
+use Rattle.run.proofs.Nodes.{falls-on, visit-falls, visit-context, visit-tuple}
+use Rattle.run.proofs.Remains.{Asked, asked-falls, Remains, remains-as, remains-ends, at-context}
 
 -- what has to come of a visit, and how the rule goes on with it
 pub data Wanted : Type 0 where
@@ -106,37 +107,38 @@ pub record Named (b : List ℕ) (k i x : ℕ) : Type 0 where
   pub is : x ≡ field (nodeRecord b k) i
   pub there : x < nodes b
 
-module _ {b tab : List ℕ} {at : ℕ} {counts : List ℕ} {x : ℕ} where
-  named-by : {kind i : ℕ} {nd : TranslationNode} → Evaluable b tab at counts kind → x ≡ field (nodeRecord b (below at)) i
+module _ {b tab : List ℕ} {limits at : ℕ} {counts bytes : List ℕ} {x : ℕ} where
+  named-by : {kind i : ℕ} {nd : TranslationNode} → Evaluable b tab limits at counts bytes kind → x ≡ field (nodeRecord b (below at)) i
       → translationNodeOf b (below at) ≡ nd → Mention.Mention nd (field (nodeRecord b (below at)) i) → Named b (below at) i x
   named-by a e is m = record { is = e; there = rw e (mention-below b (a .equipped .accepted) (below at) (a .node .below) is m) }
 
   module _ {e : ℕ} where
-    pub operand-named : {kind i : ℕ} (op : Operand kind i) → Evaluable b tab at counts kind → e ≡ getD tab (below at) 0 → x ≡ partIn op e
+    pub operand-named : {kind i : ℕ} (op : Operand kind i) → Evaluable b tab limits at counts bytes kind → e ≡ getD tab (below at) 0 → x ≡ partIn op e
         → Named b (below at) i x
-    operand-named of-select a f g = named-by a (first-read a f g) (is-select (a .node)) Mention.selected
+    operand-named of-select a f g = named-by a (first-read a f (λ q. omega (arith, q)) g) (is-select (a .node)) Mention.selected
     operand-named of-operator a f g = named-by a (second-read a f plain-operator g) (is-operator (a .node)) Mention.left
-    operand-named of-conditional a f g = named-by a (first-read a f g) (is-conditional (a .node)) Mention.condition
-    operand-named of-case a f g = named-by a (first-read a f g) (is-case (a .node)) Mention.scrutinee
+    operand-named of-conditional a f g = named-by a (first-read a f (λ q. omega (arith, q)) g) (is-conditional (a .node)) Mention.condition
+    operand-named of-case a f g = named-by a (first-read a f (λ q. omega (arith, q)) g) (is-case (a .node)) Mention.scrutinee
 
-    pub right-named : Evaluable b tab at counts kinds.operator → e ≡ getD tab (below at) 0 → x ≡ thirdPart e → Named b (below at) 2 x
+    pub right-named : Evaluable b tab limits at counts bytes kinds.operator → e ≡ getD tab (below at) 0 → x ≡ thirdPart e → Named b (below at) 2 x
     right-named a f g = named-by a (third-read a f plain-operator g) (is-operator (a .node)) Mention.right
 
 -- a node of a kind waits for the visit of its operand k under context w
 pub record Awaits (b tab : List ℕ) (t limits at : ℕ) (counts : List ℕ) (cells : RefT (List ℕ)) (counts′ : List ℕ) (cells′ : RefT (List ℕ))
     (kind k w : ℕ) (d : List ℤ → Wanted) : Type 0 where
-  pub node : Evaluable b tab at counts kind
+  pub node : Evaluable b tab limits at counts (cells .now) kind
   pub remains : Remains b tab t limits at counts cells counts′ cells′
       (λ rs. awaited (d rs) (visits b rs (above limits) (below limits) k w (countedState counts′ (cells′ .now))))
   pub there : k < nodes b
+  pub made : w ≤ getD counts′ 1 0
 
--- an operand was visited for a node of a kind, and x returned: what remains, and that a constructor is a tuple's
+-- an operand was visited for a node of a kind, and x returned: what remains, and that a constructor is a tuple's, under a context of the cells made
 pub record OperandVisited (b tab : List ℕ) (t limits at : ℕ) (counts : List ℕ) (cells : RefT (List ℕ)) (x : ℕ) (counts′ : List ℕ)
     (cells′ : RefT (List ℕ)) (kind : ℕ) (d : List ℤ → Wanted) : Type 0 where
-  pub node : Evaluable b tab at counts kind
+  pub node : Evaluable b tab limits at counts (cells .now) kind
   pub remains : Remains b tab t limits at counts cells counts′ cells′
       (λ rs. goesOn (d rs) (endingOf (outcomeIn x)) (countedState counts′ (cells′ .now)))
-  pub tuple : {m u : ℕ} → outcomeIn x ≡ outcomes.Value (Constructor m u) → TupleAt b m
+  pub tuple : {m u : ℕ} → outcomeIn x ≡ outcomes.Value (Constructor m u) → TupleAt b m × (u ≤ getD counts′ 1 0)
 
 -- and x is the value v
 pub record Gives (b tab : List ℕ) (t limits at : ℕ) (counts : List ℕ) (cells : RefT (List ℕ)) (x : ℕ) (counts′ : List ℕ)
@@ -145,30 +147,37 @@ pub record Gives (b tab : List ℕ) (t limits at : ℕ) (counts : List ℕ) (cel
   pub told : outcomeIn x ≡ outcomes.Value v
 
 -- the operand that is visited first
-module _ {b tab : List ℕ} {t at : ℕ} {counts : List ℕ} {kind i : ℕ} (op : Operand kind i) (a : Asked b tab t at counts kind) where
-  abbrev pub AwaitsBy : ℕ → RefT (List ℕ) → ℕ → Type 0
-  AwaitsBy limits cells k = Awaits b tab t limits at counts cells counts cells kind k (above at) (λ rs. way b rs limits at op)
+abbrev pub AwaitsBy : {b tab : List ℕ} {t limits at : ℕ} {counts bytes : List ℕ} {kind i : ℕ} (op : Operand kind i)
+    → Asked b tab t limits at counts bytes kind → RefT (List ℕ) → ℕ → Type 0
+AwaitsBy {b} {tab} {t} {limits} {at} {counts} {kind = kind} op a cells k =
+    Awaits b tab t limits at counts cells counts cells kind k (above at) (λ rs. way b rs limits at op)
 
-  pub operand-awaits : {limits e k : ℕ} {cells : RefT (List ℕ)} → e ≡ getD tab (below at) 0 → k ≡ partIn op e → AwaitsBy limits cells k
-  operand-awaits {limits = limits} {cells = cells} f g =
-      let n = operand-named op (a .1) f g in
-      record {
-        node = a .1;
-        remains = record {
-          equipped = a .1 .equipped;
-          same = λ rs h. operand-awaited b rs limits at op (countedState counts (cells .now)) (a .1 .node) (n .is);
-          falls = asked-falls a;
-          size = a .1 .size;
-          stays = refl;
-        };
-        there = n .there;
-      }
+pub operand-awaits : {b tab : List ℕ} {t limits at : ℕ} {counts : List ℕ} {cells : RefT (List ℕ)} {kind i e k : ℕ} (op : Operand kind i)
+    → (a : Asked b tab t limits at counts (cells .now) kind) → e ≡ getD tab (below at) 0 → k ≡ partIn op e → AwaitsBy op a cells k
+operand-awaits {b} {limits = limits} {at = at} {counts = counts} {cells = cells} op a f g =
+    let n = operand-named op (a .1) f g in
+    record {
+      node = a .1;
+      remains = record {
+        equipped = a .1 .equipped;
+        same = λ rs h. operand-awaited b rs limits at op (countedState counts (cells .now)) (a .1 .node) (n .is);
+        falls = asked-falls a;
+        context = a .1 .context;
+        stays = refl;
+      };
+      there = n .there;
+      made = a .1 .context .made;
+    }
+
+awaits-context : {b tab : List ℕ} {t limits at : ℕ} {counts : List ℕ} {cells : RefT (List ℕ)} {counts′ : List ℕ} {cells′ : RefT (List ℕ)} {kind k w : ℕ}
+    {d : List ℤ → Wanted} → Awaits b tab t limits at counts cells counts′ cells′ kind k w d → InContext b (above limits) w counts′ (cells′ .now)
+awaits-context a = at-context (a .remains .context) (a .made)
 
 -- the visit of an operand: what it asks, and what is known after it
 module _ {b tab : List ℕ} {t limits at : ℕ} {counts : List ℕ} {cells : RefT (List ℕ)} {counts′ : List ℕ} {cells′ : RefT (List ℕ)} {kind k w p : ℕ}
     {d : List ℤ → Wanted} (a : Awaits b tab t limits at counts cells counts′ cells′ kind k w d) (q : (below p ≡ k) × (above p ≡ w)) where
-  pub operand-asked : (2 * getD counts′ 0 0 < t) × Visitable b tab p counts′
-  operand-asked = (a .remains .falls, visitable-at q (a .remains .equipped) (a .remains .size) (a .there))
+  pub operand-asked : (2 * getD counts′ 0 0 < t) × Visitable b tab limits p counts′ (cells′ .now)
+  operand-asked = (a .remains .falls, visitable-at q (a .remains .equipped) (a .there) (awaits-context a))
 
   abbrev pub VisitedBy : {x : ℕ} {counts″ : List ℕ} {cells″ : RefT (List ℕ)} → Visits b tab limits p counts′ cells′ x counts″ cells″ → Type 0
   VisitedBy {x} {counts″} {cells″} v = OperandVisited b tab t limits at counts cells x counts″ cells″ kind d
@@ -181,11 +190,11 @@ module _ {b tab : List ℕ} {t limits at : ℕ} {counts : List ℕ} {cells : Ref
         remains = record {
           equipped = a .remains .equipped;
           same = λ rs h. a .remains .same rs h ∙ rw (← visits-at q v rs h) refl;
-          falls = falls-on (visit-falls (a .remains .equipped) q (a .there) v) (a .remains .falls);
-          size = v .size;
+          falls = falls-on (visit-falls (a .remains .equipped) q (a .there) (awaits-context a) v) (a .remains .falls);
+          context = visit-context (a .remains .equipped) q (a .there) (awaits-context a) v (a .remains .context .made);
           stays = v .stays ∙ a .remains .stays;
         };
-        tuple = visit-tuple (a .remains .equipped) q (a .there) v;
+        tuple = visit-tuple (a .remains .equipped) q (a .there) (awaits-context a) v;
       }
 
 module _ {b tab : List ℕ} {t limits at : ℕ} {counts : List ℕ} {cells : RefT (List ℕ)} {x : ℕ} {counts′ : List ℕ} {cells′ : RefT (List ℕ)}
@@ -218,7 +227,10 @@ module _ {b tab : List ℕ} {t limits at : ℕ} {counts : List ℕ} {cells : Ref
   -- the tuple of a constructor, with its entry and its fields
   module _ {d : List ℤ → Wanted} {m u : ℕ} (g : Gives b tab t limits at counts cells x counts′ cells′ kind d (Constructor m u)) where
     pub given-tuple : TupleAt b m
-    given-tuple = g .visited .tuple (g .told)
+    given-tuple = g .visited .tuple (g .told) .0
+
+    pub given-context : u ≤ getD counts′ 1 0
+    given-context = g .visited .tuple (g .told) .1
 
     pub tuple-room : m < mostNodes
     tuple-room = entry-room (g .visited .node .equipped) (given-tuple .below)

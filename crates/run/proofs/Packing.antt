@@ -14,47 +14,47 @@ use Rattle.run.specs.declared.state.Value.the-variants.{Number, Construc
 use Rattle.run.specs.declared.state.Outcome.{Outcome}
 use Rattle.run.specs.declared.state.Outcome.the-variants as outcomes
 use Rattle.run.specs.declared.state.State.{State}
-use Rattle.run.specs.Lent.{Lent}
+use Rattle.lent_rule.specs.Lent.{Lent}
 use Rattle.run.specs.NodeTable.{Parts}
 use Rattle.run.specs.States.{endingOf, reachedOf, Leaves}
 use Rattle.run.specs.Packed.{either, outcomeIn}
 use Rattle.run.proofs.Entries.{split, halves, bits-back}
 
 -- the outcome of a number, by its lowest part
-outcome-number : (x : ℕ) → x % 65536 ≡ 0 → outcomeIn x ≡ outcomes.Value (Number (toZ w32 (x / 65536 % 4294967296)))
+pub outcome-number : (x : ℕ) → x % 65536 ≡ 1 → outcomeIn x ≡ outcomes.Value (Number (toZ w32 (x / 65536 % 4294967296)))
 unfolding outcomeIn either
 outcome-number x e = rw e refl
 
-outcome-constructor : (x : ℕ) → x % 65536 ≡ 1 → outcomeIn x ≡ outcomes.Value (Constructor (x / 65536 % 65536) (x / 4294967296 % 65536))
+pub outcome-constructor : (x : ℕ) → x % 65536 ≡ 2 → outcomeIn x ≡ outcomes.Value (Constructor (x / 65536 % 65536) (x / 4294967296 % 65536))
 unfolding outcomeIn either
 outcome-constructor x e = rw e refl
 
-outcome-ended : (x : ℕ) → (x % 65536 ≡ 0 → ⊥) → (x % 65536 ≡ 1 → ⊥) → outcomeIn x ≡ outcomes.Ended (x / 65536 % 65536)
+pub outcome-ended : (x : ℕ) → (x % 65536 ≡ 1 → ⊥) → (x % 65536 ≡ 2 → ⊥) → outcomeIn x ≡ outcomes.Ended (x / 65536 % 65536)
 unfolding outcomeIn either
-outcome-ended x h g = rw (ne-eqb (x % 65536) 0 h, ne-eqb (x % 65536) 1 g) refl
+outcome-ended x h g = rw (ne-eqb (x % 65536) 1 h, ne-eqb (x % 65536) 2 g) refl
 
 -- what is read of a number
 module _ (x kind : ℕ) (ek : kind ≡ x % 65536) where
-  pub told-number : (y z : ℤ) → kind ≡ 0 → y ≡ z → z ≡ toZ w32 (x / 65536 % 4294967296) → outcomes.Value (Number y) ≡ outcomeIn x
+  pub told-number : (y z : ℤ) → kind ≡ 1 → y ≡ z → z ≡ toZ w32 (x / 65536 % 4294967296) → outcomes.Value (Number y) ≡ outcomeIn x
   told-number y z e ey ez = rw (ey, ez) refl ∙ sym (outcome-number x (sym ek ∙ e))
 
-  pub told-constructor : (n c : ℕ) → kind ≡ 1 → n ≡ x / 65536 % 65536 → c ≡ x / 4294967296 % 65536 → outcomes.Value (Constructor n c) ≡ outcomeIn x
+  pub told-constructor : (n c : ℕ) → kind ≡ 2 → n ≡ x / 65536 % 65536 → c ≡ x / 4294967296 % 65536 → outcomes.Value (Constructor n c) ≡ outcomeIn x
   told-constructor n c e en ec = rw (en, ec) refl ∙ sym (outcome-constructor x (sym ek ∙ e))
 
-  pub told-ended : (n : ℕ) → (kind ≡ 0 → ⊥) → (kind ≡ 1 → ⊥) → n ≡ x / 65536 % 65536 → outcomes.Ended n ≡ outcomeIn x
+  pub told-ended : (n : ℕ) → (kind ≡ 1 → ⊥) → (kind ≡ 2 → ⊥) → n ≡ x / 65536 % 65536 → outcomes.Ended n ≡ outcomeIn x
   told-ended n h g en = rw en refl ∙ sym (outcome-ended x (λ q. h (ek ∙ q)) (λ q. g (ek ∙ q)))
 
 -- the number of an outcome
 pub number-packed : (v : Value) (z y : ℤ) (n x : ℕ) → SFits w32 z → y ≡ z → v ≡ Number z → n ≡ residue w32 y → n < 4294967296
-    → Parts x 0 (n % 65536) (n / 65536) 0 → outcomeIn x ≡ outcomes.Value v
+    → Parts x 1 (n % 65536) (n / 65536) 0 → outcomeIn x ≡ outcomes.Value v
 number-packed v z y n x f ey ev en hn t =
     let e : x / 65536 % 4294967296 ≡ residue w32 z = split x ∙ rw (t .part-1, t .part-2) refl ∙ halves n hn ∙ en ∙ ap (residue w32) ey in
     outcome-number x (t .part-0) ∙ ap (λ (u : ℤ). outcomes.Value (Number u)) (ap (toZ w32) e ∙ bits-back z f) ∙ rw ev refl
 
-pub constructor-packed : (v : Value) (k w x : ℕ) → v ≡ Constructor k w → Parts x 1 k w 0 → outcomeIn x ≡ outcomes.Value v
+pub constructor-packed : (v : Value) (k w x : ℕ) → v ≡ Constructor k w → Parts x 2 k w 0 → outcomeIn x ≡ outcomes.Value v
 constructor-packed v k w x ev t = outcome-constructor x (t .part-0) ∙ rw (t .part-1, t .part-2, ev) refl
 
-pub ended-packed : (o : Outcome) (n x : ℕ) → o ≡ outcomes.Ended n → Parts x 2 n 0 0 → outcomeIn x ≡ o
+pub ended-packed : (o : Outcome) (n x : ℕ) → o ≡ outcomes.Ended n → Parts x 0 n 0 0 → outcomeIn x ≡ o
 ended-packed o n x eo t =
     let p = t .part-0 in
     outcome-ended x (λ q. omega (arith, q, p)) (λ q. omega (arith, q, p)) ∙ rw (t .part-1, eo) refl

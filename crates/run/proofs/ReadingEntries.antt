@@ -4,9 +4,10 @@ use Prim.Native.Nat.{ℕ, _+_, _%_, _≤_, _<_}
 use mathlib.Core.List.{List}
 use native.Mathlib.Omega.{arith}
 use native.Mathlib.Numerals.{add-one}
+use native.Mathlib.Decide.{decLt}
 use native.Mathlib.Nat.{not-suc-le-zero, mod-eq-of-lt}
 use lib.IntN.{ℤ, pos}
-use lib.ListN.{length, getD, set, length-set}
+use lib.ListN.{length, getD, set, length-set, List·getD-eq-default}
 use lib.Seq.{getD-set-same, getD-set-other}
 use mir.Syntax.{w32}
 use mir.Val.{toZ, SFits}
@@ -17,8 +18,11 @@ use Rattle.definitions.specs.Checks.{translationVerdict}
 use Rattle.definitions.specs.declared.Layout.the-variants.{Translation}
 use Rattle.definitions.specs.declared.Verdict.the-variants.{Accepted}
 use Rattle.laws.proofs.Lists.{below-suc}
+use Rattle.laws.proofs.ByteFiles.{Bytes}
 use Rattle.accepted.proofs.Head.{nodes-limit, readings-limit}
 use Rattle.accepted.proofs.Checks.{translation-shape}
+use Rattle.lent_rule.specs.Standing.{Narrow, NarrowReadings}
+use Rattle.lent_rule.proofs.Narrow.{narrow-read}
 use Rattle.run.specs.NodeTable.{tableEntries, readingIn, NodeTable, ReadingsIn, ReadingsSet, Readable}
 use Rattle.run.specs.States.{Equipped}
 use Rattle.run.proofs.Entries.{bits-back}
@@ -74,9 +78,24 @@ still-readable r s = record { accepted = r .accepted; room = s .room; table = no
 pub readings-held : (b : List ℕ) (rs : List ℤ) (tab tab′ : List ℕ) → ReadingsSet tab rs tab′ → length rs ≡ readings b → ReadingsIn b rs tab′
 readings-held b rs tab tab′ s e = record { reading = λ i h. s .set i (rw e h) }
 
-pub equips : (b : List ℕ) (rs : List ℤ) (tab tab′ : List ℕ) → Readable b tab → ReadingsSet tab rs tab′ → length rs ≡ readings b → Equipped b tab′
-equips b rs tab tab′ r s e =
-    record { accepted = r .accepted; table = nodes-kept b rs tab tab′ r s; readings = rs; held = readings-held b rs tab tab′ s e }
+-- readings that are set in a table have 32 bits
+pub readings-narrow : {tab tab′ : List ℕ} {rs : List ℤ} → ReadingsSet tab rs tab′ → NarrowReadings rs
+readings-narrow {tab′ = tab′} {rs = rs} s = record { reading = λ i. by i (decLt i (length rs)) }
+  where
+    by : (i : ℕ) → Dec (i < length rs) → Narrow (getD rs i (pos 0))
+    by i (yes h) = rw (← s .set i h) (narrow-read (getD tab′ (mostNodes + i) 0 % 4294967296))
+    by i (no h) = rw (List·getD-eq-default rs (pos 0) {n = i} (omega arith)) (narrow-read 0)
+
+pub equips : (b : List ℕ) (rs : List ℤ) (tab tab′ : List ℕ) → Bytes b → Readable b tab → ReadingsSet tab rs tab′ → length rs ≡ readings b → Equipped b tab′
+equips b rs tab tab′ bytes r s e =
+    record {
+      accepted = r .accepted;
+      table = nodes-kept b rs tab tab′ r s;
+      bytes = bytes;
+      readings = rs;
+      held = readings-held b rs tab tab′ s e;
+      narrow = readings-narrow s;
+    }
 
 -- as many readings as the file asks for have room
 pub readings-room : (b : List ℕ) (rs : List ℤ) → translationVerdict b ≡ Accepted → length rs ≡ readings b → length rs ≤ mostReadings

@@ -11,7 +11,7 @@ use Rattle.run.specs.declared.state.Outcome.{Outcome}
 use Rattle.run.specs.Packed.{outcomeIn}
 use Rattle.run.specs.States.{below, above, endingOf, NodeIs, Visitable, Evaluable, Visits, Evaluates}
 use Rattle.run.proofs.Packing.{leaves-in}
-use Rattle.run.proofs.Counting.{set-size, visit-taken}
+use Rattle.run.proofs.Counting.{context-taken, visit-taken}
 use Rattle.run.proofs.Nodes.{falls-set}
 use Rattle.run.proofs.Steps.{visit-no-step, visit-no-nesting}
 
@@ -19,13 +19,13 @@ use Rattle.run.proofs.Steps.{visit-no-step, visit-no-nesting}
 abbrev pub counted : List ℕ → List ℕ
 counted counts = set counts 0 (getD counts 0 0 - 1)
 
-module _ {b tab : List ℕ} {at : ℕ} {counts : List ℕ} where
-  module _ {limits x : ℕ} {cells : RefT (List ℕ)} {o : Outcome} (a : Visitable b tab at counts) where
+module _ {b tab : List ℕ} {limits at : ℕ} {counts : List ℕ} where
+  module _ {x : ℕ} {cells : RefT (List ℕ)} {o : Outcome} (a : Visitable b tab limits at counts (cells .now)) where
     pub no-step-left : getD counts 0 0 ≡ 0 → outcomeIn x ≡ o → endingOf o ≡ ended noStep → Visits b tab limits at counts cells x counts cells
     no-step-left z f g =
         record {
           same = λ rs h. visit-no-step b rs (above limits) (below at) (above at) (cells .now) (below limits) z (leaves-in x f g);
-          size = a .size;
+          size = a .context .size;
           stays = refl;
         }
 
@@ -34,28 +34,29 @@ module _ {b tab : List ℕ} {at : ℕ} {counts : List ℕ} where
     no-nesting-left l z f g =
         record {
           same = λ rs h. visit-no-nesting b rs (above limits) (below at) (above at) (cells .now) (below limits) l z (leaves-in x f g);
-          size = a .size;
+          size = a .context .size;
           stays = refl;
         }
 
   -- what the function of a kind asks
-  pub kind-asked : {t kind : ℕ} → (2 * getD counts 0 0 ≡ t) × Visitable b tab at counts → (getD counts 0 0 ≡ 0 → ⊥)
-      → NodeIs b (nodeRecord b (below at)) (below at) kind
-      → (2 * getD (counted counts) 0 0 + 1 < t) × Evaluable b tab at (counted counts) kind
-  kind-asked a l h =
-      (falls-set counts (a .1 .size) l (a .0), record { equipped = a .1 .equipped; node = h; size = set-size counts (a .1 .size) _ _ })
+  module _ {bytes : List ℕ} {t : ℕ} (a : (2 * getD counts 0 0 ≡ t) × Visitable b tab limits at counts bytes) where
+    abbrev pub KindAsked : ℕ → Type 0
+    KindAsked kind = (2 * getD (counted counts) 0 0 + 1 < t) × Evaluable b tab (limits - 1) at (counted counts) bytes kind
 
-  abbrev pub KindAsked : {t : ℕ} → (2 * getD counts 0 0 ≡ t) × Visitable b tab at counts → ℕ → Type 0
-  KindAsked {t} a kind = (2 * getD (counted counts) 0 0 + 1 < t) × Evaluable b tab at (counted counts) kind
+    pub kind-asked : {kind : ℕ} → (getD counts 0 0 ≡ 0 → ⊥) → (below limits ≡ 0 → ⊥) → NodeIs b (nodeRecord b (below at)) (below at) kind → KindAsked kind
+    kind-asked l n h = (
+      falls-set counts (a .1 .context .size) l (a .0),
+      record { equipped = a .1 .equipped; node = h; context = context-taken limits _ n (a .1 .context) },
+    )
 
 -- a step was counted: what the function of a kind gives is returned
 pub record Counted (b tab : List ℕ) (limits at : ℕ) (counts : List ℕ) (cells : RefT (List ℕ)) : Type 0 where
   pub returned : {x : ℕ} {counts′ : List ℕ} {cells′ : RefT (List ℕ)} → Evaluates b tab (limits - 1) at (counted counts) cells x counts′ cells′
       → Visits b tab limits at counts cells x counts′ cells′
 
-module _ {b tab : List ℕ} {at : ℕ} {counts : List ℕ} (a : Visitable b tab at counts) where
-  pub step-counted : {limits : ℕ} {cells : RefT (List ℕ)} → (getD counts 0 0 ≡ 0 → ⊥) → (below limits ≡ 0 → ⊥) → Counted b tab limits at counts cells
-  step-counted l n = record { returned = visit-taken (a .size) l n }
+module _ {b tab : List ℕ} {limits at : ℕ} {counts bytes : List ℕ} (a : Visitable b tab limits at counts bytes) where
+  pub step-counted : {cells : RefT (List ℕ)} → (getD counts 0 0 ≡ 0 → ⊥) → (below limits ≡ 0 → ⊥) → Counted b tab limits at counts cells
+  step-counted l n = record { returned = visit-taken (a .context .size) l n }
 
-  abbrev pub CountedBy : ℕ → RefT (List ℕ) → Type 0
-  CountedBy limits cells = Counted b tab limits at counts cells
+  abbrev pub CountedBy : RefT (List ℕ) → Type 0
+  CountedBy cells = Counted b tab limits at counts cells

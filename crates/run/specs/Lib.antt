@@ -1,4 +1,4 @@
-pub mod Lent
+pub mod FormalTable
 pub mod NodeTable
 pub mod Packed
 pub mod States

@@ -2,10 +2,11 @@
 use Prim.Native.Nat.{ℕ, _/_, _%_}
 use mathlib.Core.List.{List}
 use lib.ListN.{getD}
-use mathlib.Core.Bool.{Bool, true, false}
+use mathlib.Core.Bool.{Bool, true, false, _||_}
 use lib.Dec.{eqb}
 use mir.Syntax.{w32}
 use mir.Val.{toZ}
+use Rattle.definitions.specs.CellBytes.{numberKind, constructorKind}
 use Rattle.run.specs.declared.state.Value.the-variants.{Number, Constructor}
 use Rattle.run.specs.declared.state.Outcome.{Outcome}
 use Rattle.run.specs.declared.state.Outcome.the-variants as outcomes
@@ -17,8 +18,13 @@ either false a b = b
 
 unfoldable pub outcomeIn : ℕ → Outcome
 outcomeIn x =
-    either (eqb (x % 65536) 0) (outcomes.Value (Number (toZ w32 (x / 65536 % 4294967296))))
-    (either (eqb (x % 65536) 1) (outcomes.Value (Constructor (x / 65536 % 65536) (x / 4294967296 % 65536))) (outcomes.Ended (x / 65536 % 65536)))
+    either (eqb (x % 65536) numberKind) (outcomes.Value (Number (toZ w32 (x / 65536 % 4294967296))))
+    (either (eqb (x % 65536) constructorKind) (outcomes.Value (Constructor (x / 65536 % 65536) (x / 4294967296 % 65536)))
+    (outcomes.Ended (x / 65536 % 65536)))
+
+-- whether it is a value
+unfoldable pub isValueIn : ℕ → Bool
+isValueIn x = eqb (x % 65536) numberKind || eqb (x % 65536) constructorKind
 
 -- the state of a visit that returned a number, by the counts that it left
 abbrev pub stateIn : ℕ → List ℕ → State

@@ -5,13 +5,16 @@ ghost use Rattle.run.specs.NodeTable.{tableEntries, FileRead, Readable};
 ghost use Rattle.run.specs.Promise.{Runs};
 
 mod answers;
+mod formal_places;
 mod look_up;
+mod memory;
 pub mod node_table;
 mod packed;
 mod state;
 mod visit;
 
 use crate::answers::answered;
+use crate::formal_places::fill_places;
 use crate::look_up::first_body;
 use crate::node_table::TABLE_ENTRIES;
 use crate::node_table::Table;
@@ -26,6 +29,7 @@ use answer::Answer;
 use answer::refused;
 use definitions::Verdict;
 use definitions::numbers;
+use definitions::sizes::MOST_FORMALS;
 use definitions::sizes::MOST_FUNCTIONS;
 use definitions::sizes::MOST_RECORDS;
 use file_layout::layout;
@@ -43,7 +47,9 @@ pub fn read_file(file: &[u8], table: &mut Table) -> Verdict
     let Verdict::Accepted = verdict else {
         return verdict;
     };
-    fill_nodes(table, file, &starts, &ends);
+    let mut places = [0u16; MOST_FORMALS];
+    fill_places(&mut places, file, &starts);
+    fill_nodes(table, file, &starts, &ends, &places);
     Verdict::Accepted
 }
 
@@ -76,7 +82,7 @@ pub fn run_table(
     answered(table, opened(x, counts[LEFT], counts[MADE]), steps)
 }
 
-// Runs a translation on a list of readings, with allowances of steps, nesting and cells, in lent cells of 4 bytes. The answer
+// Runs a translation on a list of readings, with allowances of steps, nesting and cells, in lent cells of 68 bytes. The answer
 // is the rule's, and the lent bytes start with the cells made and stay as they were past them; or it is the refusal, and the
 // lent bytes stay as they were. The slice behind `cells` stays the same.
 pub fn run(

@@ -7,8 +7,10 @@ ghost use Rattle.definitions.specs.Sizes.{mostNodes, mostReadings};
 ghost use Rattle.definitions.specs.Layouts.{nodes, due};
 ghost use Rattle.definitions.specs.declared.Layout.the-variants.{Translation};
 ghost use Rattle.file_records.specs.Index.{Opened};
+ghost use Rattle.run.specs.FormalTable.{FormalTable};
 ghost use Rattle.run.specs.NodeTable.{tableEntries, kindPart, firstPart, secondPart, thirdPart, numberPart, readingIn, Parts, ListEntry, EntryOf, NodeTable, ReadingsSet};
 ghost use Rattle.run.specs.States.{Ready};
+use crate::formal_places::Places;
 use crate::look_up::body;
 use crate::look_up::node_record;
 use definitions::Layout;
@@ -53,8 +55,8 @@ fn list_entry(b: &[u8], index: &Starts, kind: u16, first: u16, r: usize) -> u64
 }
 
 // The entry of node `k` of an accepted translation.
-fn entry_at(b: &[u8], index: &Starts, ends: &Ends, k: u16) -> u64
-    requires { ⌜ Ready (now b) (now index) (now ends) × (k < nodes (now b)) ⌝ }
+fn entry_at(b: &[u8], index: &Starts, ends: &Ends, places: &Places, k: u16) -> u64
+    requires { ⌜ Ready (now b) (now index) (now ends) × FormalTable (now b) (now places) × (k < nodes (now b)) ⌝ }
     ensures { λ x. ⌜ EntryOf (now (b .entry)) k x ⌝ }
 {
     let rec = node_record(b, index, k);
@@ -62,10 +64,11 @@ fn entry_at(b: &[u8], index: &Starts, ends: &Ends, k: u16) -> u64
     let first = field(rec, 0);
     if kind == translation_kinds::FORMAL {
         let r = first_item(Layout::Translation, b) + wide(first);
-        return list_entry(b, index, kind, first, r);
+        return list_entry(b, index, kind, places[wide(first)], r);
     }
     if kind == translation_kinds::CALL {
-        return entry_with(kind, first, 0, body(b, index, ends, field(rec, 1)));
+        let f = field(rec, 1);
+        return entry_with(kind, first, f, body(b, index, ends, f));
     }
     if translation_kinds::TUPLE <= kind {
         let r = first_node(b) + wide(k);
@@ -75,14 +78,14 @@ fn entry_at(b: &[u8], index: &Starts, ends: &Ends, k: u16) -> u64
 }
 
 // Fills a table with the nodes of an accepted translation.
-pub(crate) fn fill_nodes(tab: &mut Table, b: &[u8], index: &Starts, ends: &Ends)
-    requires { ⌜ Ready (now b) (now index) (now ends) × (length (now tab) ≡ tableEntries) ⌝ }
+pub(crate) fn fill_nodes(tab: &mut Table, b: &[u8], index: &Starts, ends: &Ends, places: &Places)
+    requires { ⌜ Ready (now b) (now index) (now ends) × FormalTable (now b) (now places) × (length (now tab) ≡ tableEntries) ⌝ }
     ensures { λ _. ⌜ NodeTable (now (b .entry)) (now (tab .exit)) × (length (now (tab .exit)) ≡ tableEntries) ⌝ }
 {
     let count = nodes(b);
     let mut k: u16 = 0;
     while k < count {
-        let x = entry_at(b, index, ends, k);
+        let x = entry_at(b, index, ends, places, k);
         tab[wide(k)] = x;
         k += 1;
     }

@@ -1,8 +1,9 @@
-// An outcome in one number of 64 bits, which a visit returns: in its lowest 16 bits 0 for a number, 1 for a constructor and 2 for a
+// An outcome in one number of 64 bits, which a visit returns: in its lowest 16 bits 1 for a number, 2 for a constructor and 0 for a
 // stop or a run fault, and above them the number's bits, the constructor's node and context, or the number of the stop or fault.
+// So a value has the number of the entry that remembers it.
 ghost use mathlib.Core.Path.{_≡_};
 ghost use Rattle.run.specs.declared.state.Outcome.the-variants as outcomes;
-ghost use Rattle.run.specs.Packed.{outcomeIn};
+ghost use Rattle.run.specs.Packed.{outcomeIn, isValueIn};
 use crate::node_table::entry_with;
 use crate::node_table::first_in;
 use crate::node_table::kind_in;
@@ -11,13 +12,10 @@ use crate::node_table::second_in;
 use crate::state::Outcome;
 use crate::state::State;
 use crate::state::Value;
+use cells::entry;
 use operators::bits::bits_of;
 
-const NUMBER: u16 = 0;
-
-const CONSTRUCTOR: u16 = 1;
-
-const ENDED: u16 = 2;
+const ENDED: u16 = entry::EMPTY;
 
 // The number of a value.
 fn packed_value(v: Value) -> u64
@@ -27,13 +25,13 @@ fn packed_value(v: Value) -> u64
         Value::Number(z) => {
             let bits = bits_of(z);
             entry_with(
-                NUMBER,
+                entry::NUMBER,
                 (bits % 0x1_0000) as u16,
                 (bits / 0x1_0000) as u16,
                 0,
             )
         }
-        Value::Constructor { node, context } => entry_with(CONSTRUCTOR, node, context, 0),
+        Value::Constructor { node, context } => entry_with(entry::CONSTRUCTOR, node, context, 0),
     }
 }
 
@@ -47,15 +45,26 @@ pub(crate) fn packed(o: Outcome) -> u64
     }
 }
 
+// Whether the outcome of a number is a value.
+pub(crate) fn is_value(x: u64) -> bool
+    ensures { λ r. ⌜ r ≡ isValueIn x ⌝ }
+{
+    let kind = kind_in(x);
+    if kind == entry::NUMBER {
+        return true;
+    }
+    kind == entry::CONSTRUCTOR
+}
+
 // The outcome of a number.
 fn outcome_in(x: u64) -> Outcome
     ensures { λ r. ⌜ r ≡ outcomeIn x ⌝ }
 {
     let kind = kind_in(x);
-    if kind == NUMBER {
+    if kind == entry::NUMBER {
         return Outcome::Value(Value::Number(number_in(x)));
     }
-    if kind == CONSTRUCTOR {
+    if kind == entry::CONSTRUCTOR {
         return Outcome::Value(Value::Constructor {
             node: first_in(x),
             context: second_in(x),

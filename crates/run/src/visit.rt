@@ -3,12 +3,16 @@
 // be nested below and the cell allowance above; `at` has the node below and the context above.
 ghost use Rattle.definitions.specs.TranslationKinds as kinds;
 ghost use Rattle.run.specs.States.{Visitable, Evaluable, Visits, Evaluates};
+use crate::formal_places::POSITIONS;
 use crate::look_up::Found;
 use crate::look_up::branch;
 use crate::look_up::cell_in;
 use crate::look_up::clause;
 use crate::look_up::found_at;
 use crate::look_up::listed;
+use crate::memory::is_own;
+use crate::memory::recall;
+use crate::memory::remember;
 use crate::node_table::Table;
 use crate::node_table::entry;
 use crate::node_table::first_in;
@@ -17,6 +21,7 @@ use crate::node_table::number_in;
 use crate::node_table::reading;
 use crate::node_table::second_in;
 use crate::node_table::third_in;
+use crate::packed::is_value;
 use crate::packed::opened;
 use crate::packed::packed;
 use crate::state::Counts;
@@ -45,7 +50,7 @@ pub(crate) fn visit(
     limits: u32,
     at: u32,
 ) -> u64
-    requires { ⌜ Visitable (now (now b)) (now tab) at (now counts) ⌝ }
+    requires { ⌜ Visitable (now (now b)) (now tab) limits at (now counts) (now (now cells)) ⌝ }
     ensures { λ r. ⌜ Visits (now (now (b .entry))) (now (tab .entry)) limits at (now (counts .entry)) (now (cells .entry)) r (now (counts .exit)) (now (cells .exit)) ⌝ }
 {
     let left = counts[LEFT];
@@ -87,7 +92,8 @@ pub(crate) fn visit(
     visit_case(b, tab, cells, counts, limits, at)
 }
 
-// A formal: visits the actual that the head label names, under the tail.
+// A formal: what the head cell remembers of it, where its own function's call made that cell; else visits the actual that the head
+// label names, under the tail, and has a value remembered.
 fn visit_formal(
     b: &&[u8],
     tab: &Table,
@@ -96,7 +102,7 @@ fn visit_formal(
     limits: u32,
     at: u32,
 ) -> u64
-    requires { ⌜ Evaluable (now (now b)) (now tab) at (now counts) kinds.formal ⌝ }
+    requires { ⌜ Evaluable (now (now b)) (now tab) limits at (now counts) (now (now cells)) kinds.formal ⌝ }
     ensures { λ r. ⌜ Evaluates (now (now (b .entry))) (now (tab .entry)) limits at (now (counts .entry)) (now (cells .entry)) r (now (counts .exit)) (now (cells .exit)) ⌝ }
 {
     let w = (at / 0x1_0000) as u16;
@@ -104,6 +110,12 @@ fn visit_formal(
         return packed(ended(numbers::NO_ACTUAL));
     }
     let node = entry(tab, (at % 0x1_0000) as u16);
+    let place = first_in(node);
+    let own = is_own(*cells, w, place / POSITIONS);
+    let known = recall(*cells, own, w, place % POSITIONS);
+    if is_value(known) {
+        return known;
+    }
     let cell = cell_in(*cells, w);
     let label = (cell % 0x1_0000) as u16;
     let found = listed(*b, second_in(node), third_in(node), label);
@@ -111,7 +123,9 @@ fn visit_formal(
         return packed(ended(numbers::NO_ACTUAL));
     };
     let tail = (cell / 0x1_0000) as u16;
-    visit(b, tab, cells, counts, limits, pair_of(n, tail))
+    let x = visit(b, tab, cells, counts, limits, pair_of(n, tail));
+    remember(*cells, own, w, place % POSITIONS, x);
+    x
 }
 
 // A selection: index 0 is the tag, i is field i - 1 under the tuple's own context.
@@ -123,7 +137,7 @@ fn visit_select(
     limits: u32,
     at: u32,
 ) -> u64
-    requires { ⌜ Evaluable (now (now b)) (now tab) at (now counts) kinds.select ⌝ }
+    requires { ⌜ Evaluable (now (now b)) (now tab) limits at (now counts) (now (now cells)) kinds.select ⌝ }
     ensures { λ r. ⌜ Evaluates (now (now (b .entry))) (now (tab .entry)) limits at (now (counts .entry)) (now (cells .entry)) r (now (counts .exit)) (now (cells .exit)) ⌝ }
 {
     let k = (at % 0x1_0000) as u16;
@@ -159,7 +173,7 @@ fn visit_operator(
     limits: u32,
     at: u32,
 ) -> u64
-    requires { ⌜ Evaluable (now (now b)) (now tab) at (now counts) kinds.operator ⌝ }
+    requires { ⌜ Evaluable (now (now b)) (now tab) limits at (now counts) (now (now cells)) kinds.operator ⌝ }
     ensures { λ r. ⌜ Evaluates (now (now (b .entry))) (now (tab .entry)) limits at (now (counts .entry)) (now (cells .entry)) r (now (counts .exit)) (now (cells .exit)) ⌝ }
 {
     let k = (at % 0x1_0000) as u16;
@@ -196,7 +210,7 @@ fn visit_conditional(
     limits: u32,
     at: u32,
 ) -> u64
-    requires { ⌜ Evaluable (now (now b)) (now tab) at (now counts) kinds.conditional ⌝ }
+    requires { ⌜ Evaluable (now (now b)) (now tab) limits at (now counts) (now (now cells)) kinds.conditional ⌝ }
     ensures { λ r. ⌜ Evaluates (now (now (b .entry))) (now (tab .entry)) limits at (now (counts .entry)) (now (cells .entry)) r (now (counts .exit)) (now (cells .exit)) ⌝ }
 {
     let k = (at % 0x1_0000) as u16;
@@ -225,7 +239,7 @@ fn visit_call(
     limits: u32,
     at: u32,
 ) -> u64
-    requires { ⌜ Evaluable (now (now b)) (now tab) at (now counts) kinds.call ⌝ }
+    requires { ⌜ Evaluable (now (now b)) (now tab) limits at (now counts) (now (now cells)) kinds.call ⌝ }
     ensures { λ r. ⌜ Evaluates (now (now (b .entry))) (now (tab .entry)) limits at (now (counts .entry)) (now (cells .entry)) r (now (counts .exit)) (now (cells .exit)) ⌝ }
 {
     let count = counts[MADE];
@@ -234,7 +248,7 @@ fn visit_call(
     }
     let node = entry(tab, (at % 0x1_0000) as u16);
     let w = (at / 0x1_0000) as u16;
-    add_cell(*cells, wide32(count), first_in(node), w);
+    add_cell(*cells, wide32(count), first_in(node), w, second_in(node));
     counts[MADE] = count + 1;
     let context = (count + 1) as u16;
     visit(
@@ -256,7 +270,7 @@ fn visit_case(
     limits: u32,
     at: u32,
 ) -> u64
-    requires { ⌜ Evaluable (now (now b)) (now tab) at (now counts) kinds.caseOf ⌝ }
+    requires { ⌜ Evaluable (now (now b)) (now tab) limits at (now counts) (now (now cells)) kinds.caseOf ⌝ }
     ensures { λ r. ⌜ Evaluates (now (now (b .entry))) (now (tab .entry)) limits at (now (counts .entry)) (now (cells .entry)) r (now (counts .exit)) (now (cells .exit)) ⌝ }
 {
     let k = (at % 0x1_0000) as u16;

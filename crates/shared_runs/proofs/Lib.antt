@@ -1,4 +1,6 @@
 pub mod SameTrees
+pub mod FormalsRead
+pub mod AlikeCells
 pub mod Alongside
 pub mod Runs
 pub mod Shared

@@ -1,79 +1,117 @@
 -- Runs of two files that read as translations of sheets with equal trees, by any two labellings, go alike.
 use mathlib.Core.Path.{_≡_, refl, sym, ap, _∙_}
-use Prim.Native.Nat.{ℕ, zero, suc, _+_, _<_}
+use Prim.Native.Nat.{ℕ, zero, suc, _<_}
 use mathlib.Core.List.{List, [], _∷_, _++_}
 use mathlib.Core.Option.{some}
 use mathlib.Core.Bool.{Bool, true, false}
 use native.Mathlib.Omega.{arith}
 use lib.IntN.{ℤ}
-use lib.ListN.{length, getElem?, length-append}
-use lib.Dec.{ltb}
+use lib.ListN.{length, getElem?}
+use lib.Dec.{ltb, eqb}
+use borrow.Author.Tests.{eq-eqb}
 use Rattle.definitions.specs.Layouts.{functions, bodyOf, ownerOf}
+use Rattle.definitions.specs.FormalPlaces.{functionOf}
 use Rattle.definitions.specs.References.{parameters}
 use Rattle.definitions.specs.SheetNodes.{call, sheetNodeOf}
 use Rattle.definitions.specs.TranslationNodes.{translationNodeOf, tagOf, tupleFields}
 use Rattle.definitions.specs.Checks.{sheetVerdict}
 use Rattle.definitions.specs.Labels.{Labelling, labelOf}
 use Rattle.definitions.specs.Translate.{formalOf}
-use Rattle.definitions.specs.Rule.{Ending, State, Reached, Visit, withStep, nodeDue, visited}
-use Rattle.definitions.specs.Cells.{Cell, cellOf, underTail, formalByCells, withCell, whereCell, callByCells, byCells, evaluation}
+use Rattle.definitions.specs.Rule.{Value, Ending, integer, constructor, State, Reached, Visit, reach, withStep, nodeDue, visited}
+use Rattle.definitions.specs.Cells.{Entry, Cell, newCell, cellOf, entryAt, withValue, keeping, remembered, recalled, whereOwn, underCell, formalByCells}
+use Rattle.definitions.specs.Rule.{whereCell}
+use Rattle.definitions.specs.Cells.{withCell, callByCells, byCells, evaluation}
 use Rattle.definitions.specs.Run.{endingOutcome, ruleEnd}
 use Rattle.definitions.specs.declared.Layout.the-variants.{Sheet, Translation}
 use Rattle.definitions.specs.declared.Verdict.the-variants.{Accepted}
 use Rattle.accepted.specs.Child.{argument, component}
-use Rattle.accepted.proofs.Elements.{element-there, element-back}
+use Rattle.accepted.proofs.Elements.{element-there}
 use Rattle.accepted.proofs.Head.{functions-least}
 use Rattle.accepted.proofs.Owners.{body-below, owner-of-body}
 use Rattle.accepted.proofs.Checks.{sheet-shape}
 use Rattle.accepted.proofs.Names.{call-below, call-count}
 use Rattle.accepted.proofs.Trees.{child-below, child-owner}
+use Rattle.cell_rules.specs.Contexts.{Head, headOf, cellHeads, Kept}
+use Rattle.cell_rules.proofs.Contexts.{element-added, kept-all, kept-then, kept-added}
+use Rattle.cell_rules.proofs.Changes.{value-kept}
 use Rattle.rule_laws.specs.SideBySide.{AlikeEnds, integers, constructors, ends, Both, cut, arrive, Due, Beside, Alike, InStep}
 use Rattle.rule_laws.proofs.Lockstep.{both-back, both-here, evaluations-in-step}
 use Rattle.shared_runs.specs.Reads.{AlikeSheets, Named, Reads}
 use Rattle.shared_runs.specs.SameRuns.{SameEnds, SameRuns}
 use Rattle.shared_runs.proofs.SameTrees.{trees-then, trees-itself, same-nodes, same-calls, pairs-at, element-found}
-use Rattle.shared_runs.proofs.Alongside.{World, hereOf, thereOf, Twins, Fits, outermost, within, fits-more, AtNodes, BuiltBy, OfFormal, OfCall, sides, due-found, child-at, alike-by}
-
-added : (cs : List Cell) (c : Cell) → getElem? (cs ++ (c ∷ [])) (length cs) ≡ some c
-added cs c = let p : length cs + 0 ≡ length cs = omega arith in rw p at (element-back cs (c ∷ []) 0)
+use Rattle.shared_runs.proofs.FormalsRead.{formal-function, formal-position}
+use Rattle.shared_runs.proofs.AlikeCells.{AlikeCells, no-cell, cells-map, cells-even, cells-at, cells-valued, cells-added}
+use Rattle.shared_runs.proofs.Alongside.{Twins, Fits, outermost, within, AtNodes, BuiltBy, SameEntry, nothing, one-number, such-constructors, World, hereOf, thereOf}
+use Rattle.shared_runs.proofs.Alongside.{fits-kept, built-kept, entry-kept, OfFormal, OfCall, sides, due-found, child-at, alike-by}
 
 module _ (same same′ : Labelling) (a b : List ℕ) where
   -- one step of each
-  step-both : (left : ℕ) (cs ds : List Cell) (even : length cs ≡ length ds) (go go′ : State (List Cell) → Reached ℕ (List Cell))
-      → ((n : ℕ) → Both (sides same same′ a b) (record { left = left; here = cs; there = ds; even = even })
+  step-both : (left : ℕ) (cs ds : List Cell) (p : AlikeCells (SameEntry same same′ a b cs ds) cs ds) (go go′ : State (List Cell) → Reached ℕ (List Cell))
+      → ((n : ℕ) → Both (sides same same′ a b) (record { left = left; here = cs; there = ds; remember = p })
       (go (record { left = n; store = cs })) (go′ (record { left = n; store = ds })))
-      → Both (sides same same′ a b) (record { left = left; here = cs; there = ds; even = even }) (withStep left cs go) (withStep left ds go′)
+      → Both (sides same same′ a b) (record { left = left; here = cs; there = ds; remember = p }) (withStep left cs go) (withStep left ds go′)
   unfolding withStep
-  step-both zero cs ds even go go′ f = both-here (sides same same′ a b) _ ends
-  step-both (suc n) cs ds even go go′ f = f n
+  step-both zero cs ds p go go′ f = both-here (sides same same′ a b) _ ends
+  step-both (suc n) cs ds p go go′ f = f n
+
+  -- the world in which each remembers a value more, in the same place
+  abbrev valued : (v : World same same′ a b) (w i : ℕ) (x y : Value ℕ) → SameEntry same same′ a b (v .here) (v .there) (some x) (some y) → World same same′ a b
+  valued v w i x y h =
+      let f = entry-kept same same′ a b (value-kept w i x (v .here)) (value-kept w i y (v .there)) in
+      record {
+        left = v .left;
+        here = withValue w i x (v .here);
+        there = withValue w i y (v .there);
+        remember = cells-valued _ w i (f (some x) (some y) h) (cells-map f (v .remember));
+      }
+
+  remembered-both : (w : World same same′ a b) (c i : ℕ) {r q : Reached ℕ (List Cell)} → Both (sides same same′ a b) w r q
+      → Both (sides same same′ a b) w (remembered c i r) (remembered c i q)
+  unfolding remembered keeping reach
+  remembered-both w c i (arrive v l (integers {z})) =
+      arrive (valued v c i (integer z) (integer z) one-number)
+      (record { one = kept-then (l .one) (value-kept c i _ (v .here)); two = kept-then (l .two) (value-kept c i _ (v .there)) }) integers
+  remembered-both w c i (arrive v l (constructors {k} {m} {c = x} {d = y} h)) =
+      arrive (valued v c i (constructor k x) (constructor m y) (such-constructors h))
+      (record { one = kept-then (l .one) (value-kept c i _ (v .here)); two = kept-then (l .two) (value-kept c i _ (v .there)) })
+      (constructors (built-kept same same′ a b (value-kept c i _ (v .here)) (value-kept c i _ (v .there)) h))
+  remembered-both w c i (arrive v l ends) = arrive v l ends
+
+  recalled-both : (w : World same same′ a b) {x y : Entry} {r q : Reached ℕ (List Cell)} → SameEntry same same′ a b (w .here) (w .there) x y
+      → Both (sides same same′ a b) w r q
+      → Both (sides same same′ a b) w (recalled x (hereOf same same′ a b w) r) (recalled y (thereOf same same′ a b w) q)
+  unfolding recalled
+  recalled-both w nothing f = f
+  recalled-both w one-number f = both-here (sides same same′ a b) w integers
+  recalled-both w (such-constructors h) f = both-here (sides same same′ a b) w (constructors h)
 
   module _ {t u : List ℕ} (first : sheetVerdict a ≡ Accepted) (second : sheetVerdict b ≡ Accepted) (sheets : AlikeSheets a b)
       (one : Reads same a t) (two : Reads same′ b u) (rs : List ℤ) (cellsAllowed : ℕ) where
-    node-alike : {w : World} {k m c d : ℕ} → AtNodes same same′ a b w k m c d
+    node-alike : {w : World same same′ a b} {k m c d : ℕ} → AtNodes same same′ a b (w .here) (w .there) k m c d
         → Alike (sides same same′ a b) rs rs w k m c d (translationNodeOf t k) (translationNodeOf u m)
     node-alike {k} {m} h =
         rw (one .becomes k (h .like .one), two .becomes m (h .like .two))
         (alike-by same same′ a b first second h refl refl refl
         (same-nodes a a first (h .like .own) (h .like .with-one)) (same-nodes a b first (h .like .own) (h .like .with-two)))
 
-    tags-alike : {w : World} {k m c d : ℕ} → BuiltBy same same′ a b w k m c d → tagOf t k ≡ tagOf u m
+    tags-alike : {cs ds : List Cell} {k m c d : ℕ} → BuiltBy same same′ a b cs ds k m c d → tagOf t k ≡ tagOf u m
     tags-alike {k} {m} h = one .tag k (h .at .like .one) (h .is-one) ∙ sym (two .tag m (h .at .like .two) (h .is-two))
 
-    fields-alike : {w : World} {k m c d : ℕ} → BuiltBy same same′ a b w k m c d → (i : ℕ)
+    fields-alike : {w : World same same′ a b} {k m c d : ℕ} → BuiltBy same same′ a b (w .here) (w .there) k m c d → (i : ℕ)
         → Due (sides same same′ a b) w c d (getElem? (tupleFields t k) i) (getElem? (tupleFields u m) i)
     fields-alike {w} {k} {m} {c} {d} h i =
         rw (one .fields k (h .at .like .one) (h .is-one), two .fields m (h .at .like .two) (h .is-two))
-        (due-found same same′ a b (element-found (λ k m. AtNodes same same′ a b w k m c d) i (h .with-one) (h .with-two)
+        (due-found same same′ a b (element-found (λ k m. AtNodes same same′ a b (w .here) (w .there) k m c d) i (h .with-one) (h .with-two)
         (λ x k′ m′ p q r s t.
         child-at same same′ a b first second (h .at) (h .is-own) (h .is-one) (h .is-two) (component i p) (component i q) (component i r) s t)))
 
     -- the actuals that two labels name
-    actual-at : (w : World) {f i k m x p : ℕ} {ns : List ℕ} (l : Twins a b k m x) → sheetNodeOf a x ≡ call f ns
+    actual-at : {cs ds : List Cell} {f i k m x p : ℕ} {ns : List ℕ} (l : Twins a b k m x) → sheetNodeOf a x ≡ call f ns
         → i < parameters a f
-        → Fits same same′ a b (w .here) (w .there) p (ownerOf Sheet a x)
+        → Fits same same′ a b cs ds p (ownerOf Sheet a x)
         → (g : Named a t f k i (labelOf same a f k)) (h : Named b u f m i (labelOf same′ b f m))
-        → AtNodes same same′ a b w (g .node) (h .node) p p
-    actual-at w {f} {i} {x} {ns} l e inside fits g h =
+        → AtNodes same same′ a b cs ds (g .node) (h .node) p p
+    actual-at {f} {i} {x} {ns} l e inside fits g h =
         let y = element-there ns i (rw (call-count a first x (l .own) e) inside) in
         let c = same-calls a a first (l .own) e (trees-then (l .with-one) (g .equal)) in
         let d = same-calls a b first (l .own) e (trees-then (l .with-two) (h .equal)) in
@@ -105,20 +143,42 @@ module _ (same same′ : Labelling) (a b : List ℕ) where
           with-two = sheets .bodies f h;
         })
 
-    module _ (visit visit′ : Visit ℕ (List Cell)) (beside : Beside (sides same same′ a b) visit visit′) (w : World) where
+    module _ (visit visit′ : Visit ℕ (List Cell)) (beside : Beside (sides same same′ a b) visit visit′) (w : World same same′ a b) where
+      -- a formal under cells of its own function's calls
+      own-both : (f i c k m x p : ℕ) {ns : List ℕ} {y z : Cell} → i < parameters a f → Twins a b k m x → sheetNodeOf a x ≡ call f ns
+          → Fits same same′ a b (w .here) (w .there) p (ownerOf Sheet a x)
+          → getElem? (w .here) c ≡ some y → headOf y ≡ record { label = labelOf same a f k; previous = p; callee = f }
+          → getElem? (w .there) c ≡ some z → headOf z ≡ record { label = labelOf same′ b f m; previous = p; callee = f }
+          → Both (sides same same′ a b) w (underCell t visit (formalOf a f i) (suc c) (some y) (hereOf same same′ a b w))
+          (underCell u visit′ (formalOf b f i) (suc c) (some z) (thereOf same same′ a b w))
+      unfolding underCell whereOwn nodeDue entryAt
+      own-both f i c k m x p {y} {z} h l n fits e d e′ d′ =
+          let hf = call-below a first x (l .own) n in
+          let hf′ : f < functions b = rw (sheets .count) at hf in
+          let h′ = rw (sheets .parameters f hf) at h in
+          let g = one .names f k i (l .one) (same-calls a a first (l .own) n (l .with-one) .is) h in
+          let j = two .names f m i (l .two) (same-calls a b first (l .own) n (l .with-two) .is) h′ in
+          let o : eqb (functionOf t (formalOf a f i)) (y .callee) ≡ true = eq-eqb _ _ (formal-function one f i hf h ∙ sym (ap (λ (q : Head). q .callee) d)) in
+          let o′ : eqb (functionOf u (formalOf b f i)) (z .callee) ≡ true = eq-eqb _ _ (formal-function two f i hf′ h′ ∙ sym (ap (λ (q : Head). q .callee) d′)) in
+          let s : y .label ≡ labelOf same a f k = ap (λ (q : Head). q .label) d in
+          let s′ : z .label ≡ labelOf same′ b f m = ap (λ (q : Head). q .label) d′ in
+          let v : y .previous ≡ p = ap (λ (q : Head). q .previous) d in
+          let v′ : z .previous ≡ p = ap (λ (q : Head). q .previous) d′ in
+          rw (o, o′, formal-position one f i hf h, formal-position two f i hf′ h′, s, s′, v, v′, g .listed, j .listed)
+          (recalled-both w (cells-at _ c i nothing (w .remember) e e′)
+          (remembered-both w (suc c) i (beside .both w (g .node) (j .node) p p (actual-at l n h fits g j))))
+
       formal-by : (f i c : ℕ) → i < parameters a f → Fits same same′ a b (w .here) (w .there) c f
-          → Both (sides same same′ a b) w (underTail t visit (formalOf a f i) (cellOf (w .here) c) (hereOf w))
-          (underTail u visit′ (formalOf b f i) (cellOf (w .there) c) (thereOf w))
-      unfolding underTail cellOf nodeDue
+          → Both (sides same same′ a b) w (underCell t visit (formalOf a f i) c (cellOf (w .here) c) (hereOf same same′ a b w))
+          (underCell u visit′ (formalOf b f i) c (cellOf (w .there) c) (thereOf same same′ a b w))
+      unfolding underCell cellOf
       formal-by f i zero h outermost = both-here (sides same same′ a b) w ends
       formal-by f i (suc c) h (within {p} {k} {m} {x} e d l n fits) =
-          let g = one .names f k i (l .one) (same-calls a a first (l .own) n (l .with-one) .is) h in
-          let q = rw (sheets .parameters f (call-below a first x (l .own) n)) at h in
-          let j = two .names f m i (l .two) (same-calls a b first (l .own) n (l .with-two) .is) q in
-          rw (e, d, g .listed, j .listed) (beside .both w (g .node) (j .node) p p (actual-at w l n h fits g j))
+          rw (e .there, d .there) (own-both f i c k m x p h l n fits (e .there) (e .is) (d .there) (d .is))
 
       formal-both : {p q c d : ℕ} → OfFormal same same′ a b w p q c d
-          → Both (sides same same′ a b) w (byCells t cellsAllowed .atFormal visit p c (hereOf w)) (byCells u cellsAllowed .atFormal visit′ q d (thereOf w))
+          → Both (sides same same′ a b) w (byCells t cellsAllowed .atFormal visit p c (hereOf same same′ a b w))
+          (byCells u cellsAllowed .atFormal visit′ q d (thereOf same same′ a b w))
       unfolding byCells formalByCells
       formal-both {c} h = rw (h .is-one, h .is-two, ← h .contexts) (formal-by (h .function) (h .position) c (h .inside) (h .fits))
 
@@ -126,36 +186,41 @@ module _ (same same′ : Labelling) (a b : List ℕ) where
       cell-both : (f k m x c : ℕ) {ns : List ℕ} (y : Bool) → Twins a b k m x → sheetNodeOf a x ≡ call f ns
           → Fits same same′ a b (w .here) (w .there) c (ownerOf Sheet a x)
           → Both (sides same same′ a b) w
-          (whereCell y (hereOf w) (λ s. visit (bodyOf Translation t f) (suc (length (s .store))) (withCell (labelOf same a f k) c s)))
-          (whereCell y (thereOf w) (λ s. visit′ (bodyOf Translation u f) (suc (length (s .store))) (withCell (labelOf same′ b f m) c s)))
-      unfolding whereCell withCell
+          (whereCell y (hereOf same same′ a b w) (λ s. visit (bodyOf Translation t f) (suc (length (s .store))) (withCell (labelOf same a f k) c f s)))
+          (whereCell y (thereOf same same′ a b w) (λ s. visit′ (bodyOf Translation u f) (suc (length (s .store))) (withCell (labelOf same′ b f m) c f s)))
+      unfolding whereCell withCell newCell
       cell-both f k m x c false l e fits = both-here (sides same same′ a b) w ends
       cell-both f k m x c true l e fits =
-          let g : Cell = record { label = labelOf same a f k; previous = c } in
-          let h : Cell = record { label = labelOf same′ b f m; previous = c } in
-          let v : World = record {
+          let g = newCell (labelOf same a f k) c f in
+          let h = newCell (labelOf same′ b f m) c f in
+          let r : Kept cellHeads (w .here) (w .here ++ (g ∷ [])) = kept-added (w .here) g in
+          let s : Kept cellHeads (w .there) (w .there ++ (h ∷ [])) = kept-added (w .there) h in
+          let v : World same same′ a b = record {
             left = w .left;
             here = w .here ++ (g ∷ []);
             there = w .there ++ (h ∷ []);
-            even = omega (arith, w .even, length-append (w .here) (g ∷ []), length-append (w .there) (h ∷ []));
+            remember = cells-added _ (labelOf same a f k) (labelOf same′ b f m) c c f f nothing (cells-map (entry-kept same same′ a b r s) (w .remember));
           } in
           let z = call-below a first x (l .own) e in
-          let q : getElem? (w .there ++ (h ∷ [])) (length (w .here)) ≡ some h = rw (w .even) (added (w .there) h) in
-          let y : Fits same same′ a b (v .here) (v .there) (suc (length (w .here))) f = within (added (w .here) g) q l e (fits-more same same′ a b g h fits) in
-          both-back (sides same same′ a b) {v = v} (record { fits = λ p. fits-more same same′ a b g h p })
+          let even = cells-even _ (w .remember) in
+          let q : getElem? (w .there ++ (h ∷ [])) (length (w .here)) ≡ some h = rw even (element-added (w .there) h) in
+          let y : Fits same same′ a b (v .here) (v .there) (suc (length (w .here))) f =
+          within (record { cell = g; there = element-added (w .here) g; is = refl }) (record { cell = h; there = q; is = refl }) l e (fits-kept same same′ a b r s fits) in
+          both-back (sides same same′ a b) {v = v} (record { one = r; two = s })
           (beside .both v (bodyOf Translation t f) (bodyOf Translation u f) (suc (length (w .here))) (suc (length (w .there)))
           (record {
             twin = bodyOf Sheet a f;
             like = body-like f z;
-            contexts = ap suc (w .even);
+            contexts = ap suc even;
             fits = rw (owner-of-body Sheet a (sheet-shape a first) f z) y;
           }))
 
       call-both : {l f l′ f′ c d : ℕ} → OfCall same same′ a b w l f l′ f′ c d
-          → Both (sides same same′ a b) w (byCells t cellsAllowed .atCall visit l f c (hereOf w)) (byCells u cellsAllowed .atCall visit′ l′ f′ d (thereOf w))
+          → Both (sides same same′ a b) w (byCells t cellsAllowed .atCall visit l f c (hereOf same same′ a b w))
+          (byCells u cellsAllowed .atCall visit′ l′ f′ d (thereOf same same′ a b w))
       unfolding byCells callByCells
       call-both {f} {c} h =
-          rw (h .is-one, h .is-two, h .function, ← h .contexts, ← w .even)
+          rw (h .is-one, h .is-two, h .function, ← h .contexts, ← cells-even _ (w .remember))
           (cell-both f (h .one) (h .two) (h .twin) c (ltb (length (w .here)) cellsAllowed) (h .like) (h .is) (h .fits))
 
     in-step : InStep (sides same same′ a b) (byCells t cellsAllowed) t rs (byCells u cellsAllowed) u rs
@@ -166,35 +231,35 @@ module _ (same same′ : Labelling) (a b : List ℕ) where
           tags = tags-alike;
           fields = fields-alike;
           step = λ w go go′ f.
-              step-both (w .left) (w .here) (w .there) (w .even) go go′
-              (λ n. f (record { left = n; here = w .here; there = w .there; even = w .even }) (record { fits = λ p. p }));
+              step-both (w .left) (w .here) (w .there) (w .remember) go go′
+              (λ n. f (record { left = n; here = w .here; there = w .there; remember = w .remember }) (record { one = kept-all (w .here); two = kept-all (w .there) }));
           unopened = λ n e.
               rw (← e) (record {
-                both = λ w k m c d h. step-both (w .left) (w .here) (w .there) (w .even) _ _ (λ n. both-here (sides same same′ a b) w ends);
+                both = λ w k m c d h. step-both (w .left) (w .here) (w .there) (w .remember) _ _ (λ n. both-here (sides same same′ a b) w ends);
               });
           opened = λ n m e. record { rest = n; is = sym e; nested = refl };
           formals-both = λ n m e f w v l h. both-back (sides same same′ a b) l (formal-both _ _ f v h);
           calls-both = λ n m e f w v l h. both-back (sides same same′ a b) l (call-both _ _ f v h);
         }
 
-    ends-same : {v : World} {e d : Ending ℕ} → AlikeEnds (sides same same′ a b) v e d → endingOutcome t e ≡ endingOutcome u d
+    ends-same : {v : World same same′ a b} {e d : Ending ℕ} → AlikeEnds (sides same same′ a b) v e d → endingOutcome t e ≡ endingOutcome u d
     unfolding endingOutcome
     ends-same integers = refl
     ends-same (constructors h) = rw (tags-alike h) refl
     ends-same ends = refl
 
-    same-from : {w : World} {r q : Reached ℕ (List Cell)} → Both (sides same same′ a b) w r q → SameEnds t u r q
+    same-from : {w : World same same′ a b} {r q : Reached ℕ (List Cell)} → Both (sides same same′ a b) w r q → SameEnds t u r q
     same-from (cut z) = absurd z
-    same-from (arrive v l e) = record { outcome = ends-same e; left = refl; cells = v .even }
+    same-from (arrive v l e) = record { outcome = ends-same e; left = refl; cells = cells-even _ (v .remember) }
 
     -- visits from any states and contexts that go together
-    pub visits-alike : (nesting : ℕ) (w : World) {k m c d : ℕ} → AtNodes same same′ a b w k m c d
-        → SameEnds t u (visited (byCells t cellsAllowed) t rs nesting k c (hereOf w)) (visited (byCells u cellsAllowed) u rs nesting m d (thereOf w))
+    pub visits-alike : (nesting : ℕ) (w : World same same′ a b) {k m c d : ℕ} → AtNodes same same′ a b (w .here) (w .there) k m c d
+        → SameEnds t u (visited (byCells t cellsAllowed) t rs nesting k c (hereOf same same′ a b w)) (visited (byCells u cellsAllowed) u rs nesting m d (thereOf same same′ a b w))
     visits-alike nesting w h = same-from (evaluations-in-step (sides same same′ a b) in-step nesting nesting refl .both w _ _ _ _ h)
 
     -- and the whole evaluations
     pub runs-alike : (steps nesting : ℕ) → SameRuns t u rs steps nesting cellsAllowed
     unfolding ruleEnd evaluation
     runs-alike steps nesting =
-        visits-alike nesting (record { left = steps; here = []; there = []; even = refl })
+        visits-alike nesting (record { left = steps; here = []; there = []; remember = no-cell })
         (record { twin = bodyOf Sheet a 0; like = body-like 0 (functions-least Sheet a (sheet-shape a first)); contexts = refl; fits = outermost })

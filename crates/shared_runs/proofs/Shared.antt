@@ -28,8 +28,8 @@ use Rattle.accepted.proofs.Owners.{body-below}
 use Rattle.accepted.proofs.Names.{call-below, call-count}
 use Rattle.readback.proofs.Labels.{calls-node, call-passes}
 use Rattle.readback.proofs.FirstCalls.{FirstOf, itself, earlier, first-limit, first-of, first-calls, listed-argument}
-use Rattle.readback.proofs.Nodes.{body-read, node-becomes, tag-read, tuple-fields-read, actual-read}
-use Rattle.readback.proofs.Records.{translation-readings}
+use Rattle.readback.proofs.Nodes.{parameter-count-read, body-read, node-becomes, tag-read, tuple-fields-read, actual-read}
+use Rattle.readback.proofs.Records.{translation-readings, translation-functions}
 use Rattle.readback.proofs.Accepted.{translation-accepted}
 use Rattle.trees.proofs.Equal.{equal-swap, equal-then}
 use Rattle.shared_runs.specs.Reads.{EqualTrees, AlikeSheets, Named, Reads, SharesEqual}
@@ -77,7 +77,9 @@ module _ (same : Labelling) (b : List ℕ) (accepted : sheetVerdict b ≡ Accept
   translation-reads =
       record {
         becomes = node-becomes same b accepted;
+        count = translation-functions same b accepted;
         body = body-read same b accepted;
+        takes = parameter-count-read same b accepted;
         names = label-names;
         tag = λ k h e. tag-read same b accepted k h e;
         fields = λ k h e. tuple-fields-read same b accepted k h e;

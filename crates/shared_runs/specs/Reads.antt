@@ -5,7 +5,7 @@ use mathlib.Core.List.{List}
 use mathlib.Core.Option.{some}
 use mathlib.Core.Bool.{true}
 use lib.ListN.{getElem?}
-use Rattle.definitions.specs.Layouts.{functions, nodes, bodyOf}
+use Rattle.definitions.specs.Layouts.{functions, nodes, parameterCount, bodyOf}
 use Rattle.definitions.specs.References.{parameters}
 use Rattle.definitions.specs.SheetNodes.{call, build, sheetNodeOf}
 use Rattle.definitions.specs.TranslationNodes.{translationNodeOf, actual, tagOf, tupleFields}
@@ -45,7 +45,9 @@ pub record Named (b t : List ℕ) (f k i l : ℕ) : Type 0 where
 -- file t reads as the translation of sheet b by a labelling: a label names arguments of a call with an equal tree
 pub record Reads (same : Labelling) (b t : List ℕ) : Type 0 where
   pub becomes : (k : ℕ) → k < nodes b → translationNodeOf t k ≡ translatedNode same b k (sheetNodeOf b k)
+  pub count : functions t ≡ functions b
   pub body : (f : ℕ) → f < functions b → bodyOf Translation t f ≡ bodyOf Sheet b f
+  pub takes : (f : ℕ) → f < functions b → parameterCount t f ≡ parameters b f
   pub names : (f k i : ℕ) {ns : List ℕ} → k < nodes b → sheetNodeOf b k ≡ call f ns → i < parameters b f → Named b t f k i (labelOf same b f k)
   pub tag : (k : ℕ) {c : ℕ} {ns : List ℕ} → k < nodes b → sheetNodeOf b k ≡ build c ns → tagOf t k ≡ c
   pub fields : (k : ℕ) {c : ℕ} {ns : List ℕ} → k < nodes b → sheetNodeOf b k ≡ build c ns → tupleFields t k ≡ ns

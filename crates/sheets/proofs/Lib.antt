@@ -4,3 +4,4 @@ pub mod Starred
 pub mod Orders
 pub mod EqualCalls
 pub mod ClosedReadings
+pub mod Remembering

@@ -19,10 +19,13 @@ use Rattle.definitions.specs.Labels
 use Rattle.definitions.specs.Translate
 use Rattle.definitions.specs.TranslationNodes
 use Rattle.definitions.specs.Rule
+use Rattle.definitions.specs.FormalPlaces
 use Rattle.definitions.specs.Cells
+use Rattle.definitions.specs.CellBytes
 use Rattle.definitions.specs.Run
 use Rattle.evaluator.specs.Evaluator
 use Rattle.sheets.specs.Sheets
+use Rattle.sheets.specs.MadeCells
 use Rattle.sheets.specs.Starred
 use Rattle.sheets.specs.Products
 
@@ -34,7 +37,7 @@ unfolding
     Layouts.sectionKind Layouts.isDue Layouts.runEnd Layouts.bodyOf Layouts.ownerOf
     Kinds.row Kinds.rows Kinds.rowIn Kinds.rowOf Kinds.allows
     Verdicts._andThen_ Verdicts.require Verdicts.firstOf
-    Ranges.within Shape.headCounts Shape.runCounts Shape.counts Shape.operatorCode Shape.shapeAt Shape.shape
+    Ranges.within Shape.headCounts Shape.runCounts Shape.parameterCounts Shape.counts Shape.operatorCode Shape.shapeAt Shape.shape
     Shape.fileShape
     References.fromFirst References.fromSecond References.everyOther References.childCount References.childField
     References.children References.child References.clauses References.clauseConstructor References.namesInRange
@@ -57,15 +60,19 @@ unfolding
     TranslationNodes.tupleFields
     Rule.reach Rule.withStep Rule.numberDue Rule.constructorDue Rule.nodeDue Rule.resultOf Rule.selected
     Rule.evaluated Rule.visited
-    Cells.cellOf Cells.underTail Cells.formalByCells Cells.withCell Cells.whereCell Cells.callByCells Cells.byCells
-    Cells.evaluation Cells.cellWords Cells.cellBytes
+    FormalPlaces.functionBy FormalPlaces.positionBy
+    Cells.newCell Cells.cellOf Cells.entryAt Cells.withEntry Cells.changed Cells.withValue Cells.keeping
+    Cells.remembered Cells.recalled Cells.whereOwn Cells.underCell Cells.formalByCells Cells.withCell Rule.whereCell
+    Cells.callByCells Cells.byCells Cells.evaluation
+    CellBytes.entryWords CellBytes.lastWord CellBytes.entriesWords CellBytes.cellWords CellBytes.cellBytes
     Run.endingOutcome Run.endingNode Run.endingContext Run.reachedAnswer Run.ruleEnd Run.ruleAnswer Run.ruleCells
     Run.refusal Run.runVerdict Run.answerAfter Run.runAnswer Run.cellsOver Run.bytesAfter Run.runCells
     Evaluator.numberDue Evaluator.constructorDue Evaluator.clauseDue Evaluator.closureDue Evaluator.endBy
     Evaluator.endWithin Evaluator.ownWithin
     Sheets.S Sheets.unusedDivision Sheets.divisionByZero Sheets.headOfOnes Sheets.negativeDivision Sheets.reducedSum
     Sheets.loop Sheets.nestedCalls Sheets.boxes Sheets.callerArgument Sheets.builtField Sheets.onReadings Sheets.constructorFactor Sheets.bytesOfS
-    Sheets.translationOfS
+    Sheets.translationOfS Sheets.cellsOfS
+    MadeCells.nothing MadeCells.numbered MadeCells.built MadeCells.cell
     Starred.answering Starred.trialWith Starred.trial Starred.starred Starred.further
     Products.onNumbers Products.products
 opened = tt

@@ -22,6 +22,7 @@ starred-hold =
       byteCount = refl;
       translated = refl;
       translatedCount = refl;
+      cellCount = refl;
       formal = refl;
     }
 

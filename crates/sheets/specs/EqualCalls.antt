@@ -117,8 +117,8 @@ unfoldable pub templateWith : List ℕ → ℕ → ℕ → ℕ → List ℕ
 templateWith actuals second third again =
     bytesOf
     (recordWords translated.head (0 ∷ 1 ∷ 5 ∷ 20 ∷ [])
-    ++ recordWords translated.function (3 ∷ []) ++ recordWords translated.function (3 ∷ []) ++ recordWords translated.function (3 ∷ [])
-    ++ recordWords translated.function (7 ∷ []) ++ recordWords translated.function (4 ∷ [])
+    ++ recordWords translated.function (3 ∷ 0 ∷ []) ++ recordWords translated.function (3 ∷ 1 ∷ []) ++ recordWords translated.function (3 ∷ 0 ∷ [])
+    ++ recordWords translated.function (7 ∷ 0 ∷ []) ++ recordWords translated.function (4 ∷ 0 ∷ [])
     ++ recordWords translated.formalList actuals
     ++ recordWords translated.call (0 ∷ 3 ∷ []) ++ recordWords translated.call (0 ∷ 4 ∷ []) ++ recordWords translated.operator (0 ∷ 0 ∷ 1 ∷ [])
     ++ recordWords translated.formal (0 ∷ []) ++ recordWords translated.formal (0 ∷ []) ++ recordWords translated.operator (0 ∷ 3 ∷ 4 ∷ [])

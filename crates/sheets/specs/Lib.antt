@@ -1,7 +1,9 @@
 pub mod Sheets
+pub mod MadeCells
 pub mod Trial
 pub mod Starred
 pub mod Products
 pub mod Orders
 pub mod EqualCalls
 pub mod ClosedReadings
+pub mod Remembering

@@ -1,4 +1,4 @@
--- The starred sheets of document 01, "Sheets to try", as bytes, and six more; then S and its translation byte by byte. Above
+-- The starred sheets of document 01, "Sheets to try", as bytes, and six more; then S, its translation and its cells byte by byte. Above
 -- each sheet stand its functions, whose nodes follow in that order. A number's two fields are its lower and its upper 16 bits.
 use Prim.Native.Nat.{ℕ}
 use mathlib.Core.List.{List, [], _∷_, _++_}
@@ -226,12 +226,12 @@ bytesOfS =
     ∷ 10 ∷ 0 ∷ 20 ∷ 0 ∷ 0 ∷ 0 ∷ 5 ∷ 0 ∷ 6 ∷ 0
     ∷ []
 
--- the 96 bytes of S's translation, a record to a line: head, two functions, the formal, the nodes
+-- the 100 bytes of S's translation, a record to a line: head, two functions, the formal, the nodes
 unfoldable pub translationOfS : List ℕ
 translationOfS =
     12 ∷ 0 ∷ 33 ∷ 0 ∷ 0 ∷ 0 ∷ 1 ∷ 0 ∷ 2 ∷ 0 ∷ 8 ∷ 0
-    ∷ 6 ∷ 0 ∷ 34 ∷ 0 ∷ 5 ∷ 0
-    ∷ 6 ∷ 0 ∷ 34 ∷ 0 ∷ 3 ∷ 0
+    ∷ 8 ∷ 0 ∷ 34 ∷ 0 ∷ 5 ∷ 0 ∷ 0 ∷ 0
+    ∷ 8 ∷ 0 ∷ 34 ∷ 0 ∷ 3 ∷ 0 ∷ 1 ∷ 0
     ∷ 8 ∷ 0 ∷ 35 ∷ 0 ∷ 0 ∷ 0 ∷ 2 ∷ 0
     ∷ 8 ∷ 0 ∷ 48 ∷ 0 ∷ 7 ∷ 0 ∷ 0 ∷ 0
     ∷ 8 ∷ 0 ∷ 54 ∷ 0 ∷ 0 ∷ 0 ∷ 1 ∷ 0
@@ -241,4 +241,28 @@ translationOfS =
     ∷ 6 ∷ 0 ∷ 50 ∷ 0 ∷ 0 ∷ 0
     ∷ 6 ∷ 0 ∷ 50 ∷ 0 ∷ 0 ∷ 0
     ∷ 10 ∷ 0 ∷ 52 ∷ 0 ∷ 0 ∷ 0 ∷ 5 ∷ 0 ∷ 6 ∷ 0
+    ∷ []
+
+-- the 136 bytes of the two cells of S's run, for each a line of label and previous and one of each entry: the first remembers 7, or 2,
+-- and the last ends with the callee
+unfoldable pub cellsOfS : List ℕ
+cellsOfS =
+    0 ∷ 0 ∷ 0 ∷ 0
+    ∷ 1 ∷ 0 ∷ 7 ∷ 0 ∷ 0 ∷ 0 ∷ 0 ∷ 0
+    ∷ 0 ∷ 0 ∷ 0 ∷ 0 ∷ 0 ∷ 0 ∷ 0 ∷ 0
+    ∷ 0 ∷ 0 ∷ 0 ∷ 0 ∷ 0 ∷ 0 ∷ 0 ∷ 0
+    ∷ 0 ∷ 0 ∷ 0 ∷ 0 ∷ 0 ∷ 0 ∷ 0 ∷ 0
+    ∷ 0 ∷ 0 ∷ 0 ∷ 0 ∷ 0 ∷ 0 ∷ 0 ∷ 0
+    ∷ 0 ∷ 0 ∷ 0 ∷ 0 ∷ 0 ∷ 0 ∷ 0 ∷ 0
+    ∷ 0 ∷ 0 ∷ 0 ∷ 0 ∷ 0 ∷ 0 ∷ 0 ∷ 0
+    ∷ 0 ∷ 0 ∷ 0 ∷ 0 ∷ 0 ∷ 0 ∷ 1 ∷ 0
+    ∷ 1 ∷ 0 ∷ 0 ∷ 0
+    ∷ 1 ∷ 0 ∷ 2 ∷ 0 ∷ 0 ∷ 0 ∷ 0 ∷ 0
+    ∷ 0 ∷ 0 ∷ 0 ∷ 0 ∷ 0 ∷ 0 ∷ 0 ∷ 0
+    ∷ 0 ∷ 0 ∷ 0 ∷ 0 ∷ 0 ∷ 0 ∷ 0 ∷ 0
+    ∷ 0 ∷ 0 ∷ 0 ∷ 0 ∷ 0 ∷ 0 ∷ 0 ∷ 0
+    ∷ 0 ∷ 0 ∷ 0 ∷ 0 ∷ 0 ∷ 0 ∷ 0 ∷ 0
+    ∷ 0 ∷ 0 ∷ 0 ∷ 0 ∷ 0 ∷ 0 ∷ 0 ∷ 0
+    ∷ 0 ∷ 0 ∷ 0 ∷ 0 ∷ 0 ∷ 0 ∷ 0 ∷ 0
+    ∷ 0 ∷ 0 ∷ 0 ∷ 0 ∷ 0 ∷ 0 ∷ 1 ∷ 0
     ∷ []

@@ -68,7 +68,7 @@ module _ (rec : List ℕ) {kind : ℕ} (e : kind ≡ kindOf rec) where
 -- the parts of an accepted sheet's translation
 module _ (b : List ℕ) (accepted : sheetVerdict b ≡ Accepted) where
   abbrev words : ℕ
-  words = 6 + functions b * 3 + sumOf (functions b) (formalLength b) + sumOf (nodes b) (nodeLength b)
+  words = 6 + functions b * 4 + sumOf (functions b) (formalLength b) + sumOf (nodes b) (nodeLength b)
 
   -- all together
   pub bytes-counted : 2 * words ≡ length (translation b)

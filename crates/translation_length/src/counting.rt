@@ -22,7 +22,7 @@ use widths::wide;
 // The words of the head's record, and of a function's.
 const HEAD_WORDS: usize = 6;
 
-const FUNCTION_WORDS: usize = 3;
+const FUNCTION_WORDS: usize = 4;
 
 // The bytes of the translation.
 pub fn count_bytes(b: &[u8], starts: &Starts, counts: &OfFunctions) -> usize

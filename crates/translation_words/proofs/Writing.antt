@@ -13,7 +13,7 @@ use Rattle.definitions.specs.Records.{kindOf, field, fieldCount}
 use Rattle.definitions.specs.Lists.{joined, listed}
 use Rattle.definitions.specs.Translate.{recordWords}
 use Rattle.laws.proofs.Lists.{listed-length}
-use Rattle.readback.proofs.Words.{bytes-length, bytes-append}
+use Rattle.laws.proofs.Words.{bytes-length, bytes-append}
 use Rattle.translation_words.specs.Writing.{WroteWords, fieldWords}
 
 pub wrote-nothing : (out : List ℕ) (at : ℕ) → WroteWords out at [] at out

@@ -75,9 +75,9 @@ unfoldable pub written : List ℕ
 written =
     Bytes.bytesOf
     (Translate.recordWords TranslationKinds.head (0 ∷ 3 ∷ 3 ∷ 8 ∷ [])
-    ++ Translate.recordWords TranslationKinds.function (4 ∷ [])
-    ++ Translate.recordWords TranslationKinds.function (3 ∷ [])
-    ++ Translate.recordWords TranslationKinds.function (1 ∷ [])
+    ++ Translate.recordWords TranslationKinds.function (4 ∷ 0 ∷ [])
+    ++ Translate.recordWords TranslationKinds.function (3 ∷ 2 ∷ [])
+    ++ Translate.recordWords TranslationKinds.function (1 ∷ 1 ∷ [])
     -- x, y, z: by function, then position
     ++ Translate.recordWords TranslationKinds.formalList (1 ∷ [])
     ++ Translate.recordWords TranslationKinds.formalList (2 ∷ [])
@@ -94,13 +94,13 @@ written =
     ++ Translate.recordWords TranslationKinds.formal (2 ∷ []))
 
 -- an output with two bytes more than the translation: the length, the translation, and the two bytes as they were
-pub long-output : (r : Written) (out′ : List ℕ) → Promise.Translates sheet (replicate 114 170) r out′
-    → (r ≡ answers.Length 112) × (out′ ≡ written ++ (170 ∷ 170 ∷ []))
+pub long-output : (r : Written) (out′ : List ℕ) → Promise.Translates sheet (replicate 120 170) r out′
+    → (r ≡ answers.Length 118) × (out′ ≡ written ++ (170 ∷ 170 ∷ []))
 unfolding opened sheet written
 long-output r out′ t = (t .answer, t .output)
 
 -- an output with one byte less: 8, place 0, and the output as it was
-pub short-output : (r : Written) (out′ : List ℕ) → Promise.Translates sheet (replicate 111 170) r out′
-    → (r ≡ answers.Refused 8 0) × (out′ ≡ replicate 111 170)
+pub short-output : (r : Written) (out′ : List ℕ) → Promise.Translates sheet (replicate 117 170) r out′
+    → (r ≡ answers.Refused 8 0) × (out′ ≡ replicate 117 170)
 unfolding opened sheet written
 short-output r out′ t = (t .answer, t .output)

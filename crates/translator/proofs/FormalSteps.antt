@@ -64,12 +64,14 @@ module _ {b starts firsts order : List ℕ} {f i x y : ℕ} (w : FormalAt b star
   actuals-length = count-is ∙ sym (picked-length (isFirst (equalTrees b) b f) (λ k. field (nodeRecord b k) (1 + i)) (nodes b))
 
 -- a function's record
-pub function-words : {b starts : List ℕ} {first f x : ℕ} {rec : List ℕ} → Opened Sheet b starts → f < functions b → first ≡ firstFunction Sheet b
-    → rec ≡ recordAt b (startIn starts (first + f)) → x ≡ field rec 1 → recordWords TranslationKinds.function (x ∷ []) ≡ functionWords b f
+pub function-words : {b starts : List ℕ} {first f x y : ℕ} {rec : List ℕ} → Opened Sheet b starts → f < functions b → first ≡ firstFunction Sheet b
+    → rec ≡ recordAt b (startIn starts (first + f)) → x ≡ field rec 1 → y ≡ field rec 0
+    → recordWords TranslationKinds.function (x ∷ y ∷ []) ≡ functionWords b f
 unfolding functionWords
-function-words {b} {starts} {first} {f} {x} {rec} o h e p q =
-    let y : x ≡ field (recordOf b (first + f)) 1 = indexed-field b starts (due b) (first + f) 1 x rec (o .index) (omega (arith, e, h)) p q in
-    rw (y, e) refl
+function-words {b} {starts} {first} {f} {x} {y} {rec} o h e p q r =
+    let c : x ≡ field (recordOf b (first + f)) 1 = indexed-field b starts (due b) (first + f) 1 x rec (o .index) (omega (arith, e, h)) p q in
+    let a : y ≡ field (recordOf b (first + f)) 0 = indexed-field b starts (due b) (first + f) 0 y rec (o .index) (omega (arith, e, h)) p r in
+    rw (c, a, e) refl
 
 -- the number of all formals, by the table
 pub formals-read : (b : List ℕ) {formals′ : List ℕ} {c x : ℕ} → Sums (functions b) (parameters b) formals′ → c ≡ functions b → x ≡ getD formals′ c 0 → x ≡ formals b

@@ -34,8 +34,8 @@ use file_records::records::field;
 use file_records::records::indexed;
 use translation_length::counting::count_bytes;
 use translation_words::put;
-use translation_words::put_one;
 use translation_words::put_start;
+use translation_words::put_two;
 use widths::wide;
 
 // Writes the head.
@@ -61,11 +61,13 @@ fn put_functions(b: &[u8], starts: &Starts, out: &mut [u8], at: usize) -> usize
     let mut next = at;
     let mut f: usize = 0;
     while f < count {
-        next = put_one(
+        let rec = indexed(b, starts, first + f);
+        next = put_two(
             out,
             next,
             FUNCTION,
-            wide(field(indexed(b, starts, first + f), 1)),
+            wide(field(rec, 1)),
+            wide(field(rec, 0)),
         );
         f += 1;
     }

@@ -5,9 +5,11 @@ use crate::text::COMMA;
 use crate::text::after;
 use crate::text::number;
 use crate::text::number_starts;
+use crate::text::place;
 use crate::text::signed_bits;
 use crate::text::until;
 use crate::text::word;
+use definitions::sizes::CELL_BYTES;
 use definitions::sizes::MOST_READINGS;
 use definitions::sizes::MOST_ROWS;
 use file_writer::SPACE_BYTES;
@@ -54,6 +56,11 @@ fn at_turn(word: u16, step: u16, turn: u16) -> u16 {
     ((word as u64 + (step as u64) * (turn as u64) % 65536) % 65536) as u16
 }
 
+// The word whose digits start at a place, at a turn.
+fn word_at_turn(text: &[u8], at: usize, turn: u16) -> u16 {
+    at_turn(word(text, at), word(text, after(text, at, b'+')), turn)
+}
+
 // Writes a word that fits, and answers the place after it.
 fn put_word(file: &mut Space, at: usize, word: u16) -> usize {
     let next = put(file, at, word);
@@ -70,12 +77,29 @@ fn put_turn(text: &[u8], from: usize, turn: u16, file: &mut Space, at: usize) ->
     let mut i = from;
     while i < end {
         if number_starts(text, i) {
-            let grown = at_turn(word(text, i), word(text, after(text, i, b'+')), turn);
-            next = put_word(file, next, grown);
+            next = put_word(file, next, word_at_turn(text, i, turn));
         }
         i += 1;
     }
     next
+}
+
+// How many words a cell has.
+const CELL_WORDS: u32 = CELL_BYTES as u32 / 2;
+
+// Writes one turn of a cell, and answers the place after it: the entry's first number is the cell's last word, and the numbers after
+// it, 0 where there are none, are the words before. More numbers do not fit.
+fn put_cell(text: &[u8], from: usize, turn: u16, file: &mut Space, at: usize) -> usize {
+    let mut next = at;
+    let mut k: u32 = 1;
+    while k < CELL_WORDS {
+        next = put_word(file, next, word_at_turn(text, place(text, from, k), turn));
+        k += 1;
+    }
+    if place(text, from, CELL_WORDS) < text.len() {
+        show_misfit();
+    }
+    put_word(file, next, word(text, place(text, from, 0)))
 }
 
 // How many turns an entry has: the number after `x`, or one.
@@ -88,13 +112,23 @@ fn turns(text: &[u8], from: usize) -> u16 {
     1
 }
 
-// Writes an entry's words, all turns of them, and answers the place after them.
-pub(crate) fn put_entry(text: &[u8], from: usize, file: &mut Space, at: usize) -> usize {
+// Writes an entry's words, or its cells, all turns of them, and answers the place after them.
+pub(crate) fn put_entry(
+    text: &[u8],
+    from: usize,
+    cells: bool,
+    file: &mut Space,
+    at: usize,
+) -> usize {
     let count = turns(text, from);
     let mut next = at;
     let mut turn: u16 = 0;
     while turn < count {
-        next = put_turn(text, from, turn, file, next);
+        if cells {
+            next = put_cell(text, from, turn, file, next);
+        } else {
+            next = put_turn(text, from, turn, file, next);
+        }
         turn += 1;
     }
     next

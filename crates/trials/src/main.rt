@@ -4,12 +4,11 @@
 // The file `stdin` beside src/ has the trials: files for the two readers; sheets and the translations that they should have, and
 // their runs; translations that no translator writes, and their runs, also on rows and for a hirer; cells and their listings. The
 // file `stdout` has what each should answer by document 01, and by document 02 for rows (request 1), products (2), the length that is
-// asked (3), labels (4) and hirers (5). Files, translations and cells are worked out by hand from these and document 002, and so are
-// the readers' answers, the runs on rows and the hirers' runs; the steps and answers of the other runs, and of the trials for labels
-// the translations and cells too, were worked out by a model written from the documents alone. A record is its length, its kind and
-// its fields; in a change, word 0 of a record is its length, word 1 its kind, and the fields follow. A comment in quotation marks is
-// the sentence that decides the trials below it; above a sheet's records comments say what the sheet is, where the number before a
-// node's record is the node's.
+// asked (3), labels (4), hirers (5) and what cells remember (7). Files and translations are worked out by hand from these and document
+// 002, and so are the readers' answers; the runs with their steps and cells, and of the trials for labels the translations too, were
+// worked out by a model written from the documents alone. A record is its length, its kind and its fields; in a change, word 0 of a
+// record is its length, word 1 its kind, and the fields follow. A comment in quotation marks is the sentence that decides the trials
+// below it; above a sheet's records comments say what the sheet is, where the number before a node's record is the node's.
 // A line of `stdin` does what its first byte says, and goes on over the lines after it that begin with a blank:
 //   =  a new trial, or trials of one file, and its name; no word is written yet
 //   -  a heading
@@ -17,7 +16,9 @@
 //   t  words of the translation's file
 //   S  the sheet's file is read: how many bytes of it, and the words that are changed for this trial, as `r.j=w`
 //   T  the same with the translation's file
-//   c  words of the cells that runs should make, or that are listed: for each cell its label and the cell before
+//   c  a cell that runs should make, or that is listed: its callee, its label, the cell before, and the words of its entries, as
+//      far as they are written; the others are 0
+//   k  the same, as the first cell: those before are no more
 //   r  the sheet is translated: how many bytes of it, and into how many bytes of output; the translation's file is expected, and
 //      asking for the length is to answer the same
 //   m  the length of the translation is asked: how many bytes of the sheet, and the stated length; with a minus before it, as many
@@ -33,10 +34,10 @@
 // of the output past the translation, are to be as they were before; where the run is refused, all bytes of both are. Of rows each
 // shows its record. `c` then has the cells as the last row leaves them: as many as any row made are to be those, and all bytes past
 // them, and those past the last record, are to be as they were before; where the rows are refused, all bytes of both are.
-// Words and readings after `xN` are written N times, and one with `+k` after it grows by k from turn to turn. A reading has a minus
-// before it where it is negative. What follows a comma says what a trial is. Any other line is a comment. `stdin` has less than
-// 65,536 bytes. What does not fit its space, a number too large or a file too long, is shown as `DOES NOT FIT`, which `stdout`
-// never has.
+// Words, cells and readings after `xN` are written N times, and one with `+k` after it grows by k from turn to turn. A reading has a
+// minus before it where it is negative. What follows a comma says what a trial is. Any other line is a comment. `stdin` has less than
+// 65,536 bytes. What does not fit its space, a number too large or a file too long, is shown as `DOES NOT FIT`, which `stdout` never
+// has.
 // The interpreter with which `rt try` begins ends at its limit of steps, and the compiled runs go through.
 mod files;
 mod hirer_trial;
@@ -95,21 +96,22 @@ fn written(
         };
     }
     if letter == b's' {
-        let size = put_entry(text, from, sheet, sizes.sheet);
+        let size = put_entry(text, from, false, sheet, sizes.sheet);
         return Sizes {
             sheet: size,
             ..sizes
         };
     }
     if letter == b't' {
-        let size = put_entry(text, from, translation, sizes.translation);
+        let size = put_entry(text, from, false, translation, sizes.translation);
         return Sizes {
             translation: size,
             ..sizes
         };
     }
-    if letter == b'c' {
-        let size = put_entry(text, from, cells, sizes.cells);
+    if letter == b'c' || letter == b'k' {
+        let first = if letter == b'c' { sizes.cells } else { 0 };
+        let size = put_entry(text, from, true, cells, first);
         return Sizes {
             cells: size,
             ..sizes

@@ -18,9 +18,10 @@ pub fn translated_length(sheet: &[u8], room: u64) -> Result<usize, Refusal> {
     raw::result(raw::translated_length(sheet, room))
 }
 
-/// Runs a translation on readings, in lent cells of 4 bytes each. `cells`
-/// starts with the cells made and stays as it was past them; a refusal leaves
-/// all of it as it was.
+/// Runs a translation on readings, in lent cells of `sizes::CELL_BYTES` each,
+/// which remember the values of parameters. `cells` starts with the cells made
+/// and stays as it was past them; what it held before does not count, and a
+/// refusal leaves all of it as it was.
 pub fn run(
     translation: &[u8],
     readings: &[i32],

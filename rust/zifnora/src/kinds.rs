@@ -28,8 +28,9 @@ pub mod sheet {
     ];
 }
 
-/// Records of a translation. A formal is two records: `FORMAL_LIST` lists its
-/// actuals, `FORMAL` is a node that stands for it.
+/// Records of a translation. A function has its node count, then its parameter
+/// count. A formal is two records: `FORMAL_LIST` lists its actuals, `FORMAL` is
+/// a node that stands for it.
 pub mod translation {
     pub const HEAD: u16 = 33;
     pub const FUNCTION: u16 = 34;

@@ -8,7 +8,7 @@ pub const OVERSIZE: u16 = 2;
 /// Refusal: "bad record". Kind not due, length wrong, operator code above 5,
 /// or bytes after the last record.
 pub const BAD_RECORD: u16 = 3;
-/// Refusal: "bad count". A count outside its range, or a wrong sum of node
+/// Refusal: "bad count". A count outside its range, or a wrong sum of
 /// counts.
 pub const BAD_COUNT: u16 = 4;
 /// Refusal: "dangling". A reference or a parameter position out of range; in

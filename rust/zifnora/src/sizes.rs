@@ -1,4 +1,4 @@
-//! Document 01's sizes and ceilings.
+//! The sizes and ceilings of documents 01 and 02.
 
 /// "Sheet, at most 32,768 bytes".
 pub const SHEET_BYTES: usize = 32_768;
@@ -19,13 +19,19 @@ pub const MOST_FIELDS: usize = 8;
 pub const MOST_NESTING: u32 = 1024;
 
 /// Of the cell allowance, which starts at 0.
-pub const MOST_CELLS: u32 = 8192;
+pub const MOST_CELLS: u32 = 960;
 
 /// Of the rows of a batch, which start at 0.
 pub const MOST_ROWS: u32 = 16;
 
-/// Bytes lent for each cell: a label and the number of the previous cell.
-pub const CELL_BYTES: usize = 4;
+/// Bytes lent for each cell: a label, the number of the previous cell, and an
+/// entry for each position of a parameter.
+pub const CELL_BYTES: usize = 68;
+
+/// Bytes of an entry of a cell: kind (0 empty, 1 number, 2 constructor), then
+/// the number in 4 bytes, or node and context, and two zero bytes; in place of
+/// these the eighth entry has the function whose call made the cell.
+pub const ENTRY_BYTES: usize = 8;
 
 /// Bytes of a label in a context listing.
 pub const LABEL_BYTES: usize = 2;

@@ -2,7 +2,7 @@
 //! they leave in the lent buffers.
 
 use zifnora::build_sheet::*;
-use zifnora::sizes::{ANSWER_BYTES, CELL_BYTES, MOST_ROWS, TRANSLATION_BYTES};
+use zifnora::sizes::{ANSWER_BYTES, CELL_BYTES, ENTRY_BYTES, MOST_ROWS, TRANSLATION_BYTES};
 use zifnora::translated_length;
 use zifnora::{kinds, numbers, raw};
 use zifnora::{list_context, list_context_into, run, run_rows, translate, translate_and_run};
@@ -74,7 +74,7 @@ fn translated(sheet: &[u8]) -> Vec<u8> {
 fn a_number() {
     let expected = Ended {
         answer: Answer::Number(823),
-        steps: 15,
+        steps: 14,
         cells: 1,
     };
     assert_eq!(ended(&sheet_pressure(), &[845, 31], AMPLE), expected);
@@ -108,8 +108,8 @@ fn equal_calls_share_a_label() {
         let sheet = sheet(0, &[], vec![(0, result), (1, parameter(0))]);
         translated_length(&sheet, u64::MAX).expect("accepted")
     };
-    assert_eq!(length(7), 78);
-    assert_eq!(length(8), 80);
+    assert_eq!(length(7), 82);
+    assert_eq!(length(8), 84);
 }
 
 #[test]
@@ -123,10 +123,55 @@ fn each_stop() {
         let ended = ended(&sheet_s(), &[], allowances);
         (ended.answer, ended.steps, ended.cells)
     };
-    assert_eq!(stopped(13, 5, 2), (Answer::Number(10), 13, 2));
-    assert_eq!(stopped(12, 5, 2), (Answer::Stopped(Stop::NoStep), 12, 2));
-    assert_eq!(stopped(13, 4, 2), (Answer::Stopped(Stop::NoNesting), 4, 1));
-    assert_eq!(stopped(13, 5, 1), (Answer::Stopped(Stop::NoCell), 8, 1));
+    assert_eq!(stopped(11, 5, 2), (Answer::Number(10), 11, 2));
+    assert_eq!(stopped(10, 5, 2), (Answer::Stopped(Stop::NoStep), 10, 2));
+    assert_eq!(stopped(11, 4, 2), (Answer::Stopped(Stop::NoNesting), 4, 1));
+    assert_eq!(stopped(11, 5, 1), (Answer::Stopped(Stop::NoCell), 7, 1));
+}
+
+/// The bytes of a cell that remembers a number at some positions.
+fn cell([label, previous, callee]: [u16; 3], entries: &[(usize, i32)]) -> Vec<u8> {
+    let mut bytes = vec![0; CELL_BYTES];
+    bytes[..2].copy_from_slice(&label.to_le_bytes());
+    bytes[2..4].copy_from_slice(&previous.to_le_bytes());
+    for (position, number) in entries {
+        let entry = &mut bytes[4 + ENTRY_BYTES * position..];
+        entry[0] = 1;
+        entry[2..6].copy_from_slice(&number.to_le_bytes());
+    }
+    bytes[CELL_BYTES - 2..].copy_from_slice(&callee.to_le_bytes());
+    bytes
+}
+
+#[test]
+fn cells_remember() {
+    let file = translated(&sheet_s());
+    let mut cells = cells_lent();
+    run(&file, &[], AMPLE, &mut cells);
+    let expected = [cell([0, 0, 1], &[(0, 7)]), cell([1, 0, 1], &[(0, 2)])].concat();
+    assert_eq!(cells[..2 * CELL_BYTES], expected);
+    assert!(cells[2 * CELL_BYTES..]
+        .iter()
+        .all(|&byte| byte == UNTOUCHED));
+}
+
+#[test]
+fn a_parameter_used_five_times() {
+    // result = five(1 + .. + 1), five(.., h) = h + h + h + h + h: 10 steps, and 39 of the sum once
+    let long = (1..20).fold(number(1), |sum, _| operator(ADD, sum, number(1)));
+    let h = || parameter(7);
+    let five = (1..5).fold(h(), |sum, _| operator(ADD, sum, h()));
+    let arguments = (0..7).map(number).chain([long]).collect();
+    let file = translated(&sheet(0, &[], vec![(0, call(1, arguments)), (8, five)]));
+    let mut cells = cells_lent();
+    let ended = run(&file, &[], AMPLE, &mut cells);
+    let expected = Ended {
+        answer: Answer::Number(100),
+        steps: 49,
+        cells: 1,
+    };
+    assert_eq!(ended, expected);
+    assert_eq!(cells[..CELL_BYTES], cell([0, 0, 1], &[(7, 20)]));
 }
 
 /// The fault of a sheet with constructors of arity 0 and 1.
@@ -157,7 +202,7 @@ fn translation(formals: u16, nodes: &[(u16, &[u16])]) -> Vec<u8> {
     let count = nodes.len() as u16;
     let mut file = Vec::new();
     put_record(&mut file, HEAD, &[0, formals, 1, count]);
-    put_record(&mut file, FUNCTION, &[count]);
+    put_record(&mut file, FUNCTION, &[count, formals]);
     for _ in 0..formals {
         put_record(&mut file, FORMAL_LIST, &[0]);
     }
@@ -231,7 +276,8 @@ fn rows_in_one_call() {
     assert_eq!(answers, [Answer::Number(-7), Answer::Number(0), fault]);
     // The cell of the first row stays.
     assert_eq!(cells, in_turn);
-    assert_eq!(cells[..5], [0, 0, 0, 0, UNTOUCHED]);
+    assert_eq!(cells[..CELL_BYTES], cell([0, 0, 1], &[(0, -7)]));
+    assert_eq!(cells[CELL_BYTES], UNTOUCHED);
     assert_eq!(run_rows(&file, 0, &[], AMPLE, &mut cells), Ok(vec![]));
 }
 
@@ -261,13 +307,13 @@ fn refused_rows() {
 #[test]
 fn a_translation_and_a_short_output() {
     let sheet = sheet_s();
-    let mut out = [UNTOUCHED; 100];
-    assert_eq!(translate(&sheet, &mut out), Ok(96));
-    assert!(out[96..].iter().all(|&byte| byte == UNTOUCHED));
-    let mut short = [UNTOUCHED; 95];
+    let mut out = [UNTOUCHED; 104];
+    assert_eq!(translate(&sheet, &mut out), Ok(100));
+    assert!(out[100..].iter().all(|&byte| byte == UNTOUCHED));
+    let mut short = [UNTOUCHED; 99];
     let refusal = Refusal::new(numbers::SHORT_OUTPUT, 0);
     assert_eq!(translate(&sheet, &mut short), Err(refusal));
-    assert_eq!(short, [UNTOUCHED; 95]);
+    assert_eq!(short, [UNTOUCHED; 99]);
     assert_eq!(refusal.to_string(), "refused 8 place 0");
 }
 
@@ -275,13 +321,13 @@ fn a_translation_and_a_short_output() {
 fn the_length_of_a_translation() {
     let sheet = sheet_s();
     let short = Err(Refusal::new(numbers::SHORT_OUTPUT, 0));
-    assert_eq!(translated_length(&sheet, 96), Ok(96));
-    assert_eq!(translated_length(&sheet, 95), short);
-    assert_eq!(translated_length(&sheet, 97), Ok(96));
+    assert_eq!(translated_length(&sheet, 100), Ok(100));
+    assert_eq!(translated_length(&sheet, 99), short);
+    assert_eq!(translated_length(&sheet, 101), Ok(100));
     assert_eq!(translated_length(&sheet, 0), short);
-    assert_eq!(translated_length(&sheet, u64::MAX), Ok(96));
+    assert_eq!(translated_length(&sheet, u64::MAX), Ok(100));
     // A length whose low 32 bits are 0.
-    assert_eq!(translated_length(&sheet, 1 << 32), Ok(96));
+    assert_eq!(translated_length(&sheet, 1 << 32), Ok(100));
     // The sheet's own refusal comes before 8.
     let cut = Err(Refusal::new(numbers::TRUNCATED, 10));
     assert_eq!(translated_length(&sheet[..91], 0), cut);
@@ -291,7 +337,8 @@ fn the_length_of_a_translation() {
 #[test]
 fn a_context_listing() {
     // Cell 1: label 7. Cell 2: label 264 after cell 1. Cell 3 is damaged.
-    let cells = [7, 0, 0, 0, 8, 1, 1, 0, 9, 0, 3, 0];
+    let cells = [[7, 0, 2], [264, 1, 0], [9, 3, 1]].map(|parts| cell(parts, &[(3, 5)]));
+    let cells = cells.concat();
     assert_eq!(list_context(&cells, 0), Ok(vec![]));
     assert_eq!(list_context(&cells, 2), Ok(vec![264, 7]));
     let damaged = |cell| Err(Refusal::new(numbers::OUT_OF_RANGE, cell));
@@ -314,18 +361,18 @@ fn the_raw_calls_give_code_and_record() {
     let expected = Record {
         outcome: numbers::NUMBER,
         value: 10,
-        steps: 13,
+        steps: 11,
         node: 0,
         context: 0,
         cells: 2,
     };
     assert_eq!(Record::from_bytes(&record), Some(expected));
-    let code = raw::run_rows(&out[..96], 1, &[], AMPLE, &mut cells_lent(), &mut record);
+    let code = raw::run_rows(&out[..100], 1, &[], AMPLE, &mut cells_lent(), &mut record);
     assert_eq!((code, record[ANSWER_BYTES]), (20, UNTOUCHED));
     let short = &mut record[..ANSWER_BYTES - 1];
-    let code = raw::run(&out[..96], &[], AMPLE, &mut cells_lent(), short);
+    let code = raw::run(&out[..100], &[], AMPLE, &mut cells_lent(), short);
     let refusal = Refusal::new(numbers::SHORT_OUTPUT, 0);
     assert_eq!(raw::result(code), Err(refusal));
-    let code = raw::run_rows(&out[..96], 1, &[], AMPLE, &mut cells_lent(), short);
+    let code = raw::run_rows(&out[..100], 1, &[], AMPLE, &mut cells_lent(), short);
     assert_eq!(raw::result(code), Err(refusal));
 }

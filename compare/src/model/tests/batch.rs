@@ -8,7 +8,7 @@ use crate::model::run::run as single_run;
 use crate::model::BatchBehaviour;
 
 const FEW: Allowances = Allowances {
-    steps: 40,
+    steps: 30,
     nesting: 20,
     cells: 4,
 };
@@ -42,10 +42,19 @@ fn rows(count: u32, readings: &[i32]) -> Rows<'_> {
     }
 }
 
+/// The cells of `down`, which remember these numbers.
+fn counted(numbers: &[i32]) -> Vec<u8> {
+    let cells = numbers.iter().enumerate().map(|(previous, &number)| {
+        let label = (previous > 0) as u8;
+        cell([label, previous as u8, 1], &[(0, number_entry(number))])
+    });
+    cells.flatten().collect()
+}
+
 #[test]
 fn rows_are_run_in_turn() {
     let readings = [2, -4, 0, 9];
-    let (result, [cells, records]) = batch(&down(), rows(4, &readings), [17, 81]);
+    let (result, [cells, records]) = batch(&down(), rows(4, &readings), [273, 81]);
     assert_eq!(result, Ok(80));
     assert_eq!(records[80], 0xEE);
     let answers: Vec<_> = records
@@ -53,25 +62,24 @@ fn rows_are_run_in_turn() {
         .map(Answer::from_record)
         .collect();
     let expected = [
-        ended(ZERO_DIVISOR, 37, 3),
-        answered(-2, 10, 1),
-        ended(ZERO_DIVISOR, 10, 1),
-        ended(NO_STEP, 40, 4),
+        ended(ZERO_DIVISOR, 25, 3),
+        answered(-2, 9, 1),
+        ended(ZERO_DIVISOR, 9, 1),
+        ended(NO_STEP, 30, 4),
     ];
     assert_eq!(answers, expected.map(Some));
-    let made = [0, 0, 0, 0, 1, 0, 1, 0, 1, 0, 2, 0, 1, 0, 3, 0];
-    assert_eq!(cells[..16], made);
-    assert_eq!(cells[16], 0xEE);
+    assert_eq!(cells[..272], counted(&[9, 8, 7, 6]));
+    assert_eq!(cells[272], 0xEE);
 }
 
 #[test]
 fn a_row_leaves_the_cells_of_the_row_before() {
-    let (result, [cells, _]) = batch(&down(), rows(2, &[2, -4]), [16, 40]);
+    let (result, [cells, _]) = batch(&down(), rows(2, &[2, -4]), [272, 40]);
     assert_eq!(result, Ok(40));
-    let made = [0, 0, 0, 0, 1, 0, 1, 0, 1, 0, 2, 0];
-    assert_eq!(cells[..12], made);
-    assert_eq!(cells[12..], [0xEE; 4]);
-    let mut in_turn = vec![0xEE; 16];
+    // The first is written whole, so nothing of the row before counts there.
+    assert_eq!(cells[..204], counted(&[-4, 1, 0]));
+    assert_eq!(cells[204..], [0xEE; 68]);
+    let mut in_turn = vec![0xEE; 272];
     for reading in [2, -4] {
         single_run(&Correct, &down(), &[reading], FEW, &mut in_turn);
     }
@@ -81,13 +89,13 @@ fn a_row_leaves_the_cells_of_the_row_before() {
 #[test]
 fn rows_without_readings() {
     let file = translated(&sheet_s()).unwrap();
-    let (result, [cells, records]) = batch(&file, rows(16, &[]), [16, 320]);
+    let (result, [cells, records]) = batch(&file, rows(16, &[]), [272, 320]);
     assert_eq!(result, Ok(320));
     for record in records.chunks_exact(RECORD) {
-        assert_eq!(Answer::from_record(record), Some(answered(10, 13, 2)));
+        assert_eq!(Answer::from_record(record), Some(answered(10, 11, 2)));
     }
-    assert_eq!(cells[..9], [0, 0, 0, 0, 1, 0, 0, 0, 0xEE]);
-    assert_eq!(batch(&file, rows(0, &[]), [16, 0]).0, Ok(0));
+    assert_eq!(cells[136], 0xEE);
+    assert_eq!(batch(&file, rows(0, &[]), [272, 0]).0, Ok(0));
 }
 
 /// The number of a refused batch, which writes nothing.
@@ -104,23 +112,26 @@ fn refusals_of_batches() {
     let file = down();
     let seventeen = [0; 17];
     // The file, then 9, then 10, then 8, with all that come after it.
-    assert_eq!(refused(&[], rows(17, &[0]), [15, 0]), TRUNCATED);
-    assert_eq!(refused(&file, rows(17, &[0]), [15, 0]), BAD_READINGS);
-    assert_eq!(refused(&file, rows(17, &seventeen), [16, 0]), BAD_ALLOWANCE);
-    assert_eq!(refused(&file, rows(2, &[0, 0]), [15, 0]), BAD_ALLOWANCE);
-    assert_eq!(refused(&file, rows(2, &[0, 0]), [16, 39]), SHORT_OUTPUT);
+    assert_eq!(refused(&[], rows(17, &[0]), [271, 0]), TRUNCATED);
+    assert_eq!(refused(&file, rows(17, &[0]), [271, 0]), BAD_READINGS);
+    assert_eq!(
+        refused(&file, rows(17, &seventeen), [272, 0]),
+        BAD_ALLOWANCE
+    );
+    assert_eq!(refused(&file, rows(2, &[0, 0]), [271, 0]), BAD_ALLOWANCE);
+    assert_eq!(refused(&file, rows(2, &[0, 0]), [272, 39]), SHORT_OUTPUT);
     let sixteen = &seventeen[..16];
-    assert_eq!(batch(&file, rows(16, sixteen), [16, 320]).0, Ok(320));
+    assert_eq!(batch(&file, rows(16, sixteen), [272, 320]).0, Ok(320));
     // No row is counted to 16, nor on 32 bits.
-    assert_eq!(refused(&file, rows(17, sixteen), [16, 340]), BAD_READINGS);
+    assert_eq!(refused(&file, rows(17, sixteen), [272, 340]), BAD_READINGS);
     let pair = program(&[], vec![(0, operator(ADD, reading(0), reading(1)))]);
     let pair = Program {
         readings: 2,
         ..pair
     };
     let pair = translated(&pair.encode()).unwrap();
-    assert_eq!(refused(&pair, rows(1 << 31, &[]), [16, 0]), BAD_READINGS);
+    assert_eq!(refused(&pair, rows(1 << 31, &[]), [272, 0]), BAD_READINGS);
     // No row is no reason to accept what is refused.
-    assert_eq!(refused(&file, rows(0, &[0]), [16, 0]), BAD_READINGS);
-    assert_eq!(refused(&file, rows(0, &[]), [15, 0]), BAD_ALLOWANCE);
+    assert_eq!(refused(&file, rows(0, &[0]), [272, 0]), BAD_READINGS);
+    assert_eq!(refused(&file, rows(0, &[]), [271, 0]), BAD_ALLOWANCE);
 }

@@ -12,7 +12,7 @@ const FEW: Allowances = Allowances {
     cells: 4,
 };
 
-/// More cells than the 16 bytes lent.
+/// More cells than are lent.
 const MANY: Allowances = Allowances { cells: 5, ..FEW };
 
 /// result = if r2 < 5 then id(r2) else r0, id(x) = x, with four readings: node
@@ -28,9 +28,9 @@ fn axles() -> Vec<u8> {
     translated(&sheet.encode()).expect("accepted")
 }
 
-/// The hirer's run with 16 bytes lent: its answer and the cells.
+/// The hirer's run with four cells lent: its answer and the cells.
 fn hired(file: &[u8], set: u32, readings: &[i32], allowances: Allowances) -> (Answer, Vec<u8>) {
-    let mut lent = vec![0xEE; 16];
+    let mut lent = vec![0xEE; 4 * 68];
     let hire = Hire {
         set,
         readings,
@@ -42,7 +42,7 @@ fn hired(file: &[u8], set: u32, readings: &[i32], allowances: Allowances) -> (An
 /// A refused run, which writes nothing.
 fn refused(number: u16, place: u32) -> (Answer, Vec<u8>) {
     let refusal = Refusal::new(number, place);
-    (Answer::refused(refusal), vec![0xEE; 16])
+    (Answer::refused(refusal), vec![0xEE; 4 * 68])
 }
 
 #[test]
@@ -52,7 +52,7 @@ fn a_set_that_covers_the_nodes_gives_the_owners_run() {
         ([7, 0, 3, 0], answered(3, 7, 1)),
         ([7, 0, 9, 0], answered(7, 5, 0)),
     ] {
-        let mut lent = vec![0xEE; 16];
+        let mut lent = vec![0xEE; 4 * 68];
         let owners = owners_run(&Correct, &file, &readings, FEW, &mut lent);
         assert_eq!(owners, expected);
         // The readings that are used; with others; with bits past the four.

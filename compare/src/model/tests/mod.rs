@@ -4,6 +4,7 @@ mod batch;
 mod hirer;
 mod labels;
 mod refusals;
+mod remembering;
 
 use super::answer::Answer;
 use super::name::{self, Own};
@@ -41,7 +42,7 @@ fn translated(sheet: &[u8]) -> Result<Vec<u8>, Refusal> {
 }
 
 fn run_cells(sheet: &[u8], steps: u32, nesting: u32, cells: u32) -> (Answer, Vec<u8>) {
-    let mut lent = vec![0xEE; 4 * cells as usize];
+    let mut lent = vec![0xEE; 68 * cells as usize];
     let mut out = vec![0; 40_960];
     let allowances = Allowances {
         steps,
@@ -54,6 +55,28 @@ fn run_cells(sheet: &[u8], steps: u32, nesting: u32, cells: u32) -> (Answer, Vec
 
 fn run(sheet: &[u8], steps: u32, nesting: u32, cells: u32) -> Answer {
     run_cells(sheet, steps, nesting, cells).0
+}
+
+/// An entry that remembers a number, without its last two bytes.
+fn number_entry(number: i32) -> [u8; 6] {
+    let [a, b, c, d] = number.to_le_bytes();
+    [1, 0, a, b, c, d]
+}
+
+/// An entry that remembers a constructor, without its last two bytes.
+fn constructor_entry(node: u8, context: u8) -> [u8; 6] {
+    [2, 0, node, 0, context, 0]
+}
+
+/// The bytes of a cell with these entries by position.
+fn cell([label, previous, callee]: [u8; 3], entries: &[(usize, [u8; 6])]) -> Vec<u8> {
+    let mut bytes = vec![0; 68];
+    bytes[..4].copy_from_slice(&[label, 0, previous, 0]);
+    for (position, entry) in entries {
+        bytes[4 + 8 * position..][..6].copy_from_slice(entry);
+    }
+    bytes[66] = callee;
+    bytes
 }
 
 fn own(sheet: &[u8]) -> Own {
@@ -84,12 +107,12 @@ fn s_has_its_sizes_and_bytes() {
     let sheet = sheet_s();
     assert_eq!(sheet.len(), 92);
     let out = translated(&sheet).unwrap();
-    assert_eq!(out.len(), 96);
+    assert_eq!(out.len(), 100);
     let mut expected = Vec::new();
     let records: [(u16, &[u16]); 12] = [
         (kinds::HEAD, &[0, 1, 2, 8]),
-        (kinds::FUNCTION, &[5]),
-        (kinds::FUNCTION, &[3]),
+        (kinds::FUNCTION, &[5, 0]),
+        (kinds::FUNCTION, &[3, 1]),
         (kinds::FORMAL_LIST, &[0, 2]),
         (kinds::NUMBER, &[7, 0]),
         (kinds::CALL, &[0, 1]),
@@ -110,13 +133,15 @@ fn s_has_its_sizes_and_bytes() {
 fn s_runs_as_stated() {
     let sheet = sheet_s();
     let (answer, cells) = run_cells(&sheet, 1000, 100, 100);
-    assert_eq!(answer, answered(10, 13, 2));
-    assert_eq!(cells[..8], [0, 0, 0, 0, 1, 0, 0, 0]);
-    assert!(cells[8..].iter().all(|&byte| byte == 0xEE));
-    assert_eq!(run(&sheet, 13, 5, 2), answered(10, 13, 2));
-    assert_eq!(run(&sheet, 12, 5, 2), ended(NO_STEP, 12, 2));
-    assert_eq!(run(&sheet, 13, 4, 2), ended(NO_NESTING, 4, 1));
-    assert_eq!(run(&sheet, 13, 5, 1), ended(NO_CELL, 8, 1));
+    assert_eq!(answer, answered(10, 11, 2));
+    let first = cell([0, 0, 1], &[(0, number_entry(7))]);
+    let second = cell([1, 0, 1], &[(0, number_entry(2))]);
+    assert_eq!(cells[..136], [first, second].concat());
+    assert!(cells[136..].iter().all(|&byte| byte == 0xEE));
+    assert_eq!(run(&sheet, 11, 5, 2), answered(10, 11, 2));
+    assert_eq!(run(&sheet, 10, 5, 2), ended(NO_STEP, 10, 2));
+    assert_eq!(run(&sheet, 11, 4, 2), ended(NO_NESTING, 4, 1));
+    assert_eq!(run(&sheet, 11, 5, 1), ended(NO_CELL, 7, 1));
     assert_eq!(run(&sheet, 4, 4, 2), ended(NO_STEP, 4, 1));
     assert_eq!(own(&sheet), Own::Number(10));
 }
@@ -173,7 +198,7 @@ fn head_of_ones() {
     let head = case(parameter(0), vec![(0, pattern(0))]);
     let result = call(2, vec![call(1, vec![])]);
     let sheet = program(&[2], vec![(0, result), (0, ones.clone()), (1, head)]).encode();
-    assert_eq!(run(&sheet, 100, 10, 10), answered(1, 10, 3));
+    assert_eq!(run(&sheet, 100, 10, 10), answered(1, 8, 2));
     assert_eq!(own(&sheet), Own::Number(1));
     // ones itself: a constructor with node and context.
     let sheet = program(&[2], vec![(0, call(1, vec![])), (0, ones)]).encode();

@@ -83,8 +83,8 @@ fn refusals_of_runs() {
     assert_eq!(run(&sheet, 0, 1, 0), ended(NO_STEP, 0, 0));
     assert_eq!(run(&sheet, 9, 0, 0), refused(BAD_ALLOWANCE));
     assert_eq!(run(&sheet, 9, 1025, 0), refused(BAD_ALLOWANCE));
-    assert_eq!(run(&sheet, 13, 1024, 8192), answered(10, 13, 2));
-    assert_eq!(run(&sheet, 13, 1024, 8193), refused(BAD_ALLOWANCE));
+    assert_eq!(run(&sheet, 13, 1024, 960), answered(10, 11, 2));
+    assert_eq!(run(&sheet, 13, 1024, 961), refused(BAD_ALLOWANCE));
     let one_each = Allowances {
         steps: 1,
         nesting: 1,
@@ -94,9 +94,10 @@ fn refusals_of_runs() {
         let (mut out, mut cells) = (vec![0; out], vec![0; cells]);
         Correct.translate_and_run(&sheet, &mut out, readings, one_each, &mut cells)
     };
-    assert_eq!(all(95, &[1], 3), refused(SHORT_OUTPUT));
-    assert_eq!(all(96, &[1], 3), refused(BAD_READINGS));
-    assert_eq!(all(96, &[], 3), refused(BAD_ALLOWANCE));
+    assert_eq!(all(99, &[1], 67), refused(SHORT_OUTPUT));
+    assert_eq!(all(100, &[1], 67), refused(BAD_READINGS));
+    assert_eq!(all(100, &[], 67), refused(BAD_ALLOWANCE));
+    assert_eq!(all(100, &[], 68), ended(NO_STEP, 1, 0));
 }
 
 #[test]
@@ -106,7 +107,13 @@ fn listings() {
         let answer = Correct.list(cells, cell, &mut out);
         (answer, out)
     };
-    let cells = [7, 0, 0, 0, 8, 1, 1, 0, 9, 0, 3, 0];
+    let mut cells = [
+        cell([7, 0, 2], &[]),
+        cell([8, 1, 9], &[]),
+        cell([9, 3, 0], &[]),
+    ]
+    .concat();
+    cells[69] = 1;
     assert_eq!(list(&cells, 0, 0), (Ok(0), vec![]));
     assert_eq!(list(&cells, 1, 3), (Ok(1), vec![7, 0, 0xEE]));
     assert_eq!(list(&cells, 2, 4), (Ok(2), vec![8, 1, 7, 0]));
@@ -117,7 +124,7 @@ fn listings() {
     assert_eq!(list(&cells, 3, 9).0, Err(Refusal::new(OUT_OF_RANGE, 3)));
     assert_eq!(list(&cells, 4, 9).0, Err(Refusal::new(OUT_OF_RANGE, 4)));
     assert_eq!(
-        list(&cells[..7], 2, 9).0,
+        list(&cells[..135], 2, 9).0,
         Err(Refusal::new(OUT_OF_RANGE, 2))
     );
 }

@@ -1,5 +1,6 @@
 -- `file_shape::counts` meets its contract, kind by kind.
-use Rattle.laws.proofs.Shape.{counts-head, counts-constructor, counts-parameters, counts-sheet-run, counts-run, counts-other}
+use Rattle.laws.proofs.Shape.{counts-head, counts-constructor, counts-parameters, counts-sheet-run, counts-formals, counts-run, counts-other}
+use borrow.Author.Tests.{not-true, not-false}
 use borrow.Author.Needs.{needs}
 use Rattle.file_shape.proofs.counts.Statement.{statement}
 use Rattle.file_shape.proofs.counts.Tie as tie
@@ -37,14 +38,20 @@ run-counts-requires c κs = search needs
 returns-4 : tie.Need-returns-4
 returns-4 c = search counts-sheet-run
 
+parameter-counts-requires : tie.Need-parameter-counts-requires
+parameter-counts-requires c κs = search needs
+
+returns-5 : tie.Need-returns-5
+returns-5 c = search (counts-formals, not-true)
+
 run-counts-requires-2 : tie.Need-run-counts-requires-2
 run-counts-requires-2 c κs = search needs
 
-returns-5 : tie.Need-returns-5
-returns-5 c = search counts-run
-
 returns-6 : tie.Need-returns-6
-returns-6 c = search counts-other
+returns-6 c = search (counts-run, not-false)
+
+returns-7 : tie.Need-returns-7
+returns-7 c = search counts-other
 
 pub counts-spec : {M : Type 1} → statement M
 counts-spec =
@@ -61,6 +68,8 @@ counts-spec =
     returns-3
     run-counts-requires
     returns-4
-    run-counts-requires-2
+    parameter-counts-requires
     returns-5
-    returns-6)
+    run-counts-requires-2
+    returns-6
+    returns-7)

@@ -30,8 +30,8 @@ cast-if2 c = search needs
 add-if2-2 : tie.Need-add-if2-2
 add-if2-2 c = search needs
 
-run-total-requires : tie.Need-run-total-requires
-run-total-requires c κs =
+field-total-requires : tie.Need-field-total-requires
+field-total-requires c κs =
     let pre = c .before .before .before .before .before .before .before .before .pre in
     as-many (pre) (omega arith)
 
@@ -59,7 +59,7 @@ run-counts-spec =
     functions-requires
     cast-if2
     add-if2-2
-    run-total-requires
+    field-total-requires
     nodes-requires
     cast-result
     returns-2

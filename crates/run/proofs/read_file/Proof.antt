@@ -1,12 +1,13 @@
 -- `run::read_file` meets its contract.
 use mathlib.Core.Path.{refl}
-use Rattle.run.proofs.Answering.{ready-by, read-refused, read-accepted}
+use Rattle.run.proofs.Answering.{ready-by, indexed-by, read-refused, read-accepted}
 use borrow.Author.Needs.{needs}
 use Rattle.run.proofs.read_file.Statement.{statement}
 use Rattle.run.proofs.read_file.Tie as tie
 use Rattle.run.proofs.read_file.Reads as reads
 use Rattle.run.proofs.read_file.Lts as lts
 use Rattle.format.proofs.translation.fill_translation.Reads as fill-translation-reads
+use Rattle.run.proofs.formal_places.fill_places.Reads as fill-places-reads
 use Rattle.run.proofs.node_table.fill_nodes.Reads as fill-nodes-reads
 
 fill-translation-requires : tie.Need-fill-translation-requires
@@ -20,26 +21,26 @@ enum-told-2 c = search needs
 
 returns : tie.Need-returns
 returns c =
-    let args = c .before .before .before .before .before .before .args in
-    let pre = c .before .before .before .before .before .before .pre in
-    let fill-translation = c .before .before .fill-translation in
-    read-refused _ (args .table .now) _ _ _ _ _ (fill-translation .ensures) (c .enum-told2 .given .1)
-    (pre)
+    let start = c .before .before .before .before .before .before in
+    read-refused _ (start .args .table .now) _ _ _ _ _ (c .before .before .fill-translation .ensures) (c .enum-told2 .given .1) (start .pre)
+
+fill-places-requires : tie.Need-fill-places-requires
+fill-places-requires c κs =
+    let accepted = c .before .before in
+    (indexed-by (accepted .before .before .fill-translation .ensures) (accepted .enum-told .given .1), refl)
 
 fill-nodes-requires : tie.Need-fill-nodes-requires
 fill-nodes-requires c κs =
-    let pre = c .before .before .before .before .before .before .before .before .before .pre in
-    let fill-translation = c .before .before .before .before .before .fill-translation in
-    let enum-told = c .before .before .before .enum-told in (
-      ready-by _ _ _ _ (fill-translation .ensures) (enum-told .given .1),
-      pre,
-    )
+    let placed = c .before .before .before .before in
+    let accepted = placed .before .before .before in
+    let read = accepted .before .before in
+    let start = read .before .before .before .before in
+    (ready-by _ _ _ _ (read .fill-translation .ensures) (accepted .enum-told .given .1), placed .fill-places .ensures, start .pre)
 
 returns-2 : tie.Need-returns-2
 returns-2 c =
-    let fill-translation = c .before .before .before .before .before .before .fill-translation in
-    let enum-told = c .before .before .before .before .enum-told in
-    read-accepted _ _ _ _ _ (fill-translation .ensures) (enum-told .given .1) (c .fill-nodes .ensures)
+    let accepted = c .before .before .before .before .before .before .before .before in
+    read-accepted _ _ _ _ _ (accepted .before .before .fill-translation .ensures) (accepted .enum-told .given .1) (c .fill-nodes .ensures)
 
 pub read-file-spec : {M : Type 1} → statement M
 read-file-spec =
@@ -49,5 +50,6 @@ read-file-spec =
     enum-told
     enum-told-2
     returns
+    fill-places-requires
     fill-nodes-requires
     returns-2)

@@ -3,13 +3,14 @@ use mathlib.Core.Path.{refl, _∙_}
 use native.Mathlib.Omega.{arith}
 use borrow.Author.Tests.{not-true, not-false}
 use Rattle.definitions.specs.declared.Layout.the-variants.{Translation}
+use Rattle.laws.proofs.ByteFiles.{Bytes}
 use Rattle.accepted.proofs.Head.{nodes-limit}
 use Rattle.accepted.proofs.Checks.{translation-shape}
 use Rattle.allowances.proofs.Limits.{fitting}
-use Rattle.run.proofs.Answering.{first-below, end-node, end-in-table, end-made, readings-refused, allowance-refused, run-answered}
-use Rattle.run.proofs.Counting.{first-there, first-visit}
+use Rattle.run.proofs.Answering.{first-below, end-node, end-in-table, readings-refused, allowance-refused, run-answered}
+use Rattle.run.proofs.Counting.{first-there, first-context, first-visit}
 use Rattle.run.proofs.Packing.{reached-opened}
-use Rattle.run.proofs.ReadingEntries.{nodes-kept, still-readable, readings-held, equips, readings-room}
+use Rattle.run.proofs.ReadingEntries.{nodes-kept, still-readable, readings-held, readings-narrow, equips, readings-room}
 use borrow.Author.Needs.{needs}
 use Rattle.run.proofs.run_table.Statement.{statement}
 use Rattle.run.proofs.run_table.Tie as tie
@@ -94,16 +95,24 @@ cast-first c = search needs
 
 visit-requires : tie.Need-visit-requires
 visit-requires c κs =
-    let pre = c .before .before .before .before .before .before .before .before .before .before .before .before .before .pre in
-    let readings = c .before .before .before .before .before .before .before .before .before .before .before .readings in
-    let wide = c .before .before .before .before .before .before .before .before .before .before .wide in
-    let if1 = c .before .before .before .before .before .before .before .before .before .if1 in
-    let set-readings = c .before .before .before .before .before .set-readings in
-    let first-body = c .before .before .before .before .first-body in
+    let first-body = c .before .before .before .before in
+    let set-readings = first-body .before in
+    let fits = set-readings .before .before in
+    let allowed = fits .before in
+    let if1 = allowed .before in
+    let wide = if1 .before in
+    let readings = wide .before in
+    let known = readings .before in
+    let args = known .before .args in
+    let pre = known .before .pre in
+    let bytes : Bytes (args .t1 .now) = record { below = λ i. omega (arith, known .shared-slice-known .given i) } in
+    let fit = fitting (args .nesting) (args .cells-allowed) _ _ (allowed .allowed .ensures) (not-false _ (fits .if2 .left)) in
+    let nodes = nodes-limit Translation _ (translation-shape _ (pre .accepted)) in
+    let first = first-below _ _ (pre .accepted) (first-body .first-body .ensures) in
     record {
-      equipped = equips _ _ _ _ pre (set-readings .ensures) (if1 .left ∙ wide .ensures .0 ∙ readings .ensures);
-      there = first-there _ _ (nodes-limit Translation _ (translation-shape _ (pre .accepted))) (first-below _ _ (pre .accepted) (first-body .ensures));
-      size = refl;
+      equipped = equips _ _ _ _ bytes pre (set-readings .set-readings .ensures) (if1 .if1 .left ∙ wide .wide .ensures .0 ∙ readings .readings .ensures);
+      there = first-there _ _ nodes first;
+      context = first-context _ _ _ _ _ _ _ (fit .nested) nodes first (fit .made) (fit .lends);
     }
 
 array-read-opened : tie.Need-array-read-opened
@@ -133,8 +142,8 @@ answered-requires c κs =
     (first-visit _ _ (args .nesting) (args .cells-allowed) _ _ _ _ (fit .nested) (nodes-limit Translation _ (translation-shape _ (pre .accepted))) (first-below _ _ (pre .accepted)
     (first-body .ensures)) (visit .ensures .same _ (readings-held _ (args .readings .now) _ _ (set-readings .ensures) (if1 .left ∙ wide .ensures .0 ∙
     readings .ensures)))) in
-    let ends = end-in-table _ _ _ _ _ _ _ _ _ (pre .accepted) (first-body .ensures) reached in
-    (ends .0, ends .1, end-made _ _ _ _ _ _ _ _ _ (record { below = λ i. omega (arith, shared-slice-known .given i) }) (fit .made) (fit .lends) (first-body .ensures) reached)
+    end-in-table _ (pre .accepted) (record { below = λ i. omega (arith, shared-slice-known .given i) }) _ (readings-narrow (set-readings .ensures)) _ _ _ _ _ _ _
+    (fit .made) (fit .lends) (first-body .ensures) reached
 
 returns-3 : tie.Need-returns-3
 returns-3 c =
@@ -152,10 +161,13 @@ returns-3 c =
     let fit = fitting (args .nesting) (args .cells-allowed) _ _ (allowed .ensures) (not-false _ (if2 .left)) in
     let reached = reached-opened _ _ _ _ _ _ (c .before .opened .ensures)
     (first-visit _ _ (args .nesting) (args .cells-allowed) _ _ _ _ (fit .nested) (nodes-limit Translation _ (translation-shape _ (pre .accepted))) (first-below _ _ (pre .accepted)
-    (first-body .ensures)) (visit .ensures .same _ (readings-held _ (args .readings .now) _ _ (set-readings .ensures) (if1 .left ∙ wide .ensures .0 ∙ readings .ensures)))) in (
+    (first-body .ensures)) (visit .ensures .same _ (readings-held _ (args .readings .now) _ _ (set-readings .ensures) (if1 .left ∙ wide .ensures .0 ∙ readings .ensures)))) in
+    let bytes : Bytes (args .t1 .now) = record { below = λ i. omega (arith, shared-slice-known .given i) } in
+    let narrow = readings-narrow (set-readings .ensures) in (
       run-answered _ _ _ (args .nesting) (args .cells-allowed) _ _ (pre .accepted) _ _ (readings .ensures) (wide .ensures .0) _ _ _ _
-          (record { below = λ i. omega (arith, shared-slice-known .given i) }) (if1 .left) (allowed .ensures) (not-false _ (if2 .left)) (first-body .ensures) reached
-          (c .answered .ensures .answer _ (nodes-kept _ _ _ _ pre (set-readings .ensures)) (end-node _ _ _ _ _ _ _ _ _ (pre .accepted) (first-body .ensures) reached)),
+          bytes narrow (if1 .left) (allowed .ensures) (not-false _ (if2 .left)) (first-body .ensures) reached
+          (c .answered .ensures .answer _ (nodes-kept _ _ _ _ pre (set-readings .ensures))
+          (end-node _ (pre .accepted) bytes _ narrow _ _ _ _ _ _ _ (fit .made) (fit .lends) (first-body .ensures) reached)),
       visit .ensures .stays,
       still-readable pre (set-readings .ensures),
     )

@@ -6,10 +6,10 @@ use Rattle.run.proofs.node_table.fill_nodes.Statement.{statement}
 use Rattle.run.proofs.node_table.fill_nodes.Tie as tie
 
 abbrev Inv-loop : tie.InvT-loop
-Inv-loop tab₀ b index ends count k₀ tab k = FillingEntries b tab count k
+Inv-loop tab₀ b index ends places count k₀ tab k = FillingEntries b tab count k
 
 abbrev μ-loop : tie.MeasureT-loop
-μ-loop tab₀ b index ends count k₀ tab k = count - k
+μ-loop tab₀ b index ends places count k₀ tab k = count - k
 
 nodes-requires : tie.Need-nodes-requires Inv-loop μ-loop
 nodes-requires c κs = search needs
@@ -17,12 +17,12 @@ nodes-requires c κs = search needs
 loop-holds : tie.Need-loop-holds Inv-loop μ-loop
 loop-holds c =
     let pre = c .before .before .pre in
-    filling-begins _ _ _ _ _ (pre .0) (c .nodes .ensures) (pre .1)
+    filling-begins _ _ _ _ _ (pre .0) (c .nodes .ensures) (pre .2)
 
 entry-at-requires : tie.Need-entry-at-requires Inv-loop μ-loop
 entry-at-requires c κs =
     let pre = c .before .before .before .before .pre in
-    (pre .0, filling-below _ _ _ _ (c .before .loop .inv) (c .loop-test .taken))
+    (pre .0, pre .1, filling-below _ _ _ _ (c .before .loop .inv) (c .loop-test .taken))
 
 wide-requires : tie.Need-wide-requires Inv-loop μ-loop
 wide-requires c κs = search needs

@@ -39,8 +39,14 @@ field-requires c κs = search needs
 wide-requires-2 : tie.Need-wide-requires-2 Inv-loop μ-loop
 wide-requires-2 c κs = search needs
 
-put-one-requires : tie.Need-put-one-requires Inv-loop μ-loop
-put-one-requires c κs = search needs
+field-requires-2 : tie.Need-field-requires-2 Inv-loop μ-loop
+field-requires-2 c κs = search needs
+
+wide-requires-3 : tie.Need-wide-requires-3 Inv-loop μ-loop
+wide-requires-3 c κs = search needs
+
+put-two-requires : tie.Need-put-two-requires Inv-loop μ-loop
+put-two-requires c κs = search needs
 
 add-f : tie.Need-add-f Inv-loop μ-loop
 add-f c = search needs
@@ -50,17 +56,19 @@ loop-less c = search needs
 
 loop-again : tie.Need-loop-again Inv-loop μ-loop
 loop-again c =
-    let at-put-one = c .before .before in
-    let at-wide2 = at-put-one .before in
+    let at-put-two = c .before .before in
+    let at-wide3 = at-put-two .before in
+    let at-field2 = at-wide3 .before in
+    let at-wide2 = at-field2 .before in
     let at-field = at-wide2 .before in
-    let at-indexed = at-field .before in
-    let at-test = at-indexed .before .before in
+    let at-indexed = at-field .before .before in
+    let at-test = at-indexed .before in
     let at-loop = at-test .before in
     let at-first-function = at-loop .before .before .before in
     let pre = at-first-function .before .before .before .pre in
     let words = function-words pre (omega arith) (at-first-function .first-function .ensures .0)
-    (at-indexed .indexed .ensures) (at-wide2 .wide2 .ensures .0 ∙ at-field .field .ensures) in
-    parts-go-on (at-loop .loop .inv) (at-test .loop-test .taken) (wrote-as words (at-put-one .put-one .ensures))
+    (at-indexed .indexed .ensures) (at-wide2 .wide2 .ensures .0 ∙ at-field .field .ensures) (at-wide3 .wide3 .ensures .0 ∙ at-field2 .field2 .ensures) in
+    parts-go-on (at-loop .loop .inv) (at-test .loop-test .taken) (wrote-as words (at-put-two .put-two .ensures))
 
 same-length : tie.Need-same-length Inv-loop μ-loop
 same-length c = c .before .loop .inv .wrote .kept
@@ -86,7 +94,9 @@ put-functions-spec =
     indexed-requires
     field-requires
     wide-requires-2
-    put-one-requires
+    field-requires-2
+    wide-requires-3
+    put-two-requires
     add-f
     loop-less
     loop-again

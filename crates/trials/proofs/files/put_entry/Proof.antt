@@ -5,16 +5,19 @@ use Rattle.trials.proofs.files.put_entry.Statement.{statement}
 use Rattle.trials.proofs.files.put_entry.Tie as tie
 
 abbrev Inv-loop : tie.InvT-loop
-Inv-loop text from file₀ at count next₀ turn₀ file next turn = turn ≤ count
+Inv-loop text from cells file₀ at count next₀ turn₀ file next turn = turn ≤ count
 
 abbrev μ-loop : tie.MeasureT-loop
-μ-loop text from file₀ at count next₀ turn₀ file next turn = count - turn
+μ-loop text from cells file₀ at count next₀ turn₀ file next turn = count - turn
 
 turns-requires : tie.Need-turns-requires Inv-loop μ-loop
 turns-requires c κs = search needs
 
 loop-holds : tie.Need-loop-holds Inv-loop μ-loop
 loop-holds c = search needs
+
+put-cell-requires : tie.Need-put-cell-requires Inv-loop μ-loop
+put-cell-requires c κs = search needs
 
 put-turn-requires : tie.Need-put-turn-requires Inv-loop μ-loop
 put-turn-requires c κs = search needs
@@ -39,6 +42,7 @@ put-entry-spec =
     μ-loop
     turns-requires
     loop-holds
+    put-cell-requires
     put-turn-requires
     add-turn
     loop-less

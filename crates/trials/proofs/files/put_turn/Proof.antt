@@ -19,17 +19,8 @@ loop-holds c = search needs
 number-starts-requires : tie.Need-number-starts-requires Inv-loop μ-loop
 number-starts-requires c κs = search needs
 
-word-requires : tie.Need-word-requires Inv-loop μ-loop
-word-requires c κs = search needs
-
-after-requires : tie.Need-after-requires Inv-loop μ-loop
-after-requires c κs = search needs
-
-word-requires-2 : tie.Need-word-requires-2 Inv-loop μ-loop
-word-requires-2 c κs = search needs
-
-at-turn-requires : tie.Need-at-turn-requires Inv-loop μ-loop
-at-turn-requires c κs = search needs
+word-at-turn-requires : tie.Need-word-at-turn-requires Inv-loop μ-loop
+word-at-turn-requires c κs = search needs
 
 put-word-requires : tie.Need-put-word-requires Inv-loop μ-loop
 put-word-requires c κs = search needs
@@ -55,10 +46,7 @@ put-turn-spec =
     until-requires
     loop-holds
     number-starts-requires
-    word-requires
-    after-requires
-    word-requires-2
-    at-turn-requires
+    word-at-turn-requires
     put-word-requires
     add-i
     loop-less

@@ -13,6 +13,7 @@ use Rattle.cells.proofs.cell.pair_of.Reads as pair-of-reads
 use Rattle.widths.proofs.wide32.Reads as wide32-reads
 use Rattle.run.proofs.node_table.entry.Reads as entry-reads
 use Rattle.run.proofs.node_table.first_in.Reads as first-in-reads
+use Rattle.run.proofs.node_table.second_in.Reads as second-in-reads
 use Rattle.run.proofs.node_table.third_in.Reads as third-in-reads
 use Rattle.run.proofs.packed.packed.Reads as packed-reads
 use Rattle.run.proofs.state.ended.Reads as ended-reads
@@ -31,6 +32,8 @@ claims t = (
   wide32-reads.Learnt,
   first-in-reads.Asked,
   first-in-reads.Learnt,
+  second-in-reads.Asked,
+  second-in-reads.Learnt,
   add-cell-reads.Asked,
   add-cell-reads.Learnt,
   third-in-reads.Asked,
@@ -49,20 +52,21 @@ module _ (t : ℕ) where
   -- its cell was added
   abbrev OnwardFrom : At lts.After-add-cell → ℕ → Type 0
   OnwardFrom c k =
-      let start = c .before .before .before .before .before .before .before in
-      BodyOnward (start .pre) (start .args .limits) (start .args .cells .now) (c .add-cell .ensures) k
+      let start = c .before .before .before .before .before .before .before .before in
+      BodyOnward (start .pre) (start .args .cells .now) (c .add-cell .ensures) k
 
   onward : (c : At lts.After-third-in) → OnwardFrom (c .before .before .before) (c .third-in .result)
   onward c =
       let added = c .before .before .before in
-      let entry = added .before .before .before .before in
-      call-onward (entry .before .before .before .pre) (entry .before .if1 .left) (entry .entry .ensures) (added .before .before .wide32 .ensures .0)
-      (added .before .first-in .ensures) (c .third-in .ensures) (added .add-cell .ensures)
+      let first = added .before .before in
+      let entry = first .before .before .before in
+      call-onward _ (entry .before .before .before .pre) (entry .before .if1 .left) (entry .entry .ensures) (first .before .wide32 .ensures .0)
+      (first .first-in .ensures) (added .before .second-in .ensures) (c .third-in .ensures) (added .add-cell .ensures)
 
   returns : At lts.Need-returns
   returns c =
       let full = c .before .before in
-      call-ends (full .before .before .pre) (full .if1 .taken) (c .packed .ensures) (c .before .ended .ensures)
+      call-ends _ (full .before .before .pre) (full .if1 .taken) (c .packed .ensures) (c .before .ended .ensures)
 
   entry-requires : At lts.Need-entry-requires
   entry-requires c κs = node-room (c .before .before .pre .1)
@@ -77,5 +81,5 @@ pub closed : {M : Type 1} (t : ℕ) → lts.Closed (claims t) (kind-at call.Pre 
 closed t =
     lts.spec (claims t) (kind-at call.Pre t) call.Post
     (λ c. search needs) (λ c κs. search needs) (λ c κs. search needs) (returns t) (λ c. search needs) (entry-requires t) (λ c. search needs)
-    (λ c. search needs) (λ c κs. search needs) (λ c κs. search needs) (λ c κs. search needs) (λ c. search needs) (λ c. search needs)
-    (λ c. search needs) (λ c. search needs) (λ c κs. search needs) (λ c κs. search needs) (visit-requires t) (returns-2 t)
+    (λ c. search needs) (λ c κs. search needs) (λ c κs. search needs) (λ c κs. search needs) (λ c κs. search needs) (λ c. search needs)
+    (λ c. search needs) (λ c. search needs) (λ c. search needs) (λ c κs. search needs) (λ c κs. search needs) (visit-requires t) (returns-2 t)

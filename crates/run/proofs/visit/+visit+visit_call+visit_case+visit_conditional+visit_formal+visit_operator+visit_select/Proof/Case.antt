@@ -57,7 +57,7 @@ module _ (t : ℕ) where
 
   -- its scrutinee was visited, gave a constructor, and a clause was sought
   abbrev AwaitsFrom : At lts.Start → ℕ → Type 0
-  AwaitsFrom start k = AwaitsBy of-case (start .pre) (start .args .limits) (start .args .cells .now) k
+  AwaitsFrom start k = AwaitsBy of-case (start .pre) (start .args .cells .now) k
 
   awaits : (c : At lts.After-first-in) → AwaitsFrom (c .before .before) (c .first-in .result)
   awaits c = operand-awaits of-case (c .before .before .pre) (c .before .entry .ensures) (c .first-in .ensures)

@@ -56,7 +56,7 @@ module _ (t : ℕ) where
 
   -- its condition was visited, gave a number, and a branch was taken
   abbrev AwaitsFrom : At lts.Start → ℕ → Type 0
-  AwaitsFrom start k = AwaitsBy of-conditional (start .pre) (start .args .limits) (start .args .cells .now) k
+  AwaitsFrom start k = AwaitsBy of-conditional (start .pre) (start .args .cells .now) k
 
   awaits : (c : At lts.After-first-in) → AwaitsFrom (c .before .before) (c .first-in .result)
   awaits c = operand-awaits of-conditional (c .before .before .pre) (c .before .entry .ensures) (c .first-in .ensures)

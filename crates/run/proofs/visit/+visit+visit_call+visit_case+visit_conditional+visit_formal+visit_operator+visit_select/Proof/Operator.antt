@@ -58,7 +58,7 @@ module _ (t : ℕ) where
 
   -- its left operand was visited and gave a number, and so its right operand
   abbrev AwaitsFrom : At lts.Start → ℕ → Type 0
-  AwaitsFrom start k = AwaitsBy of-operator (start .pre) (start .args .limits) (start .args .cells .now) k
+  AwaitsFrom start k = AwaitsBy of-operator (start .pre) (start .args .cells .now) k
 
   left-awaited : (c : At lts.After-second-in) → AwaitsFrom (c .before .before) (c .second-in .result)
   left-awaited c = operand-awaits of-operator (c .before .before .pre) (c .before .entry .ensures) (c .second-in .ensures)

@@ -57,7 +57,7 @@ module _ (t : ℕ) where
 
   -- its tuple was visited, gave a constructor, and a field was sought
   abbrev AwaitsFrom : At lts.Start → ℕ → Type 0
-  AwaitsFrom start k = AwaitsBy of-select (start .pre) (start .args .limits) (start .args .cells .now) k
+  AwaitsFrom start k = AwaitsBy of-select (start .pre) (start .args .cells .now) k
 
   awaits : (c : At lts.After-first-in) → AwaitsFrom (c .before .before) (c .first-in .result)
   awaits c = operand-awaits of-select (c .before .before .pre) (c .before .entry .ensures) (c .first-in .ensures)

@@ -1,5 +1,6 @@
 -- A visit meets its contract: the two stops, a step counted, and the function of the node's kind.
 use mathlib.Core.Path.{_≡_}
+use native.Mathlib.Omega.{arith}
 use Prim.Native.Nat.{ℕ}
 use mir.Syntax.{w32}
 use mir.ValLaws.{toZ-ofZ}
@@ -72,10 +73,10 @@ module _ (t : ℕ) where
   kind-known c e =
       let more = c .before .before .before in
       let start = more .before .before in
-      kind-asked (start .pre) (more .if1 .left) (kind-read (start .pre .1) (c .before .entry .ensures) (c .kind-in .ensures) e)
+      kind-asked (start .pre) (more .if1 .left) (c .before .before .if2 .left) (kind-read (start .pre .1) (c .before .entry .ensures) (c .kind-in .ensures) e)
 
   abbrev CountedFrom : At lts.Start → Type 0
-  CountedFrom start = CountedBy (start .pre .1) (start .args .limits) (start .args .cells .now)
+  CountedFrom start = CountedBy (start .pre .1) (start .args .cells .now)
 
   step-taken : (c : At lts.After-kind-in) → CountedFrom (c .before .before .before .before .before)
   step-taken c =
@@ -152,7 +153,7 @@ module _ (t : ℕ) where
   reading-requires c κs =
       let read = c .before .before .before .before .before .before .before .before in
       let node = kind-known read (c .before .if9 .taken) .1 in
-      reading-narrow node (first-read node (read .before .entry .ensures) (c .first-in .ensures))
+      reading-narrow node (first-read node (read .before .entry .ensures) (λ q. omega (arith, q)) (c .first-in .ensures))
 
   returns-9 : At lts.Need-returns-9
   returns-9 c =
@@ -184,7 +185,7 @@ module _ (t : ℕ) where
       let no-number = no-formal .before in
       let read = no-number .before in
       let start = read .before .before .before .before .before in
-      kind-asked (start .pre) (read .before .before .before .if1 .left)
+      kind-asked (start .pre) (read .before .before .before .if1 .left) (read .before .before .if2 .left)
       (kind-last (start .pre .1) (read .before .entry .ensures) (read .kind-in .ensures)
       (no-number .if3 .left) (no-reading .if9 .left) (no-formal .if4 .left) (no-select .if7 .left) (no-operator .if8 .left)
       (no-conditional .if10 .left) (no-call .if6 .left) (no-tuple .if5 .left))

@@ -1,0 +1,100 @@
+//! What a number, constructor or run fault of a translated sheet's run has to
+//! be beside the other side's: the sheet's own answer, by call by name; and the
+//! answer without remembering, in no more steps than that takes (document 02,
+//! requests 7 and 8).
+
+use crate::call::{After, Call, OneRun};
+use crate::interface::Allowances;
+use crate::model::answer::Answer;
+use crate::model::sheet::Sheet;
+use crate::model::translate::{translate, Labelling};
+use crate::model::translation::{self, Translation};
+use crate::model::{name, plain, Behaviour, Correct};
+
+/// What is worked out again may take very much longer, so not all of it is
+/// worked out to its end.
+const ENOUGH: Allowances = Allowances {
+    steps: 100_000,
+    nesting: 10_000,
+    cells: 65_535,
+};
+
+/// The runs of a translated sheet that have to be its own answer.
+fn own_runs<'a>(call: &'a Call, after: &After) -> Vec<OneRun<'a>> {
+    let mut runs = call.runs(after);
+    runs.retain(|run| run.answer.is_own());
+    runs
+}
+
+/// How many runs have the answers of call by name, or what differs.
+pub fn by_name(call: &Call, after: &After) -> Result<u64, String> {
+    let Some(sheet) = call.sheet() else {
+        return Ok(0);
+    };
+    let runs = own_runs(call, after);
+    if runs.is_empty() {
+        return Ok(0);
+    }
+    let read = Correct.read_sheet(sheet);
+    let read = read.map_err(|refusal| format!("run of a sheet that is refused: {refusal:?}"))?;
+    let mut known = 0;
+    for run in &runs {
+        known += run_by_name(&read, run)? as u64;
+    }
+    Ok(known)
+}
+
+/// Whether call by name has an answer within its budget, which is then the
+/// run's.
+fn run_by_name(sheet: &Sheet, run: &OneRun) -> Result<bool, String> {
+    let answer = &run.answer;
+    let own = name::answer(sheet, run.readings, ENOUGH.steps as u64, ENOUGH.nesting);
+    match own.outcome() {
+        Some(outcome) if outcome != (answer.outcome, answer.value) => {
+            Err(format!("call by name gives {own:?}, the run {answer:?}"))
+        }
+        other => Ok(other.is_some()),
+    }
+}
+
+/// How many runs have the answers of the rule without remembering, in no more
+/// steps, or what differs.
+pub fn by_plain_rule(call: &Call, after: &After) -> Result<u64, String> {
+    let runs = own_runs(call, after);
+    let Some(file) = translation_of(call).filter(|_| !runs.is_empty()) else {
+        return Ok(0);
+    };
+    let mut ended = 0;
+    for run in &runs {
+        ended += run_by_plain_rule(&file, run)? as u64;
+    }
+    Ok(ended)
+}
+
+/// The translation that a call of a sheet runs.
+fn translation_of(call: &Call) -> Option<Translation> {
+    match call {
+        Call::Run { of, file, .. } | Call::Rows { of, file, .. } if of.is_some() => {
+            translation::read(&Correct, file).ok()
+        }
+        Call::Joined { sheet, .. } => {
+            let sheet = Correct.read_sheet(sheet).ok()?;
+            Some(translate(&Correct, &sheet, Labelling::EqualCalls))
+        }
+        _ => None,
+    }
+}
+
+/// Whether the rule without remembering ends within its allowances, which is
+/// then the run's end.
+fn run_by_plain_rule(file: &Translation, run: &OneRun) -> Result<bool, String> {
+    let parts = |answer: &Answer| (answer.outcome, answer.value, answer.node);
+    let (answer, plain) = (&run.answer, plain::run(file, run.readings, ENOUGH));
+    if !plain.is_own() {
+        return Ok(false);
+    }
+    if parts(answer) != parts(&plain) || answer.steps > plain.steps {
+        return Err(format!("without remembering {plain:?}, the run {answer:?}"));
+    }
+    Ok(true)
+}

@@ -1,0 +1,13 @@
+pub mod Contexts
+pub mod PlainReads
+pub mod PlainToLabels
+pub mod LabelsToPlain
+pub mod Unique
+pub mod Changes
+pub mod InOrder
+pub mod CellReads
+pub mod CellsToLabels
+pub mod LabelsToCells
+pub mod Stays
+pub mod Evaluations
+pub mod CellsKept

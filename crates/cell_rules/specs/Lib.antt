@@ -1,0 +1,4 @@
+pub mod Contexts
+pub mod PlainContexts
+pub mod InOrder
+pub mod Gives

@@ -1,0 +1,10 @@
+pub mod CellReads
+pub mod CellWrites
+pub mod Tuples
+pub mod Narrow
+pub mod NodeNumbers
+pub mod InOrder
+pub mod Lockstep
+pub mod Stands
+pub mod Good
+pub mod Runs

@@ -1,0 +1,20 @@
+-- `run::packed::is_value` meets its contract.
+use Rattle.run.proofs.Remembered.{told-value, told-other}
+use borrow.Author.Needs.{needs}
+use Rattle.run.proofs.packed.is_value.Statement.{statement}
+use Rattle.run.proofs.packed.is_value.Tie as tie
+use Rattle.run.proofs.packed.is_value.Reads as reads
+use Rattle.run.proofs.packed.is_value.Lts as lts
+use Rattle.run.proofs.node_table.kind_in.Reads as kind-in-reads
+
+kind-in-requires : tie.Need-kind-in-requires
+kind-in-requires c κs = search needs
+
+returns : tie.Need-returns
+returns c = told-value _ (c .before .kind-in .ensures) (c .if1 .taken)
+
+returns-2 : tie.Need-returns-2
+returns-2 c = told-other _ (c .before .kind-in .ensures) (c .if1 .left)
+
+pub is-value-spec : {M : Type 1} → statement M
+is-value-spec = tie.close (tie.spec kind-in-requires returns returns-2)

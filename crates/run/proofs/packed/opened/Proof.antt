@@ -1,0 +1,17 @@
+use borrow.Author.Needs.{needs}
+use Rattle.run.proofs.packed.opened.Statement.{statement}
+use Rattle.run.proofs.packed.opened.Tie as tie
+use Rattle.run.proofs.packed.opened.Reads as reads
+use Rattle.run.proofs.packed.opened.Lts as lts
+use Rattle.run.proofs.packed.outcome_in.Reads as outcome-in-reads
+
+-- src/packed.rt:81:18
+outcome-in-requires : tie.Need-outcome-in-requires
+outcome-in-requires c κs = search needs
+
+-- src/packed.rt:77:1
+returns : tie.Need-returns
+returns c = search needs
+
+pub opened-spec : {M : Type 1} → statement M
+opened-spec = tie.close (tie.spec outcome-in-requires returns)
