@@ -109,7 +109,8 @@ module _ (b : List ℕ) (rs : List ℤ) (cellsAllowed : ℕ) (N : Closed b rs) w
   rule-value steps nesting h = value-among h (rule-keeps steps nesting .proper)
 
 module _ (b : List ℕ) (rs : List ℤ) (cellsAllowed steps nesting : ℕ) where
-  pub rule-known : (isAnswer (endingOutcome b (ruleEnd b rs steps nesting cellsAllowed .ending) .outcome) || isStop (endingOutcome b (ruleEnd b rs steps nesting cellsAllowed .ending) .outcome)) ≡ true
+  pub rule-known : (isAnswer (endingOutcome b (ruleEnd b rs steps nesting cellsAllowed .ending) .outcome)
+      || isStop (endingOutcome b (ruleEnd b rs steps nesting cellsAllowed .ending) .outcome)) ≡ true
   rule-known = outcome-known b rs cellsAllowed (any-numbers b rs) (rule-keeps b rs cellsAllowed (any-numbers b rs) steps nesting .proper)
 
   cells-known : CellsKnown (any-numbers b rs .Number) cellsAllowed (ruleEnd b rs steps nesting cellsAllowed .state .store)

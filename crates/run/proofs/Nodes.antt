@@ -19,7 +19,6 @@ use Rattle.definitions.specs.Checks.{translationVerdict}
 use Rattle.definitions.specs.Rule.{reach}
 use Rattle.definitions.specs.declared.Layout.the-variants.{Translation}
 use Rattle.definitions.specs.declared.Verdict.the-variants.{Accepted}
-use Rattle.accepted.specs.Mention as Mention
 use Rattle.accepted.proofs.Owners.{body-below}
 use Rattle.accepted.proofs.Checks.{translation-shape}
 use Rattle.accepted.proofs.TranslationNames.{formal-below, translation-call-below, actual-below}

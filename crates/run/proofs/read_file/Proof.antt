@@ -4,11 +4,6 @@ use Rattle.run.proofs.Answering.{ready-by, indexed-by, read-refused, re
 use borrow.Author.Needs.{needs}
 use Rattle.run.proofs.read_file.Statement.{statement}
 use Rattle.run.proofs.read_file.Tie as tie
-use Rattle.run.proofs.read_file.Reads as reads
-use Rattle.run.proofs.read_file.Lts as lts
-use Rattle.format.proofs.translation.fill_translation.Reads as fill-translation-reads
-use Rattle.run.proofs.formal_places.fill_places.Reads as fill-places-reads
-use Rattle.run.proofs.node_table.fill_nodes.Reads as fill-nodes-reads
 
 fill-translation-requires : tie.Need-fill-translation-requires
 fill-translation-requires c κs = record { startsLength = refl; endsLength = refl }

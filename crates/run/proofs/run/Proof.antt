@@ -4,11 +4,6 @@ use borrow.Author.Needs.{needs}
 use Rattle.run.proofs.Answering.{file-refused, readable-by}
 use Rattle.run.proofs.run.Statement.{statement}
 use Rattle.run.proofs.run.Tie as tie
-use Rattle.run.proofs.run.Reads as reads
-use Rattle.run.proofs.run.Lts as lts
-use Rattle.answer.proofs.refused.Reads as refused-reads
-use Rattle.run.proofs.read_file.Reads as read-file-reads
-use Rattle.run.proofs.run_table.Reads as run-table-reads
 
 read-file-requires : tie.Need-read-file-requires
 read-file-requires c κs = search needs

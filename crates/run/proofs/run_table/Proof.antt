@@ -14,17 +14,6 @@ use Rattle.run.proofs.ReadingEntries.{nodes-kept, still-readable, readi
 use borrow.Author.Needs.{needs}
 use Rattle.run.proofs.run_table.Statement.{statement}
 use Rattle.run.proofs.run_table.Tie as tie
-use Rattle.run.proofs.run_table.Reads as reads
-use Rattle.run.proofs.run_table.Lts as lts
-use Rattle.allowances.proofs.allowed.Reads as allowed-reads
-use Rattle.answer.proofs.refused.Reads as refused-reads
-use Rattle.file_layout.proofs.layout.readings.Reads as readings-reads
-use Rattle.widths.proofs.wide.Reads as wide-reads
-use Rattle.run.proofs.answers.answered.Reads as answered-reads
-use Rattle.run.proofs.look_up.first_body.Reads as first-body-reads
-use Rattle.run.proofs.node_table.set_readings.Reads as set-readings-reads
-use Rattle.run.proofs.packed.opened.Reads as opened-reads
-use Rattle.run.proofs.visit.visit.Reads as visit-reads
 
 readings-requires : tie.Need-readings-requires
 readings-requires c κs = search needs

@@ -3,10 +3,6 @@ use Rattle.cells.proofs.Entries.{cell-added, cell-past}
 use borrow.Author.Needs.{needs}
 use Rattle.cells.proofs.cell.add_cell.Statement.{statement}
 use Rattle.cells.proofs.cell.add_cell.Tie as tie
-use Rattle.cells.proofs.cell.add_cell.Reads as reads
-use Rattle.cells.proofs.cell.add_cell.Lts as lts
-use Rattle.cells.proofs.cell.clear_entries.Reads as clear-entries-reads
-use Rattle.cells.proofs.cell.set_word.Reads as set-word-reads
 
 mul-at : tie.Need-mul-at
 mul-at c = search needs

@@ -3,11 +3,6 @@ use Rattle.cells.proofs.Entries.{callee-by}
 use borrow.Author.Needs.{needs}
 use Rattle.cells.proofs.cell.callee_at.Statement.{statement}
 use Rattle.cells.proofs.cell.callee_at.Tie as tie
-use Rattle.cells.proofs.cell.callee_at.Reads as reads
-use Rattle.cells.proofs.cell.callee_at.Lts as lts
-use Rattle.cells.proofs.cell.index.Reads as index-reads
-use Rattle.file_fields.proofs.bytes.word.Reads as word-reads
-use Rattle.widths.proofs.wide.Reads as wide-reads
 
 wide-requires : tie.Need-wide-requires
 wide-requires c κs = search needs

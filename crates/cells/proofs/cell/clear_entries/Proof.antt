@@ -4,8 +4,6 @@ use Rattle.cells.proofs.Entries.{Cleared, none-cleared, one-cleared, al
 use borrow.Author.Needs.{needs}
 use Rattle.cells.proofs.cell.clear_entries.Statement.{statement}
 use Rattle.cells.proofs.cell.clear_entries.Tie as tie
-use Rattle.cells.proofs.cell.clear_entries.Reads as reads
-use Rattle.cells.proofs.cell.clear_entries.Lts as lts
 
 abbrev Inv-loop : tie.InvT-loop
 Inv-loop b₀ at i₀ b i = Cleared b₀ at i b

@@ -4,8 +4,6 @@ use Rattle.file_fields.proofs.FieldWrites.{word-written}
 use borrow.Author.Needs.{needs}
 use Rattle.cells.proofs.cell.set_word.Statement.{statement}
 use Rattle.cells.proofs.cell.set_word.Tie as tie
-use Rattle.cells.proofs.cell.set_word.Reads as reads
-use Rattle.cells.proofs.cell.set_word.Lts as lts
 
 cast-b : tie.Need-cast-b
 cast-b c = search needs

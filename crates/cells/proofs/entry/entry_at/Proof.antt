@@ -3,10 +3,6 @@ use Rattle.cells.proofs.Entries.{entry-read, entry-past}
 use borrow.Author.Needs.{needs}
 use Rattle.cells.proofs.entry.entry_at.Statement.{statement}
 use Rattle.cells.proofs.entry.entry_at.Tie as tie
-use Rattle.cells.proofs.entry.entry_at.Reads as reads
-use Rattle.cells.proofs.entry.entry_at.Lts as lts
-use Rattle.cells.proofs.entry.entry_place.Reads as entry-place-reads
-use Rattle.file_fields.proofs.bytes.field_of.Reads as field-of-reads
 
 entry-place-requires : tie.Need-entry-place-requires
 entry-place-requires c κs = search needs
@@ -80,7 +76,8 @@ add-result-2 c = search needs
 returns : tie.Need-returns
 returns c =
     let inside = c .before .before .before .before .before .before .before .before .before in
-    entry-read _ _ _ (inside .before .entry-place .ensures) (inside .if1 .taken) (c .before .before .before .before .before .before .field-of .ensures) (c .before .before .before .field-of2 .ensures)
+    let second = c .before .before .before in
+    entry-read _ _ _ (inside .before .entry-place .ensures) (inside .if1 .taken) (second .before .before .before .field-of .ensures) (second .field-of2 .ensures)
     (c .field-of3 .ensures)
 
 returns-2 : tie.Need-returns-2

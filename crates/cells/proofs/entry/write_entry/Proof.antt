@@ -3,10 +3,6 @@ use Rattle.cells.proofs.Entries.{entry-written, entry-kept}
 use borrow.Author.Needs.{needs}
 use Rattle.cells.proofs.entry.write_entry.Statement.{statement}
 use Rattle.cells.proofs.entry.write_entry.Tie as tie
-use Rattle.cells.proofs.entry.write_entry.Reads as reads
-use Rattle.cells.proofs.entry.write_entry.Lts as lts
-use Rattle.cells.proofs.cell.set_word.Reads as set-word-reads
-use Rattle.cells.proofs.entry.entry_place.Reads as entry-place-reads
 
 entry-place-requires : tie.Need-entry-place-requires
 entry-place-requires c κs = search needs

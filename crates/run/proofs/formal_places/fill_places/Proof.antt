@@ -4,12 +4,6 @@ use Rattle.run.proofs.Places.{FillingPlaces, filling-begins, filling-be
 use borrow.Author.Needs.{needs}
 use Rattle.run.proofs.formal_places.fill_places.Statement.{statement}
 use Rattle.run.proofs.formal_places.fill_places.Tie as tie
-use Rattle.run.proofs.formal_places.fill_places.Reads as reads
-use Rattle.run.proofs.formal_places.fill_places.Lts as lts
-use Rattle.file_layout.proofs.layout.functions.Reads as functions-reads
-use Rattle.run.proofs.formal_places.parameter_count.Reads as parameter-count-reads
-use Rattle.run.proofs.formal_places.set_places.Reads as set-places-reads
-use Rattle.widths.proofs.wide.Reads as wide-reads
 
 abbrev Inv-loop : tie.InvT-loop
 Inv-loop places₀ b index count first₀ f₀ places first f = FillingPlaces b places count first f

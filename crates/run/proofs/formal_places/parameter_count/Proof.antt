@@ -3,12 +3,6 @@ use Rattle.run.proofs.Places.{count-read}
 use borrow.Author.Needs.{needs}
 use Rattle.run.proofs.formal_places.parameter_count.Statement.{statement}
 use Rattle.run.proofs.formal_places.parameter_count.Tie as tie
-use Rattle.run.proofs.formal_places.parameter_count.Reads as reads
-use Rattle.run.proofs.formal_places.parameter_count.Lts as lts
-use Rattle.file_layout.proofs.layout.first_function.Reads as first-function-reads
-use Rattle.file_records.proofs.records.field.Reads as field-reads
-use Rattle.file_records.proofs.records.indexed.Reads as indexed-reads
-use Rattle.widths.proofs.wide.Reads as wide-reads
 
 first-function-requires : tie.Need-first-function-requires
 first-function-requires c κs = search needs

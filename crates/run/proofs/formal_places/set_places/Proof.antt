@@ -4,9 +4,6 @@ use Rattle.run.proofs.Places.{SettingPlaces, setting-begins, setting-ro
 use borrow.Author.Needs.{needs}
 use Rattle.run.proofs.formal_places.set_places.Statement.{statement}
 use Rattle.run.proofs.formal_places.set_places.Tie as tie
-use Rattle.run.proofs.formal_places.set_places.Reads as reads
-use Rattle.run.proofs.formal_places.set_places.Lts as lts
-use Rattle.widths.proofs.wide.Reads as wide-reads
 
 abbrev Inv-loop : tie.InvT-loop
 Inv-loop places₀ f count first j₀ places j = SettingPlaces places₀ f count first places j

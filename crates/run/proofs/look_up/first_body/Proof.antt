@@ -3,11 +3,6 @@ use borrow.Author.Needs.{needs}
 use Rattle.run.proofs.LookUps.{first-count-least, first-body-reached}
 use Rattle.run.proofs.look_up.first_body.Statement.{statement}
 use Rattle.run.proofs.look_up.first_body.Tie as tie
-use Rattle.run.proofs.look_up.first_body.Reads as reads
-use Rattle.run.proofs.look_up.first_body.Lts as lts
-use Rattle.file_layout.proofs.layout.first_function.Reads as first-function-reads
-use Rattle.file_records.proofs.records.field.Reads as field-reads
-use Rattle.file_records.proofs.records.record.Reads as record-reads
 
 first-function-requires : tie.Need-first-function-requires
 first-function-requires c κs = search needs

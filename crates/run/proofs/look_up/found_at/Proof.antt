@@ -3,9 +3,6 @@ use borrow.Author.Needs.{needs}
 use Rattle.run.proofs.LookUps.{found-nothing, found-node}
 use Rattle.run.proofs.look_up.found_at.Statement.{statement}
 use Rattle.run.proofs.look_up.found_at.Tie as tie
-use Rattle.run.proofs.look_up.found_at.Reads as reads
-use Rattle.run.proofs.look_up.found_at.Lts as lts
-use Rattle.file_fields.proofs.bytes.field_of.Reads as field-of-reads
 
 shared-slice-read-field-of : tie.Need-shared-slice-read-field-of
 shared-slice-read-field-of c = search needs

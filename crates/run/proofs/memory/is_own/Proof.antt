@@ -3,9 +3,6 @@ use mathlib.Core.Path.{refl}
 use borrow.Author.Needs.{needs}
 use Rattle.run.proofs.memory.is_own.Statement.{statement}
 use Rattle.run.proofs.memory.is_own.Tie as tie
-use Rattle.run.proofs.memory.is_own.Reads as reads
-use Rattle.run.proofs.memory.is_own.Lts as lts
-use Rattle.cells.proofs.cell.callee_at.Reads as callee-at-reads
 
 callee-at-requires : tie.Need-callee-at-requires
 callee-at-requires c κs = search needs

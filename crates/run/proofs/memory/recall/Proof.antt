@@ -4,9 +4,6 @@ use Rattle.run.proofs.Remembered.{recalled-own, recalled-none}
 use borrow.Author.Needs.{needs}
 use Rattle.run.proofs.memory.recall.Statement.{statement}
 use Rattle.run.proofs.memory.recall.Tie as tie
-use Rattle.run.proofs.memory.recall.Reads as reads
-use Rattle.run.proofs.memory.recall.Lts as lts
-use Rattle.cells.proofs.entry.entry_at.Reads as entry-at-reads
 
 entry-at-requires : tie.Need-entry-at-requires
 entry-at-requires c κs = search needs

@@ -4,10 +4,6 @@ use Rattle.run.proofs.Remembered.{value-remembered, end-not-remembered,
 use borrow.Author.Needs.{needs}
 use Rattle.run.proofs.memory.remember.Statement.{statement}
 use Rattle.run.proofs.memory.remember.Tie as tie
-use Rattle.run.proofs.memory.remember.Reads as reads
-use Rattle.run.proofs.memory.remember.Lts as lts
-use Rattle.cells.proofs.entry.write_entry.Reads as write-entry-reads
-use Rattle.run.proofs.packed.is_value.Reads as is-value-reads
 
 is-value-requires : tie.Need-is-value-requires
 is-value-requires c κs = search needs

@@ -4,10 +4,6 @@ use Rattle.run.proofs.Outcomes.{number-as}
 use Rattle.run.proofs.ReadingEntries.{reading-at}
 use Rattle.run.proofs.node_table.reading.Statement.{statement}
 use Rattle.run.proofs.node_table.reading.Tie as tie
-use Rattle.run.proofs.node_table.reading.Reads as reads
-use Rattle.run.proofs.node_table.reading.Lts as lts
-use Rattle.widths.proofs.wide.Reads as wide-reads
-use Rattle.operators.proofs.bits.number_of.Reads as number-of-reads
 
 wide-requires : tie.Need-wide-requires
 wide-requires c κs = search needs

@@ -9,9 +9,6 @@ use borrow.Author.Needs.{needs}
 use Rattle.run.proofs.ReadingEntries.{SettingReadings, setting-begins, setting-goes-on, setting-ends}
 use Rattle.run.proofs.node_table.set_readings.Statement.{statement}
 use Rattle.run.proofs.node_table.set_readings.Tie as tie
-use Rattle.run.proofs.node_table.set_readings.Reads as reads
-use Rattle.run.proofs.node_table.set_readings.Lts as lts
-use Rattle.operators.proofs.bits.bits_of.Reads as bits-of-reads
 
 abbrev Inv-loop : tie.InvT-loop
 Inv-loop tab₀ readings i₀ tab i = SettingReadings tab₀ readings tab i

@@ -3,9 +3,6 @@ use Rattle.run.proofs.Remembered.{told-value, told-other}
 use borrow.Author.Needs.{needs}
 use Rattle.run.proofs.packed.is_value.Statement.{statement}
 use Rattle.run.proofs.packed.is_value.Tie as tie
-use Rattle.run.proofs.packed.is_value.Reads as reads
-use Rattle.run.proofs.packed.is_value.Lts as lts
-use Rattle.run.proofs.node_table.kind_in.Reads as kind-in-reads
 
 kind-in-requires : tie.Need-kind-in-requires
 kind-in-requires c κs = search needs

@@ -1,9 +1,6 @@
 use borrow.Author.Needs.{needs}
 use Rattle.run.proofs.packed.opened.Statement.{statement}
 use Rattle.run.proofs.packed.opened.Tie as tie
-use Rattle.run.proofs.packed.opened.Reads as reads
-use Rattle.run.proofs.packed.opened.Lts as lts
-use Rattle.run.proofs.packed.outcome_in.Reads as outcome-in-reads
 
 -- src/packed.rt:81:18
 outcome-in-requires : tie.Need-outcome-in-requires

@@ -5,12 +5,6 @@ use Rattle.run.proofs.Packing.{told-number, told-constructor, told-ende
 use borrow.Author.Needs.{needs}
 use Rattle.run.proofs.packed.outcome_in.Statement.{statement}
 use Rattle.run.proofs.packed.outcome_in.Tie as tie
-use Rattle.run.proofs.packed.outcome_in.Reads as reads
-use Rattle.run.proofs.packed.outcome_in.Lts as lts
-use Rattle.run.proofs.node_table.first_in.Reads as first-in-reads
-use Rattle.run.proofs.node_table.kind_in.Reads as kind-in-reads
-use Rattle.run.proofs.node_table.number_in.Reads as number-in-reads
-use Rattle.run.proofs.node_table.second_in.Reads as second-in-reads
 
 kind-in-requires : tie.Need-kind-in-requires
 kind-in-requires c κs = search needs

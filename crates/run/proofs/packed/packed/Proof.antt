@@ -3,10 +3,6 @@ use Rattle.run.proofs.Packing.{value-packed, ended-packed}
 use borrow.Author.Needs.{needs}
 use Rattle.run.proofs.packed.packed.Statement.{statement}
 use Rattle.run.proofs.packed.packed.Tie as tie
-use Rattle.run.proofs.packed.packed.Reads as reads
-use Rattle.run.proofs.packed.packed.Lts as lts
-use Rattle.run.proofs.node_table.entry_with.Reads as entry-with-reads
-use Rattle.run.proofs.packed.packed_value.Reads as packed-value-reads
 
 enum-known-o : tie.Need-enum-known-o
 enum-known-o c = search needs

@@ -5,10 +5,6 @@ use Rattle.run.proofs.Packing.{number-packed, constructor-packed}
 use borrow.Author.Needs.{needs}
 use Rattle.run.proofs.packed.packed_value.Statement.{statement}
 use Rattle.run.proofs.packed.packed_value.Tie as tie
-use Rattle.run.proofs.packed.packed_value.Reads as reads
-use Rattle.run.proofs.packed.packed_value.Lts as lts
-use Rattle.operators.proofs.bits.bits_of.Reads as bits-of-reads
-use Rattle.run.proofs.node_table.entry_with.Reads as entry-with-reads
 
 enum-known-v : tie.Need-enum-known-v
 enum-known-v c = search needs
