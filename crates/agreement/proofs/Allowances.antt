@@ -1,9 +1,9 @@
--- The rule at its allowances: an outcome that is no stop stays at all larger ones; with a label for each call it is the sheet's own,
--- and the sheet's own is reached. These two stand for visits from any state whose cells are in order first, then for the whole
+-- The rule at its allowances: an outcome that is no stop stays at all larger ones, and the rule without remembering has it in no fewer
+-- steps; with a label for each call it is the sheet's own, and the sheet's own is reached. These two stand for visits from any state whose cells are in order first, then for the whole
 -- evaluation.
 use mathlib.Core.Path.{_≡_, refl, sym, ap, _∙_}
 use mathlib.Core.Logic.{_↔_}
-use Prim.Native.Nat.{ℕ, _≤_}
+use Prim.Native.Nat.{ℕ, _-_, _≤_}
 use mathlib.Core.List.{List, []}
 use mathlib.Core.Bool.{false}
 use native.Mathlib.Omega.{arith}
@@ -16,6 +16,7 @@ use Rattle.definitions.specs.Checks.{sheetVerdict}
 use Rattle.definitions.specs.Labels.{neverShared}
 use Rattle.definitions.specs.Translate.{unsharedTranslation}
 use Rattle.definitions.specs.Rule.{Reached, visited}
+use Rattle.definitions.specs.PlainCells.{plainEvaluation}
 use Rattle.definitions.specs.Cells.{Cell, byCells, evaluation}
 use Rattle.definitions.specs.Run.{endingOutcome, ruleEnd}
 use Rattle.agreement.specs.Meaning.{Setting, End, Means, outcomeOf, OwnAnswer}
@@ -34,7 +35,7 @@ use Rattle.cell_rules.proofs.CellReads.{cellReads}
 use Rattle.cell_rules.proofs.CellsToLabels.{finds-all}
 use Rattle.cell_rules.proofs.LabelsToCells.{follows}
 use Rattle.cell_rules.proofs.Stays.{evaluation-stays}
-use Rattle.cell_rules.proofs.Evaluations.{stop-shown, same-outcomes}
+use Rattle.cell_rules.proofs.Evaluations.{stop-shown, same-outcomes, no-more-steps}
 use Rattle.agreement.specs.Answers.{ruleOutcome, plainOutcome, RuleGives, PlainGives}
 use Rattle.rule_laws.specs.Derivations.{depthOf, stepsOf, cellsOf}
 use Rattle.agreement.specs.Corresponds.{At, Visited}
@@ -62,6 +63,14 @@ module _ (t : List ℕ) (rs : List ℤ) where
   pub plain-gives-same : {a : Outcome} → isStop (a .outcome) ≡ false → RuleGives t rs a ↔ PlainGives t rs a
   unfolding ruleOutcome ruleEnd plainOutcome
   plain-gives-same h = same-outcomes t rs h
+
+  -- in no fewer steps
+  pub rule-no-more-steps : (steps nesting cellsAllowed steps′ nesting′ cellsAllowed′ : ℕ) → isStop (ruleOutcome t rs steps nesting cellsAllowed .outcome) ≡ false
+      → isStop (plainOutcome t rs steps′ nesting′ cellsAllowed′ .outcome) ≡ false
+      → steps - ruleEnd t rs steps nesting cellsAllowed .state .left ≤ steps′ - plainEvaluation t rs steps′ nesting′ cellsAllowed′ .state .left
+  unfolding ruleOutcome ruleEnd plainOutcome
+  rule-no-more-steps steps nesting cellsAllowed steps′ nesting′ cellsAllowed′ h g =
+      no-more-steps t rs steps nesting cellsAllowed steps′ nesting′ cellsAllowed′ (sym (stop-shown t _) ∙ h) (sym (stop-shown t _) ∙ g)
 
 -- a node's meaning with this outcome
 pub record MeansOutcome (b : List ℕ) (rs : List ℤ) (k : ℕ) (s : Setting) (a : Outcome) : Type 0 where

@@ -50,7 +50,7 @@ module _ (b : List ℕ) (rs : List ℤ) (cellsAllowed : ℕ) (N : Closed b rs) w
   abbrev known : Keeps b rs ℕ (List Cell)
   known =
       record {
-        Becomes = λ m n. CellsKnown (N .Number) cellsAllowed m → CellsKnown (N .Number) cellsAllowed n;
+        Becomes = λ x m n. CellsKnown (N .Number) cellsAllowed m → CellsKnown (N .Number) cellsAllowed n;
         stays = λ m h. h;
         onward = λ p q h. q (p h);
         At = λ m k w. CellsKnown (N .Number) cellsAllowed m;

@@ -18,37 +18,38 @@ use Rattle.definitions.specs.Rule.{Value, Ending, value, State, Reached, Visit,
 use Rattle.definitions.specs.Rule.{whereCell}
 use Rattle.definitions.specs.Cells.{Entry, Cell, newCell, cellOf, entryAt, withValue, keeping, remembered, recalled, whereOwn, underCell, formalByCells, withCell, callByCells, byCells}
 use Rattle.definitions.specs.declared.Layout.the-variants.{Translation}
+use Rattle.rule_laws.specs.Reads.{isValue}
 use Rattle.rule_laws.specs.Keeps.{Keeps, Proper, an-integer, a-constructor, an-end, Kept, Keeping, KeepingHooks}
-use Rattle.rule_laws.proofs.Keeps.{kept-here, kept-stop, kept-fault, kept-onward, kept-node, visit-keeps}
+use Rattle.rule_laws.proofs.Keeps.{kept-here, kept-stop, kept-fault, kept-ended, kept-onward, kept-node, visit-keeps}
 
 module _ {b : List ℕ} {rs : List ℤ} (K : Keeps b rs ℕ (List Cell)) (cellsAllowed : ℕ) where
-  open Keeps K using (Becomes, At, Built)
+  open Keeps K using (Becomes, onward, At, Built)
 
   -- what is owed: of a formal's actual under the tail, of what a cell remembers and comes to remember, and of a new cell
   pub record CellsKept : Type 0 where
-    pub built-onward : {m n : List Cell} {k w : ℕ} → Becomes m n → Built m k w → Built n k w
+    pub built-onward : {m n : List Cell} {k w : ℕ} → Becomes true m n → Built m k w → Built n k w
     pub actual-at : {m : List Cell} {k p c n : ℕ} {x : Cell} → translationNodeOf b k ≡ formal p → At m k (suc c) → getElem? m c ≡ some x
         → actual b p (x .label) ≡ some n → At m n (x .previous)
     pub recalled-proper : {m : List Cell} {k c : ℕ} {x : Cell} {v : Value ℕ} (i : ℕ) → At m k (suc c) → getElem? m c ≡ some x → entryAt x i ≡ some v
         → Proper K m (value v)
-    pub remembers : {m : List Cell} {v : Value ℕ} (w i : ℕ) → Proper K m (value v) → Becomes m (withValue w i v m)
+    pub remembers : {m : List Cell} {v : Value ℕ} (w i : ℕ) → Proper K m (value v) → Becomes true m (withValue w i v m)
     pub grows : {m : List Cell} {k l f w : ℕ} → translationNodeOf b k ≡ call l f → At m k w → length m < cellsAllowed
-        → Becomes m (m ++ (newCell l w f ∷ []))
+        → Becomes true m (m ++ (newCell l w f ∷ []))
     pub body-at : {m : List Cell} {k l f w : ℕ} → translationNodeOf b k ≡ call l f → At m k w → length m < cellsAllowed
         → At (m ++ (newCell l w f ∷ [])) (bodyOf Translation b f) (suc (length m))
 
   module _ (H : CellsKept) where
     memory-kept : {s : State (List Cell)} {r : Reached ℕ (List Cell)} (w i : ℕ) → Kept K s r → Kept K s (remembered w i r)
     unfolding remembered reach keeping
-    memory-kept {s} {r} w i g = kept-onward K (g .falls) (g .becomes) (from (g .proper))
+    memory-kept {s} {r} w i g = from (g .proper) (g .becomes)
       where
-        from : {e : Ending ℕ} → Proper K (r .state .store) e → Kept K (r .state) (reach e (keeping w i e (r .state)))
-        from (an-integer n) =
-            record { falls = le-refl (r .state .left); becomes = H .remembers w i (an-integer n); proper = an-integer n }
-        from (a-constructor x) =
+        from : {e : Ending ℕ} → Proper K (r .state .store) e → Becomes (isValue e) (s .store) (r .state .store) → Kept K s (reach e (keeping w i e (r .state)))
+        from (an-integer n) b =
+            record { falls = g .falls; becomes = onward b (H .remembers w i (an-integer n)); proper = an-integer n }
+        from (a-constructor x) b =
             let t = H .remembers w i (a-constructor x) in
-            record { falls = le-refl (r .state .left); becomes = t; proper = a-constructor (H .built-onward t x) }
-        from (an-end h) = kept-here K (r .state) (an-end h)
+            record { falls = g .falls; becomes = onward b t; proper = a-constructor (H .built-onward t x) }
+        from (an-end h) b = kept-ended K (g .falls) b h
 
     own-kept : (t : Bool) (w i : ℕ) (o : Entry) (s : State (List Cell)) {r : Reached ℕ (List Cell)} → ((v : Value ℕ) → o ≡ some v → Proper K (s .store) (value v))
         → Kept K s r → Kept K s (whereOwn t w i o s r)

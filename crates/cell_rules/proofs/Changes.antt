@@ -13,13 +13,13 @@ use Rattle.cell_rules.proofs.Contexts.{kept-all}
 some-one : {x y : Cell} → some x ≡ some y → x ≡ y
 some-one e = cc
 
-changed-there : (f : Cell → Cell) (cs : List Cell) (c : ℕ) {x : Cell} → getElem? cs c ≡ some x → getElem? (changed f cs c) c ≡ some (f x)
+pub changed-there : (f : Cell → Cell) (cs : List Cell) (c : ℕ) {x : Cell} → getElem? cs c ≡ some x → getElem? (changed f cs c) c ≡ some (f x)
 unfolding changed
 changed-there f [] c e = absurd (Option·none-ne-some _ e)
 changed-there f (y ∷ cs) zero e = ap (λ (z : Cell). some (f z)) (some-one e)
 changed-there f (y ∷ cs) (suc c) e = changed-there f cs c e
 
-changed-other : (f : Cell → Cell) (cs : List Cell) (c d : ℕ) → (d ≡ c → ⊥) → getElem? (changed f cs c) d ≡ getElem? cs d
+pub changed-other : (f : Cell → Cell) (cs : List Cell) (c d : ℕ) → (d ≡ c → ⊥) → getElem? (changed f cs c) d ≡ getElem? cs d
 unfolding changed
 changed-other f [] c d n = refl
 changed-other f (x ∷ cs) zero zero n = absurd (n refl)

@@ -1,8 +1,8 @@
 -- The whole evaluation, from no cells, against derivations, by the rule that remembers and by the one without: each is sound and complete,
--- so they give the same outcomes and values.
+-- so they give the same outcomes and values, and the one that remembers takes no more steps.
 use mathlib.Core.Path.{_≡_, refl, sym, ap, _∙_}
 use mathlib.Core.Logic.{_↔_}
-use Prim.Native.Nat.{ℕ, _≤_}
+use Prim.Native.Nat.{ℕ, _-_, _≤_}
 use mathlib.Core.List.{List, []}
 use mathlib.Core.Bool.{false}
 use native.Mathlib.Omega.{arith}
@@ -25,6 +25,7 @@ use Rattle.cell_rules.specs.Gives.{Gives}
 use Rattle.cell_rules.proofs.InOrder.{order-none}
 use Rattle.cell_rules.proofs.PlainReads.{plainReads}
 use Rattle.cell_rules.proofs.CellReads.{cellReads}
+use Rattle.cell_rules.proofs.Unique.{steps-one}
 use Rattle.cell_rules.proofs.PlainToLabels as PlainToLabels
 use Rattle.cell_rules.proofs.LabelsToPlain as LabelsToPlain
 use Rattle.cell_rules.proofs.CellsToLabels as CellsToLabels
@@ -107,3 +108,13 @@ module _ (t : List ℕ) (rs : List ℤ) where
 
   pub same-outcomes : {a : Outcome} → isStop (a .outcome) ≡ false → Gives outcomeOf a ↔ Gives plainOutcomeOf a
   same-outcomes h = (plain-gives h, remembering-gives h)
+
+  -- an evaluation that is not stopped takes no more steps than the rule without remembering, wherever that is not stopped
+  pub no-more-steps : (steps nesting cellsAllowed steps′ nesting′ cellsAllowed′ : ℕ)
+      → stopped (evaluation t rs steps nesting cellsAllowed .ending) ≡ false
+      → stopped (plainEvaluation t rs steps′ nesting′ cellsAllowed′ .ending) ≡ false
+      → steps - evaluation t rs steps nesting cellsAllowed .state .left ≤ steps′ - plainEvaluation t rs steps′ nesting′ cellsAllowed′ .state .left
+  no-more-steps steps nesting cellsAllowed steps′ nesting′ cellsAllowed′ h g =
+      let f = evaluation-found steps nesting cellsAllowed h .comes in
+      let p = plain-found steps′ nesting′ cellsAllowed′ g .comes in
+      omega (arith, steps-one (bodyOf Translation t 0) (f .visits) (p .visits), f .arrives .went .steps, p .arrives .went .steps)

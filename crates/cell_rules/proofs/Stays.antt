@@ -21,7 +21,8 @@ use Rattle.definitions.specs.declared.Layout.the-variants.{Translation}
 use Rattle.rule_laws.specs.Reads.{stateOf}
 use Rattle.rule_laws.specs.Found.{stopped}
 use Rattle.rule_laws.specs.SideBySide.{integers, constructors, ends, Both, cut, arrive, Beside}
-use Rattle.rule_laws.specs.Later.{later, same, moreSteps, LaterHooks}
+use Rattle.rule_laws.specs.SameNodes.{same}
+use Rattle.rule_laws.specs.Later.{later, moreSteps, LaterHooks}
 use Rattle.rule_laws.proofs.Lockstep.{both-back, both-here, both-due, due-itself}
 use Rattle.rule_laws.proofs.Later.{visit-later}
 

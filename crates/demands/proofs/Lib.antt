@@ -13,8 +13,10 @@ pub mod RunningRows
 pub mod MeetingRows
 pub mod OwnRows
 pub mod SingleRuns
+pub mod EndedRuns
 pub mod Demands
 pub mod Requests
 pub mod SharedLabels
 pub mod HiredTrailers
 pub mod RememberedValues
+pub mod VisitedOnce

@@ -105,7 +105,7 @@ module _ (b : List ℕ) (accepted : translationVerdict b ≡ Accepted) (bytes : 
   abbrev pub orderly : Keeps b rs ℕ (List Cell)
   orderly =
       record {
-        Becomes = Onward b cellsAllowed;
+        Becomes = λ x. Onward b cellsAllowed;
         stays = λ m. record { grown = le-refl (length m); order = λ o. o };
         onward = λ p q. record { grown = le-trans (p .grown) (q .grown); order = λ o. q .order (p .order o) };
         At = NodeUnder b cellsAllowed;

@@ -6,4 +6,6 @@ pub mod Lockstep
 pub mod Arrivals
 pub mod Found
 pub mod Reached
+pub mod SameNodes
 pub mod Later
+pub mod Mapped

@@ -1,10 +1,10 @@
 -- What every visit keeps, stopped or not, for any contexts: the steps left do not rise, the store becomes one that it may
--- become, and what comes out may come out.
+-- become, where the visit ends with a value and where it does not, and what comes out may come out.
 use mathlib.Core.Path.{_≡_}
 use Prim.Native.Nat.{ℕ, _≤_}
 use mathlib.Core.List.{List}
 use mathlib.Core.Option.{some}
-use mathlib.Core.Bool.{true}
+use mathlib.Core.Bool.{Bool, true}
 use lib.IntN.{ℤ, pos}
 use lib.ListN.{getElem?, getD}
 use Rattle.definitions.specs.Numbers.{isStop, isFault}
@@ -12,16 +12,17 @@ use Rattle.definitions.specs.Operators.{gives, computed}
 use Rattle.definitions.specs.TranslationNodes.{TranslationNode, number, formal, call, tuple, translationNodeOf, tagOf, tupleFields}
 use Rattle.definitions.specs.Rule.{Ending, value, ended, integer, constructor, State, Reached, Visit, Contexts, visited}
 use Rattle.accepted.specs.Mention.{Mention}
+use Rattle.rule_laws.specs.Reads.{isValue}
 
 -- what is to be kept: of stores, of the nodes that are visited, and of values and ends
 pub record Keeps (t : List ℕ) (rs : List ℤ) (C S : Type 0) : Type 1 where
-  -- a store may become another
-  pub Becomes : S → S → Type 0
-  pub stays : (m : S) → Becomes m m
-  pub onward : {m n q : S} → Becomes m n → Becomes n q → Becomes m q
+  -- a store may become another, in a visit that ends with a value or not; only after a value is anything else visited
+  pub Becomes : Bool → S → S → Type 0
+  pub stays : {x : Bool} (m : S) → Becomes x m m
+  pub onward : {x : Bool} {m n q : S} → Becomes true m n → Becomes x n q → Becomes x m q
   -- node k may be visited under this context
   pub At : S → ℕ → C → Type 0
-  pub at-onward : {m n : S} {k : ℕ} {c : C} → Becomes m n → At m k c → At n k c
+  pub at-onward : {m n : S} {k : ℕ} {c : C} → Becomes true m n → At m k c → At n k c
   pub at-mentioned : {m : S} {k n : ℕ} {c : C} {nd : TranslationNode} → translationNodeOf t k ≡ nd → Mention nd n → At m k c → At m n c
   -- a constructor, by node and context, that may come out
   pub Built : S → ℕ → C → Type 0
@@ -48,7 +49,7 @@ module _ {t : List ℕ} {rs : List ℤ} {C S : Type 0} (K : Keeps t rs C S) wher
   -- what is kept from a state to the end of a visit
   pub record Kept (s : State S) (r : Reached C S) : Type 0 where
     pub falls : r .state .left ≤ s .left
-    pub becomes : K .Becomes (s .store) (r .state .store)
+    pub becomes : K .Becomes (isValue (r .ending)) (s .store) (r .state .store)
     pub proper : Proper (r .state .store) (r .ending)
 
   -- a visit that keeps

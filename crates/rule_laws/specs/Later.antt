@@ -7,17 +7,11 @@ use lib.IntN.{ℤ}
 use Rattle.definitions.specs.Rule.{Ending, value, ended, State, Reached, Visit, Contexts, reach, numberDue, constructorDue}
 use Rattle.rule_laws.specs.Found.{stopped}
 use Rattle.rule_laws.specs.SideBySide.{SideBySide, Both, Beside}
+use Rattle.rule_laws.specs.SameNodes.{Made, sameNodes}
 
 -- the state with so many more steps left
 abbrev pub later : {S : Type 0} → ℕ → State S → State S
 later n s = record { left = s .left + n; store = s .store }
-
--- the same nodes, formals and calls, under the same contexts
-pub data Same {A C : Type 0} (a : A) (c : C) : A → C → Type 0 where
-  same : Same a c a c
-
-pub data SameCall {C : Type 0} (l f : ℕ) (c : C) : ℕ → ℕ → C → Type 0 where
-  same-call : SameCall l f c l f c
 
 module _ {C S : Type 0} where
   -- what is due from a visit that was stopped is stopped
@@ -32,28 +26,18 @@ module _ {C S : Type 0} where
   constructor-stopped (ended n) s go h = h
 
   -- in step until the first is stopped
-  abbrev pub moreSteps : ℕ → SideBySide C S C S
-  moreSteps n =
+  abbrev pub laterMade : ℕ → Made C S S
+  laterMade n =
       record {
-        World = State S;
-        here = λ w. w;
-        there = λ w. later n w;
-        Leads = λ w v. Unit {0};
-        stays = λ w. tt;
-        onward = λ p q. tt;
-        Steps = λ w v. Unit {0};
-        steps-lead = λ p. tt;
-        At = λ w k m c d. Same k c m d;
-        at-onward = λ l h. h;
-        Built = λ w k m c d. Same k c m d;
-        AtFormal = λ w p q c d. Same p c q d;
-        AtCall = λ w l f l′ f′ c d. SameCall l f c l′ f′ d;
+        made = later n;
         Nested = λ n m. n ≤ m;
-        Cut = λ w r q. stopped (r .ending) ≡ true;
-        cut-back = λ l h. h;
-        cut-number = λ {w} {r} go go′ h. number-stopped (r .ending) (r .state) go h;
-        cut-constructor = λ {w} {r} go go′ h. constructor-stopped (r .ending) (r .state) go h;
+        Cut = λ x. stopped x ≡ true;
+        cut-number = number-stopped;
+        cut-constructor = constructor-stopped;
       }
+
+  abbrev pub moreSteps : ℕ → SideBySide C S C S
+  moreSteps n = sameNodes (laterMade n)
 
   -- what the two places owe
   pub record LaterHooks (M M′ : Contexts C S) (n : ℕ) : Type 0 where

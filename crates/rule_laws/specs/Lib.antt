@@ -4,4 +4,6 @@ pub mod Derivations
 pub mod Reads
 pub mod Found
 pub mod Reached
+pub mod SameNodes
 pub mod Later
+pub mod Mapped

@@ -5,3 +5,4 @@ pub mod Orders
 pub mod EqualCalls
 pub mod ClosedReadings
 pub mod Remembering
+pub mod ActualVisits

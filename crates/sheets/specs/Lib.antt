@@ -7,3 +7,4 @@ pub mod Orders
 pub mod EqualCalls
 pub mod ClosedReadings
 pub mod Remembering
+pub mod ActualVisits

@@ -1,0 +1,13 @@
+pub mod Forgetting
+pub mod DistinctLists
+pub mod Remembered
+pub mod Leads
+pub mod ListedKept
+pub mod Numbered
+pub mod Avoiding
+pub mod SameChildren
+pub mod Placed
+pub mod Filled
+pub mod Once
+pub mod Noted
+pub mod AtMostOnce

@@ -1,0 +1,2 @@
+pub mod ListedVisits
+pub mod Distinct
