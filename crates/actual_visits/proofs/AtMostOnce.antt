@@ -20,6 +20,7 @@ use Rattle.definitions.specs.Rule.{Value, Ending, value, integer, constructor, 
 use Rattle.definitions.specs.Cells.{Cell, newCell, entryAt, keeping, withCell}
 use Rattle.definitions.specs.declared.Layout.the-variants.{Translation}
 use Rattle.definitions.specs.declared.Verdict.the-variants.{Accepted}
+use Rattle.laws.proofs.Cells.{added-length}
 use Rattle.accepted.proofs.Elements.{element-below}
 use Rattle.rule_laws.specs.Reads.{isValue}
 use Rattle.rule_laws.specs.Keeps.{Keeps, Proper, an-integer, a-constructor, an-end, Kept, Keeping}
@@ -29,7 +30,7 @@ use Rattle.actual_visits.specs.Distinct.{Distinct}
 use Rattle.actual_visits.specs.ListedVisits.{Listed, noneListed, listing, numbering, rememberedListed, byListed, everyPosition, listedEvaluation, listedEnd, actualVisits, cellsMade}
 use Rattle.actual_visits.proofs.Forgetting.{list-forgotten}
 use Rattle.actual_visits.proofs.ListedKept.{Asks, ListedKept, listed-keep}
-use Rattle.actual_visits.proofs.Numbered.{valued, cells-more}
+use Rattle.actual_visits.proofs.Numbered.{valued}
 use Rattle.actual_visits.proofs.Noted.{noted-good, noted-went}
 use Rattle.actual_visits.proofs.Avoiding.{avoiding, value-apart, visit-avoids}
 use Rattle.actual_visits.proofs.Placed.{placed-mentioned, placed-tuple, placed-field, formal-own, formal-position-below, actual-placed, body-placed, start-placed, BuiltPlaced}
@@ -136,13 +137,13 @@ module _ {same : Labelling} {b t : List ℕ} (accepted : sheetVerdict b ≡ Acce
     unfolding numbering withCell
     once-kept =
         record {
-          recalled-proper = λ i a e q. recalled-built i _ a e q;
+          recalled-proper = λ {v = v} i a e q. recalled-built i v a e q;
           own-kept = λ n ih s a own q. own-once n ih s a q;
           foreign-kept = λ n ih s a other. absurd (other (formal-own accepted reads (a .is) (a .at .placed) (a .there)));
-          grows = λ s e a h. went-unlisted same b (called-goes same b _ _ _ s (a .cell)) refl;
+          grows = λ {l = l} {f = f} {w = w} s e a h. went-unlisted same b (called-goes same b l w f s (a .cell)) refl;
           body-at = λ {k} {l} {f} {w} s e a h.
               let g = called-goes same b l w f s (a .cell) in
-              record { good = g .good (a .good); cell = omega (arith, cells-more (s .store .cells) (newCell l w f)); placed = body-placed accepted reads e (a .placed) };
+              record { good = g .good (a .good); cell = omega (arith, added-length (s .store .cells) (newCell l w f)); placed = body-placed accepted reads e (a .placed) };
         }
 
     -- the whole evaluation
@@ -166,20 +167,20 @@ module _ {same : Labelling} {b t : List ℕ} (accepted : sheetVerdict b ≡ Acce
 
 -- the bytes that the translator writes for an accepted sheet, at any allowances
 module _ (b : List ℕ) (accepted : sheetVerdict b ≡ Accepted) (rs : List ℤ) (steps nesting cellsAllowed : ℕ) where
-  abbrev reading : Reads (equalTrees b) b (translationBy (equalTrees b) b)
-  reading = translation-reads (equalTrees b) b accepted (equal-shares b)
+  abbrev reads : Reads (equalTrees b) b (translationBy (equalTrees b) b)
+  reads = translation-reads (equalTrees b) b accepted (equal-shares b)
 
   pub visits-distinct : Distinct (actualVisits (translation b) rs steps nesting cellsAllowed)
   unfolding translation
-  visits-distinct = distinct-visits accepted reading rs cellsAllowed steps nesting
+  visits-distinct = distinct-visits accepted reads rs cellsAllowed steps nesting
 
   pub visits-eightfold : length (actualVisits (translation b) rs steps nesting cellsAllowed) ≤ cellsMade (translation b) rs steps nesting cellsAllowed * mostFields
   unfolding translation
-  visits-eightfold = few-visits accepted reading rs cellsAllowed steps nesting
+  visits-eightfold = few-visits accepted reads rs cellsAllowed steps nesting
 
   -- no cell is used again, so the cells made are those that the rule ends with
   pub cells-made : cellsMade (translation b) rs steps nesting cellsAllowed ≡ length (ruleEnd (translation b) rs steps nesting cellsAllowed .state .store)
   unfolding translation
   cells-made =
-      made-cells accepted reading rs cellsAllowed steps nesting
+      made-cells accepted reads rs cellsAllowed steps nesting
       ∙ ap (λ (r : Reached ℕ (List Cell)). length (r .state .store)) (list-forgotten (translation b) rs steps nesting cellsAllowed)

@@ -1,7 +1,7 @@
 -- A visit under a context that does not lead to a cell lists no visit for that cell, and what comes out does not lead to it either: of
 -- any translation file, stopped or not.
 use mathlib.Core.Path.{_≡_, refl, sym, ap, _∙_}
-use mathlib.Core.Logic.{_⊎_, inl, inr}
+use mathlib.Core.Logic.{⊎-elim}
 use Prim.Native.Nat.{ℕ, suc, _≤_}
 use mathlib.Core.List.{List, [], _∷_, _++_, append-assoc, List·Memᴰ, List·Memᴰ·not-nil}
 use mathlib.Core.Option.{some}
@@ -9,16 +9,17 @@ use native.Mathlib.Omega.{arith}
 use native.Mathlib.Nat.{le-refl, le-trans}
 use lib.IntN.{ℤ}
 use lib.ListN.{length, getElem?}
+use Rattle.definitions.specs.FormalPlaces.{positionOf}
 use Rattle.definitions.specs.Rule.{Value, Ending, value, integer, constructor, State, Reached, reach, visited}
 use Rattle.definitions.specs.Cells.{Cell, newCell, entryAt, keeping, withCell}
-use Rattle.laws.proofs.Cells.{value-length}
+use Rattle.laws.proofs.Cells.{added-length, value-length}
 use Rattle.rule_laws.specs.Keeps.{Keeps, Proper, an-integer, a-constructor, an-end, Kept, Keeping}
 use Rattle.rule_laws.proofs.Keeps.{kept-ended, kept-onward}
 use Rattle.actual_visits.specs.ListedVisits.{ActualVisit, Listed, listing, numbering, rememberedListed, byListed, everyPosition, withCellListed}
 use Rattle.actual_visits.proofs.Leads.{Leads, here, back, through, ValueLeads, from, leads-added, leads-new, leads-value}
 use Rattle.actual_visits.proofs.ListedKept.{ListedKept, listed-keep}
 use Rattle.actual_visits.proofs.DistinctLists.{each-append, each-one}
-use Rattle.actual_visits.proofs.Numbered.{Numbered, serial-is-number, valued, numbered-value, cells-more, numbered-called}
+use Rattle.actual_visits.proofs.Numbered.{Numbered, serial-is-number, valued, numbered-listing, numbered-value, numbered-called}
 
 module _ (c : ℕ) where
   -- context w does not lead to cell c
@@ -93,15 +94,11 @@ module _ (c : ℕ) where
         record {
           grown = omega (arith, value-length (suc d) i v (m .cells));
           numbered = numbered-value d i v (value-within p);
-          apart = λ w h n l. led n (leads-value (m .cells) d i v l);
+          apart = λ w h n l. ⊎-elim n (λ g. value-apart p (g .1)) (leads-value (m .cells) d i v l);
           new = [];
           listed = refl;
           others = λ z i. absurd (List·Memᴰ·not-nil i);
         }
-      where
-        led : {w : ℕ} → ¬ (Leads (m .cells) c w) → Leads (m .cells) c w ⊎ (Leads (m .cells) (suc d) w × ValueLeads (m .cells) c v) → ⊥
-        led n (inl l) = n l
-        led n (inr g) = value-apart p (g .1)
 
     remembered-avoids : (d i : ℕ) {s : State Listed} {r : Reached ℕ Listed} → Kept avoiding s r → Kept avoiding s (rememberedListed (suc d) i r)
     unfolding rememberedListed keeping reach
@@ -120,7 +117,7 @@ module _ (c : ℕ) where
     listing-avoids d i s a =
         record {
           grown = le-refl (length (s .store .cells));
-          numbered = λ o. record { made = o .made; serials = o .serials; contained = o .contained };
+          numbered = numbered-listing (suc d) i s;
           apart = λ w h n. n;
           new = record { serial = _; position = i } ∷ [];
           listed = refl;
@@ -142,7 +139,7 @@ module _ (c : ℕ) where
     unfolding numbering withCell
     called-avoids label w f s a =
         record {
-          grown = omega (arith, cells-more (s .store .cells) (newCell label w f));
+          grown = omega (arith, added-length (s .store .cells) (newCell label w f));
           numbered = numbered-called label w f s (a .cell);
           apart = λ v h n l. n (leads-added (a .numbered .contained) (newCell label w f) l h);
           new = [];
@@ -153,17 +150,13 @@ module _ (c : ℕ) where
     body-apart : (label w f : ℕ) (s : State Listed) → Apart (s .store) w → Apart (withCellListed label w f s .store) (suc (length (s .store .cells)))
     unfolding numbering withCell
     body-apart label w f s a =
-        let more = cells-more (s .store .cells) (newCell label w f) in
+        let more = added-length (s .store .cells) (newCell label w f) in
         record {
           numbered = numbered-called label w f s (a .cell) (a .numbered);
           cell = omega (arith, more);
           made = omega (arith, more, a .made);
-          apart = λ l. led (leads-new (a .numbered .contained) label w f (a .cell) l refl);
+          apart = λ l. ⊎-elim (λ e. omega (arith, e, a .made)) (a .apart) (leads-new (a .numbered .contained) label w f (a .cell) l refl);
         }
-      where
-        led : (c ≡ suc (length (s .store .cells))) ⊎ Leads (s .store .cells) c w → ⊥
-        led (inl e) = omega (arith, e, a .made)
-        led (inr l) = a .apart l
 
     module _ (cellsAllowed : ℕ) where
       -- a formal's actual
@@ -178,11 +171,11 @@ module _ (c : ℕ) where
       avoiding-kept : ListedKept avoiding cellsAllowed
       avoiding-kept =
           record {
-            recalled-proper = λ i a e q. recalled-apart i _ a e q;
-            own-kept = λ n ih s a own q. remembered-avoids _ _ (actual-avoids n ih _ _ s (a .at) (a .there));
-            foreign-kept = λ n ih s a other. actual-avoids n ih _ _ s (a .at) (a .there);
-            grows = λ s e a h. called-avoids _ _ _ s a;
-            body-at = λ s e a h. body-apart _ _ _ s a;
+            recalled-proper = λ {v = v} i a e q. recalled-apart i v a e q;
+            own-kept = λ n ih {p = p} {c = d} {j = j} s a own q. remembered-avoids d (positionOf b p) (actual-avoids n ih (positionOf b p) j s (a .at) (a .there));
+            foreign-kept = λ n ih {p = p} {j = j} s a other. actual-avoids n ih (positionOf b p) j s (a .at) (a .there);
+            grows = λ {l = l} {f = f} {w = w} s e a h. called-avoids l w f s a;
+            body-at = λ {l = l} {f = f} {w = w} s e a h. body-apart l w f s a;
           }
 
       pub visit-avoids : (n : ℕ) → Keeping avoiding (visited (byListed b everyPosition cellsAllowed) b rs n)

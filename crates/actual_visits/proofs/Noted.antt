@@ -18,7 +18,7 @@ use Rattle.definitions.specs.declared.Verdict.the-variants.{Accepted}
 use Rattle.accepted.proofs.Elements.{element-below}
 use Rattle.shared_runs.specs.Reads.{Reads}
 use Rattle.actual_visits.specs.ListedVisits.{ActualVisit, Listed, listing}
-use Rattle.actual_visits.proofs.Numbered.{serial-is-number}
+use Rattle.actual_visits.proofs.Numbered.{serial-is-number, numbered-listing}
 use Rattle.actual_visits.proofs.Avoiding.{Avoids}
 use Rattle.actual_visits.proofs.Placed.{formal-position-below}
 use Rattle.actual_visits.proofs.Filled.{Filled}
@@ -53,7 +53,7 @@ module _ {same : Labelling} {b t : List ℕ} (accepted : sheetVerdict b ≡ Acce
         kept = g .kept;
         grown = g .grown;
         good = λ o. record {
-          numbered = record { made = o .numbered .made; serials = o .numbered .serials; contained = o .numbered .contained };
+          numbered = numbered-listing (suc d) (positionOf t p) s (o .numbered);
           acyclic = o .acyclic;
           full = o .full;
           built = o .built;

@@ -12,7 +12,7 @@ use Rattle.definitions.specs.Sizes.{mostFields}
 use Rattle.definitions.specs.Labels.{Labelling}
 use Rattle.definitions.specs.Rule.{Value, constructor, State}
 use Rattle.definitions.specs.Cells.{newCell, withValue, withCell}
-use Rattle.laws.proofs.Cells.{value-length}
+use Rattle.laws.proofs.Cells.{added-length, value-length}
 use Rattle.laws.proofs.CellBytes.{FullCells, none-full, full-added, full-value}
 use Rattle.cell_rules.specs.Contexts.{cellHeads, Kept}
 use Rattle.cell_rules.proofs.Contexts.{kept-all, kept-then, kept-added}
@@ -21,7 +21,7 @@ use Rattle.actual_visits.specs.Distinct.{Distinct, nothing}
 use Rattle.actual_visits.specs.ListedVisits.{ActualVisit, Listed, noneListed, numbering, withCellListed}
 use Rattle.actual_visits.proofs.Remembered.{Remembered, remembered-none, remembered-added, remembered-value}
 use Rattle.actual_visits.proofs.Leads.{ValueLeads, Acyclic, acyclic-added, acyclic-value}
-use Rattle.actual_visits.proofs.Numbered.{Numbered, valued, numbered-none, numbered-value, cells-more, numbered-called}
+use Rattle.actual_visits.proofs.Numbered.{Numbered, valued, numbered-none, numbered-value, numbered-called}
 use Rattle.actual_visits.proofs.Placed.{Placed, BuiltPlaced, placed-kept, built-kept}
 use Rattle.actual_visits.proofs.Filled.{Filled, filled-added, filled-value}
 use Rattle.actual_visits.proofs.DistinctLists.{each-append, distinct-append, Inside, inside-more}
@@ -66,7 +66,7 @@ module _ (same : Labelling) (b : List ℕ) where
       let kept : Kept cellHeads cs (cs ++ (x ∷ [])) = kept-added cs x in
       record {
         kept = kept;
-        grown = omega (arith, cells-more cs x);
+        grown = omega (arith, added-length cs x);
         good = λ g. record {
           numbered = numbered-called label w f s h (g .numbered);
           acyclic = acyclic-added (g .numbered .contained) label w f h (g .acyclic);

@@ -1,6 +1,6 @@
 -- The rule at its allowances: an outcome that is no stop stays at all larger ones, and the rule without remembering has it in no fewer
--- steps; with a label for each call it is the sheet's own, and the sheet's own is reached. These two stand for visits from any state whose cells are in order first, then for the whole
--- evaluation.
+-- steps; with a label for each call it is the sheet's own, and the sheet's own is reached. The last two stand for visits from any state
+-- whose cells are in order first, then for the whole evaluation.
 use mathlib.Core.Path.{_≡_, refl, sym, ap, _∙_}
 use mathlib.Core.Logic.{_↔_}
 use Prim.Native.Nat.{ℕ, _-_, _≤_}

@@ -3,7 +3,8 @@ use mathlib.Core.Path.{_≡_, refl, ap, subst}
 use Prim.Native.Nat.{ℕ, zero, suc}
 use mathlib.Core.List.{List, [], _∷_, _++_}
 use mathlib.Core.Option.{none, some, Option·none-ne-some}
-use lib.ListN.{length, getElem?, getD, set, replicate}
+use native.Mathlib.Omega.{arith}
+use lib.ListN.{length, getElem?, getD, set, replicate, length-append}
 use Rattle.definitions.specs.Sizes.{mostFields}
 use Rattle.definitions.specs.Rule.{Value}
 use Rattle.definitions.specs.Cells.{Entry, Cell, newCell, entryAt, withEntry, changed, withValue}
@@ -29,6 +30,10 @@ each-changed P f (x ∷ cs) zero h g zero y e = subst (P 0) (some-one e) (g x re
 each-changed P f (x ∷ cs) zero h g (suc c) y e = h (suc c) y e
 each-changed P f (x ∷ cs) (suc d) h g zero y e = h zero y e
 each-changed P f (x ∷ cs) (suc d) h g (suc c) y e = each-changed (λ n. P (suc n)) f cs d (λ n. h (suc n)) g c y e
+
+-- one cell more
+pub added-length : (cs : List Cell) (x : Cell) → length (cs ++ (x ∷ [])) ≡ suc (length cs)
+added-length cs x = omega (arith, length-append cs (x ∷ []))
 
 -- as many cells as before
 changed-length : (f : Cell → Cell) (cs : List Cell) (c : ℕ) → length (changed f cs c) ≡ length cs

@@ -15,7 +15,7 @@ use Rattle.definitions.specs.Cells.{Entry, Cell, newCell, withEntry, withValue,
 use Rattle.definitions.specs.declared.Layout.the-variants.{Translation}
 use Rattle.definitions.specs.declared.Verdict.the-variants.{Accepted}
 use Rattle.laws.proofs.ByteFiles.{Bytes}
-use Rattle.laws.proofs.Cells.{each-added, each-changed, each-entry, value-length, new-empty}
+use Rattle.laws.proofs.Cells.{each-added, each-changed, each-entry, added-length, value-length, new-empty}
 use Rattle.laws.proofs.CellBytes.{FullCells}
 use Rattle.accepted.proofs.Elements.{element-below}
 use Rattle.accepted.proofs.Owners.{body-below}
@@ -140,9 +140,6 @@ module _ (b : List ℕ) (accepted : translationVerdict b ≡ Accepted) (bytes : 
   value-onward {cs} {v} w i p =
       record { grown = omega (arith, value-length w i v cs); order = λ o. order-value o w i (proper-entry p) }
 
-  cell-more : (cs : List Cell) (x : Cell) → length (cs ++ (x ∷ [])) ≡ suc (length cs)
-  cell-more cs x = omega (arith, length-append cs (x ∷ []))
-
   orderly-cells : CellsKept orderly cellsAllowed
   orderly-cells =
       record {
@@ -153,14 +150,14 @@ module _ (b : List ℕ) (accepted : translationVerdict b ≡ Accepted) (bytes : 
         remembers = value-onward;
         grows = λ {m} {k} {l} {f} {w} e a h.
             record {
-              grown = omega (arith, cell-more m (newCell l w f));
+              grown = omega (arith, added-length m (newCell l w f));
               order = λ o. order-added o l w f h (a .cell) (call-label b bytes k l f e) (call-function b bytes k l f e);
             };
         body-at = λ {m} {k} {l} {f} {w} e a h.
             record {
               order = order-added (a .order) l w f h (a .cell) (call-label b bytes k l f e) (call-function b bytes k l f e);
               node = body-below Translation b (translation-shape b accepted) f (translation-call-below b accepted k (a .node) e);
-              cell = omega (arith, cell-more m (newCell l w f));
+              cell = omega (arith, added-length m (newCell l w f));
             };
       }
 
