@@ -11,7 +11,7 @@
  * Stack: a run takes less than 112 KiB, for an owner or a hirer, on one row of readings or on several and in the joined call, the
  * other calls less than 32 KiB. These bounds are measured, not proved. `bench` measures on files that nest in each way in which
  * visits can nest, to 1,024 open visits, and prints: a run 13,720 bytes, 96 more for each visit that stays open, 107,224 at nesting
- * 1,024; for a hirer 13,752 and 107,256; on several rows 13,768 and 107,272; the joined call 27,992 and 107,144; translating 19,208;
+ * 1,024; for a hirer 13,752 and 107,256; on several rows 13,768 and 107,272; the joined call 27,992 and 107,336; translating 19,208;
  * asking for a translation's length 16,648; listing a context 24, of one cell as of 960. Another build of the archive has to be
  * measured again.
  */
@@ -30,7 +30,7 @@ extern "C" {
 #define ZIFNORA_TRANSLATION_BYTES 40960u  /* a translation; a buffer of this length is always long enough */
 #define ZIFNORA_READINGS 32u              /* readings */
 #define ZIFNORA_NESTING 1024u             /* the nesting allowance, from 1 */
-#define ZIFNORA_CELLS 960u                /* the cell allowance, from 0 */
+#define ZIFNORA_CELLS 960u                /* the cell allowance, from 0: cells alive together */
 #define ZIFNORA_ROWS 16u                  /* rows of readings in one call, from 0 */
 #define ZIFNORA_CELL_BYTES 68u            /* lent for each cell */
 #define ZIFNORA_ENTRY_BYTES 8u            /* an entry of a cell */
@@ -100,7 +100,7 @@ enum zifnora_outcome {
   /* Stops: */
   ZIFNORA_NO_STEP = 11,    /* "steps" */
   ZIFNORA_NO_NESTING = 12, /* "nesting" */
-  ZIFNORA_NO_CELL = 13,    /* "cells" */
+  ZIFNORA_NO_CELL = 13,    /* "cells": as many are alive as are allowed */
   /* Run faults: */
   ZIFNORA_NUMBER_WANTED = 14,      /* "number wanted": an operand or a condition is a constructor */
   ZIFNORA_CONSTRUCTOR_WANTED = 15, /* "constructor wanted": a case or select on a number */
@@ -126,7 +126,11 @@ static inline int zifnora_is_fault(uint32_t outcome) {
  * parameter. An entry remembers the value of that parameter of the call that made the cell, once it was worked out: its kind (2),
  * then 4 bytes, then two zero bytes. The last two bytes of the eighth entry are no zero bytes but the number of the function that
  * was called, from the cell's making on. A call makes a cell with empty entries and writes all of its 68 bytes, so what they held
- * before does not count. */
+ * before does not count.
+ *
+ * When a call ends with a number, the cells made since that call, its own included, are given back and used again, lowest number
+ * first, unless during it a constructor was remembered in a cell older than the call (document 02, request 9). Giving back writes
+ * no byte. The allowance limits the cells that are alive together, made and not given back. */
 enum zifnora_entry_kind {
   ZIFNORA_ENTRY_EMPTY = 0,      /* four zero bytes */
   ZIFNORA_ENTRY_NUMBER = 1,     /* the number (4 bytes) */
@@ -146,7 +150,7 @@ struct zifnora_record {
   uint32_t steps;   /* steps taken */
   uint32_t node;    /* of a constructor, else 0 */
   uint32_t context; /* of a constructor, a cell's number, else 0 */
-  uint32_t cells;   /* cells made */
+  uint32_t cells;   /* the most cells alive together */
 };
 
 /* The number in two bytes, and in four. */
@@ -207,8 +211,8 @@ uint64_t zifnora_translate_and_run_slice(const uint8_t *sheet, size_t sheet_leng
  *
  * zifnora_decode_record reads the record. Bytes of `record` past 20 stay as they were.
  *
- * `cells` has ZIFNORA_CELL_BYTES bytes for each cell allowed, else the run is refused with 10. It starts with the cells made and
- * stays as it was past them; a refusal leaves it as it was. */
+ * `cells` has ZIFNORA_CELL_BYTES bytes for each cell allowed, else the run is refused with 10. It starts with as many cells as were
+ * alive together at most, given back or not, and stays as it was past them; a refusal leaves it as it was. */
 static inline uint64_t zifnora_run(const uint8_t *translation, size_t translation_length, const int32_t *readings,
                                    size_t readings_count, uint32_t steps, uint32_t nesting, uint32_t cells_allowed,
                                    uint8_t *cells, size_t cells_length, uint8_t *record, size_t record_length) {
@@ -250,7 +254,8 @@ static inline uint64_t zifnora_run_for_hirer(const uint8_t *translation, size_t 
  * with these allowances and cells is refused, then 8 where `records` has fewer than 20 bytes for each row. So no record has a
  * refusal.
  *
- * `cells` is as these runs leave it: each makes its cells from the first on, and past them it stays as the run before left it. */
+ * `cells` is as these runs leave it: each makes its cells from the first on, and past the most that were alive together it stays as
+ * the run before left it. */
 static inline uint64_t zifnora_run_rows(const uint8_t *translation, size_t translation_length, uint32_t rows,
                                         const int32_t *readings, size_t readings_count, uint32_t steps, uint32_t nesting,
                                         uint32_t cells_allowed, uint8_t *cells, size_t cells_length, uint8_t *records,

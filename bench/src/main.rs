@@ -3,6 +3,7 @@
 //! that the calls take.
 
 mod chains;
+mod largest;
 mod measure;
 mod nodes;
 mod pad;
@@ -31,8 +32,9 @@ fn subject() -> (&'static dyn Interface, &'static str) {
 type Table = fn(&dyn Interface);
 
 /// The tables, by the words that choose them.
-const TABLES: [(&str, Table); 5] = [
+const TABLES: [(&str, Table); 6] = [
     ("steps", tables::steps),
+    ("largest", largest::largest),
     ("sizes", tables::sizes),
     ("translations", tables::translations),
     ("rows", tables::rows),

@@ -11,6 +11,7 @@ use zifnora::sizes::{CELL_BYTES, MOST_CELLS, MOST_NESTING, MOST_ROWS, TRANSLATIO
 
 const BATCHES: usize = 50;
 const BATCH_NANOSECONDS: f64 = 2e6;
+const LONG_RUNS: usize = 3;
 
 /// Nanoseconds of one call of each work. The batches of the works take
 /// turns, so that a busy machine disturbs all of them alike.
@@ -135,6 +136,23 @@ pub fn run_cost(on: &dyn Interface, file: &[u8]) -> RunCost {
         step: (all - start) / steps,
         plain_step: plain_all / steps,
     }
+}
+
+/// Nanoseconds of a run, all of it, and of a plain one over decoded nodes: the
+/// least of a few.
+pub fn long_cost(on: &dyn Interface, file: &[u8]) -> [f64; 2] {
+    let program = decode(file, &accept(file).expect("accepted"));
+    let mut cells = lent_cells();
+    let mut best = [f64::INFINITY; 2];
+    for _ in 0..LONG_RUNS {
+        let begin = Instant::now();
+        black_box(interface_run(on, file, u32::MAX, &mut cells));
+        best[0] = best[0].min(begin.elapsed().as_nanos() as f64);
+        let begin = Instant::now();
+        black_box(run(&program, &[], greatest(u32::MAX), &mut cells));
+        best[1] = best[1].min(begin.elapsed().as_nanos() as f64);
+    }
+    best
 }
 
 /// Translates; the translation.

@@ -46,6 +46,11 @@ pub fn all() -> Vec<Benchmark> {
             inputs: down(12),
             program: sort,
         },
+        Benchmark {
+            name: "queens",
+            inputs: down(4),
+            program: queens,
+        },
     ]
 }
 
@@ -250,4 +255,52 @@ fn sort(input: i32) -> Program {
         vec![(NIL, cons(parameter(0), nil())), (CONS, place)],
     );
     lists(vec![(0, result), range, sum, (1, sort), (2, insert)])
+}
+
+/// The ways to put n queens on n columns, no two on a line: the rows of those
+/// placed are a list.
+///
+/// place k l = if k = 0 then 1 else row n k l
+/// row r k l = if r = 0 then 0
+///             else (if safe r 1 l then place (k-1) (r : l) else 0) + row (r-1) k l
+/// safe r d l = case l of [] -> 1
+///              h : t -> if r = h then 0 else if (r-h) * (r-h) = d * d then 0 else safe r (d+1) t
+fn queens(input: i32) -> Program {
+    let [r, k, l] = [0, 1, 2].map(parameter);
+    let place = if_else(
+        operator(EQUAL, parameter(0), number(0)),
+        number(1),
+        call(2, vec![number(input), parameter(0), parameter(1)]),
+    );
+    let put = call(1, vec![minus(k.clone(), 1), cons(r.clone(), l.clone())]);
+    let here = if_else(
+        call(3, vec![r.clone(), number(1), l.clone()]),
+        put,
+        number(0),
+    );
+    let row = if_else(
+        operator(EQUAL, r.clone(), number(0)),
+        number(0),
+        operator(ADD, here, call(2, vec![minus(r.clone(), 1), k, l.clone()])),
+    );
+    let apart = || operator(SUBTRACT, parameter(0), pattern(0));
+    let square = |part: Expr| operator(MULTIPLY, part.clone(), part);
+    let further = vec![
+        parameter(0),
+        operator(ADD, parameter(1), number(1)),
+        pattern(1),
+    ];
+    let beside = if_else(
+        operator(EQUAL, square(apart()), square(parameter(1))),
+        number(0),
+        call(3, further),
+    );
+    let clear = if_else(operator(EQUAL, r, pattern(0)), number(0), beside);
+    let safe = case(l, vec![(NIL, number(1)), (CONS, clear)]);
+    lists(vec![
+        (0, call(1, vec![number(input), nil()])),
+        (2, place),
+        (3, row),
+        (3, safe),
+    ])
 }

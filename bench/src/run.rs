@@ -1,7 +1,8 @@
 //! A plain Rust run to measure against, over nodes decoded before it starts;
-//! contexts are cells in the lent bytes, which remember the values of formals.
-//! A visit calls itself for operands, conditions, scrutinees, selected nodes and
-//! actuals whose value is remembered; its last visit is a loop's turn.
+//! contexts are cells in the lent bytes, which remember the values of formals
+//! and are given back after calls. A visit calls itself for operands,
+//! conditions, scrutinees, selected nodes, bodies of calls and actuals whose
+//! value is remembered; its last visit is a loop's turn.
 
 use crate::nodes::{Node, Operator, Program};
 use crate::plain::two_bytes;
@@ -33,10 +34,16 @@ struct Run<'a> {
     cells: &'a mut [u8],
     allowances: Allowances,
     steps: u32,
-    made: u32,
+    /// How many cells are alive, and the most that were alive together.
+    live: u32,
+    most: u32,
+    /// The oldest cell in which a constructor was remembered since the newest
+    /// open call, or the cell of that call where that is older.
+    oldest: u16,
 }
 
-/// How a run ended: outcome and value, steps taken, cells made.
+/// How a run ended: outcome and value, steps taken, the most cells alive
+/// together.
 #[derive(Clone, Copy, Debug, PartialEq, Eq)]
 pub struct Ended {
     pub outcome: u16,
@@ -54,7 +61,9 @@ pub fn run(program: &Program, readings: &[i32], allowances: Allowances, cells: &
         cells,
         allowances,
         steps: 0,
-        made: 0,
+        live: 0,
+        most: 0,
+        oldest: 0,
     };
     let (outcome, value) = match run.visit(program.body, 0, 1) {
         Ok(Value::Number(number)) => (numbers::NUMBER, number),
@@ -65,7 +74,7 @@ pub fn run(program: &Program, readings: &[i32], allowances: Allowances, cells: &
         outcome,
         value,
         steps: run.steps,
-        cells: run.made as u16,
+        cells: run.most as u16,
     }
 }
 
@@ -125,7 +134,10 @@ impl<'a> Run<'a> {
                     label,
                     function,
                     body,
-                } => (*body, self.cell(*label, context, *function)?),
+                } => {
+                    let cell = self.cell(*label, context, *function)?;
+                    return self.body(*body, cell, open);
+                }
                 Node::Case { scrutinee, clauses } => {
                     let (tuple, _) = self.tuple(*scrutinee, context, open)?;
                     (chosen(clauses, self.fields(tuple).0)?, context)
@@ -188,27 +200,42 @@ impl<'a> Run<'a> {
         Ok((*actual, tail))
     }
 
-    /// Adds a cell with empty entries; its number.
+    /// Visits the body of a call under its cell; after a number the cells made
+    /// since the call are given back, unless an older one remembers a
+    /// constructor since then.
+    fn body(&mut self, body: u16, cell: u16, open: u32) -> Result<Value, u16> {
+        let before = std::mem::replace(&mut self.oldest, cell);
+        let value = self.visit(body, cell, open + 1)?;
+        if matches!(value, Value::Number(_)) && cell <= self.oldest {
+            self.live = cell as u32 - 1;
+        }
+        self.oldest = self.oldest.min(before);
+        Ok(value)
+    }
+
+    /// One cell more, with empty entries; its number.
     fn cell(&mut self, label: u16, context: u16, function: u16) -> Result<u16, u16> {
-        if self.made == self.allowances.cells {
+        if self.live >= self.allowances.cells {
             return Err(numbers::NO_CELL);
         }
-        let cells = &mut self.cells[CELL_BYTES * self.made as usize..];
+        let cells = &mut self.cells[CELL_BYTES * self.live as usize..];
         let cell: &mut Cell = cells.first_chunk_mut().expect("a whole cell");
         *cell = [0; CELL_BYTES];
         cell[..2].copy_from_slice(&label.to_le_bytes());
         cell[2..FIRST_ENTRY].copy_from_slice(&context.to_le_bytes());
         cell[CALLEE..].copy_from_slice(&function.to_le_bytes());
-        self.made += 1;
-        Ok(self.made as u16)
+        self.live += 1;
+        self.most = self.most.max(self.live);
+        Ok(self.live as u16)
     }
 
     /// Writes the entry of a position, all but its last two bytes.
     fn remember(&mut self, context: u16, position: u16, value: Value) {
         let (kind, bytes) = match value {
             Value::Number(number) => (NUMBER, number.to_le_bytes()),
-            Value::Tuple { node, context } => {
-                let both = node as u32 | (context as u32) << 16;
+            Value::Tuple { node, context: own } => {
+                self.oldest = self.oldest.min(context);
+                let both = node as u32 | (own as u32) << 16;
                 (CONSTRUCTOR, both.to_le_bytes())
             }
         };

@@ -1,15 +1,14 @@
 //! What is printed.
 
 use crate::measure::{
-    agreed, greatest, lent_cells, plain_run, rows_cost, run_cost, translate_cost, translated,
-    MOST_RECORDS,
+    agreed, greatest, lent_cells, rows_cost, run_cost, translate_cost, translated, MOST_RECORDS,
 };
 use crate::plain::two_bytes;
 use crate::{chains, pad, programs, stack, templates};
 use compare::generate::{ceiling, damage::records, random::Random};
 use compare::interface::{count, Allowances, Interface};
 use compare::model::answer::{Answer, RECORD};
-use compare::model::{correct, plain as forgetful, translation, Correct};
+use compare::model::{correct, kept, plain as forgetful, translation, Correct};
 use zifnora::build_sheet::Program;
 use zifnora::numbers;
 use zifnora::sizes::{
@@ -37,15 +36,20 @@ fn without(file: &[u8]) -> Answer {
     forgetful::run(&read, &[], WITHOUT)
 }
 
-/// The greatest input whose run ends with a number within the limits, with and
-/// without remembering.
+/// The answer of the rule that keeps all cells.
+pub fn all_kept(file: &[u8]) -> Answer {
+    let read = translation::read(&Correct, file).expect("accepted");
+    kept::run(&read, &[], greatest(MOST_STEPS))
+}
+
+/// The greatest input whose run ends with a number within the limits, with all
+/// cells kept, and without remembering.
 fn fitting(benchmark: &programs::Benchmark) -> (i32, Program) {
-    let mut cells = lent_cells();
     for &input in &benchmark.inputs {
         let program = (benchmark.program)(input);
         let file = translated(correct(), &program.encode());
-        let ended = plain_run(&file, MOST_STEPS, &mut cells).outcome;
-        if [ended, without(&file).outcome] == [numbers::NUMBER; 2] {
+        let ends = [all_kept(&file), without(&file)].map(|answer| answer.outcome);
+        if ends == [numbers::NUMBER; 2] {
             return (input, program);
         }
     }
@@ -54,8 +58,8 @@ fn fitting(benchmark: &programs::Benchmark) -> (i32, Program) {
 
 /// The steps with and without remembering, and the cost of a step and of a run.
 pub fn steps(subject: &dyn Interface) {
-    println!("Programs of document 002, the greatest input that fits (nesting 1,024, cells 960)");
-    println!("and fits without remembering (nesting 1,024, cells 8,192)");
+    println!("Programs of document 002, the greatest input that fits with all cells kept (nesting");
+    println!("1,024, cells 960) and without remembering (nesting 1,024, cells 8,192)");
     print!("program   input  nodes  bytes      value  cells    steps  without: cells  steps  part");
     println!("   ns/step  plain  ratio    us/run");
     for benchmark in programs::all() {

@@ -1,9 +1,10 @@
 //! Compares one call: the answers and whole buffers of both sides, the answers
 //! of a translated sheet's runs with call by name, with those of the rule
 //! without remembering, and with those of the translation with a label for each
-//! call; a hirer's run with the same run on other closed readings, and with the
-//! owner's.
+//! call; every run with the same run that keeps all cells; a hirer's run with
+//! the same run on other closed readings, and with the owner's.
 
+use crate::all_kept::{by_kept_rule, Compared};
 use crate::call::{inner, After, Call};
 use crate::hired::{differing_with_closed, differing_with_owner};
 use crate::interface::{shown, Interface};
@@ -18,6 +19,7 @@ use std::fmt::Display;
 pub struct Yardsticks {
     pub call_by_name: bool,
     pub plain_rule: bool,
+    pub kept_rule: bool,
     pub old_labelling: bool,
     pub closed_readings: bool,
     pub owners_run: bool,
@@ -27,6 +29,7 @@ impl Yardsticks {
     pub const ALL: Yardsticks = Yardsticks {
         call_by_name: true,
         plain_rule: true,
+        kept_rule: true,
         old_labelling: true,
         closed_readings: true,
         owners_run: true,
@@ -35,6 +38,7 @@ impl Yardsticks {
     pub const NONE: Yardsticks = Yardsticks {
         call_by_name: false,
         plain_rule: false,
+        kept_rule: false,
         old_labelling: false,
         closed_readings: false,
         owners_run: false,
@@ -51,10 +55,11 @@ pub struct Difference {
 /// What the reference left of a call on which both sides agree.
 pub struct Agreed {
     pub after: After,
-    /// How many of its runs were compared with call by name, and with the rule
-    /// without remembering.
+    /// How many of its runs were compared with call by name, with the rule
+    /// without remembering, and with the rule that keeps all cells.
     pub by_name: u64,
     pub by_plain_rule: u64,
+    pub by_kept_rule: Compared,
     /// Whether the call was compared with one of the old labelling.
     pub old_labelling: bool,
 }
@@ -77,6 +82,7 @@ pub fn check(
         ours,
         by_name,
         by_plain_rule,
+        by_kept_rule,
     } = both(call, subject, reference, by).map_err(difference)?;
     let each = by.old_labelling.then(|| unshared(call)).flatten();
     if let Some(each) = &each {
@@ -101,6 +107,7 @@ pub fn check(
         after: ours,
         by_name,
         by_plain_rule,
+        by_kept_rule,
         old_labelling: each.is_some(),
     })
 }
@@ -111,10 +118,12 @@ struct Both {
     ours: After,
     by_name: u64,
     by_plain_rule: u64,
+    by_kept_rule: Compared,
 }
 
-/// What both sides left, if they agree with each other, with call by name and
-/// with the rule without remembering; else what differs.
+/// What both sides left, if they agree with each other, with call by name, with
+/// the rule without remembering and with the rule that keeps all cells; else
+/// what differs.
 fn both(
     call: &Call,
     subject: &dyn Interface,
@@ -128,9 +137,11 @@ fn both(
     }
     let by_name = by.call_by_name.then(|| by_name(call, &theirs));
     let by_plain_rule = by.plain_rule.then(|| by_plain_rule(call, &theirs));
+    let by_kept_rule = by.kept_rule.then(|| by_kept_rule(call, &theirs));
     Ok(Both {
         by_name: by_name.unwrap_or(Ok(0))?,
         by_plain_rule: by_plain_rule.unwrap_or(Ok(0))?,
+        by_kept_rule: by_kept_rule.unwrap_or(Ok(Compared::default()))?,
         theirs,
         ours,
     })

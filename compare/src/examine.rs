@@ -186,9 +186,9 @@ impl Examiner<'_> {
     }
 }
 
-/// Some of the cells that a run left, now and then damaged; it made cells in
-/// the first `made` bytes.
-fn some_cells(random: &mut Random, cells: &[u8], made: usize) -> Vec<u8> {
+/// Some of the cells that a run left, now and then damaged; it wrote cells in
+/// the first `written` bytes.
+fn some_cells(random: &mut Random, cells: &[u8], written: usize) -> Vec<u8> {
     let beyond = match random.below(4) {
         0 => 0,
         1 => random.below(3 * CELL_BYTES + 1),
@@ -196,8 +196,8 @@ fn some_cells(random: &mut Random, cells: &[u8], made: usize) -> Vec<u8> {
         _ => random.below(9),
     };
     let end = match random.below(5) {
-        0 => random.below(made + beyond + 1),
-        _ => made + beyond,
+        0 => random.below(written + beyond + 1),
+        _ => written + beyond,
     };
     let mut lent = cells[..end.min(cells.len())].to_vec();
     let whole = lent.len() / CELL_BYTES;

@@ -4,6 +4,7 @@
 //! share the numbers and kinds by name, the builder of sheets and two plain
 //! structs; the model reads, writes and decodes by itself.
 
+mod all_kept;
 #[cfg(feature = "archive")]
 pub mod archive;
 pub mod call;

@@ -61,7 +61,8 @@ fn run_by_name(sheet: &Sheet, run: &OneRun) -> Result<bool, String> {
 /// steps, or what differs.
 pub fn by_plain_rule(call: &Call, after: &After) -> Result<u64, String> {
     let runs = own_runs(call, after);
-    let Some(file) = translation_of(call).filter(|_| !runs.is_empty()) else {
+    let compared = call.sheet().is_some() && !runs.is_empty();
+    let Some(file) = compared.then(|| translation_of(call)).flatten() else {
         return Ok(0);
     };
     let mut ended = 0;
@@ -71,17 +72,17 @@ pub fn by_plain_rule(call: &Call, after: &After) -> Result<u64, String> {
     Ok(ended)
 }
 
-/// The translation that a call of a sheet runs.
-fn translation_of(call: &Call) -> Option<Translation> {
+/// The translation that a call runs.
+pub fn translation_of(call: &Call) -> Option<Translation> {
     match call {
-        Call::Run { of, file, .. } | Call::Rows { of, file, .. } if of.is_some() => {
+        Call::Run { file, .. } | Call::Rows { file, .. } | Call::Hirer { file, .. } => {
             translation::read(&Correct, file).ok()
         }
         Call::Joined { sheet, .. } => {
             let sheet = Correct.read_sheet(sheet).ok()?;
             Some(translate(&Correct, &sheet, Labelling::EqualCalls))
         }
-        _ => None,
+        Call::Translate { .. } | Call::Length { .. } | Call::List { .. } => None,
     }
 }
 

@@ -4,6 +4,7 @@
 use crate::check::{Difference, Yardsticks};
 use crate::examine::Examiner;
 use crate::faulty::listed::{all, AGAINST_LABELLING, AGAINST_MEANING};
+use crate::faulty::listed_giving::AGAINST_KEPT;
 use crate::faulty::listed_hirer::{AGAINST_CLOSED, AGAINST_OWNER};
 use crate::faulty::listed_remembering::AGAINST_PLAIN;
 use crate::faulty::Faulty;
@@ -86,6 +87,10 @@ pub fn selftest(subject: &dyn Interface, seed: u64) -> bool {
         plain_rule: true,
         ..Yardsticks::NONE
     };
+    let kept_rule = Yardsticks {
+        kept_rule: true,
+        ..Yardsticks::NONE
+    };
     let old_labelling = Yardsticks {
         old_labelling: true,
         ..Yardsticks::NONE
@@ -101,6 +106,7 @@ pub fn selftest(subject: &dyn Interface, seed: u64) -> bool {
     let alone = [
         ("call by name", call_by_name, AGAINST_MEANING),
         ("the rule without remembering", plain_rule, AGAINST_PLAIN),
+        ("the rule that keeps all cells", kept_rule, AGAINST_KEPT),
         ("the old labelling", old_labelling, AGAINST_LABELLING),
         ("other closed readings", closed_readings, AGAINST_CLOSED),
         ("the owner's run", owners_run, AGAINST_OWNER),

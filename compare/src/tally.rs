@@ -1,5 +1,6 @@
 //! Counts of what the compared calls answered, to show what was covered.
 
+use crate::all_kept::Compared;
 use crate::call::Call;
 use crate::check::Agreed;
 use crate::hired::{is_closed, is_pair};
@@ -27,6 +28,8 @@ pub struct Tally {
     pub own: u64,
     pub by_name: u64,
     pub by_plain_rule: u64,
+    /// Runs that were also compared with those that keep all cells.
+    pub by_kept_rule: Compared,
     /// Runs that were also compared with those of the old labelling.
     pub by_labelling: u64,
     /// Hirer's runs that were also compared with the owner's.
@@ -45,6 +48,7 @@ impl Default for Tally {
             own: 0,
             by_name: 0,
             by_plain_rule: 0,
+            by_kept_rule: Compared::default(),
             by_labelling: 0,
             by_owner: 0,
             pairs: [0; 2],
@@ -71,6 +75,7 @@ impl Tally {
         }
         self.by_name += agreed.by_name;
         self.by_plain_rule += agreed.by_plain_rule;
+        self.by_kept_rule.add(agreed.by_kept_rule);
         let mut number = refusal(after.code) as usize;
         for run in call.runs(after) {
             let outcome = run.answer.outcome as usize;
@@ -114,6 +119,12 @@ impl Tally {
             "  answers of sheets {}, compared with call by name {}, with the rule without remembering {}",
             self.own, self.by_name, self.by_plain_rule
         );
+        let Compared {
+            runs,
+            fewer,
+            further,
+        } = self.by_kept_rule;
+        println!("  runs compared with those that keep all cells {runs}, {fewer} of them with fewer cells, {further} that stop with 13 only where all are kept");
         println!(
             "  runs compared with those of the old labelling {}",
             self.by_labelling

@@ -52,7 +52,7 @@ static int show(const struct zifnora_record *answer) {
     return 1;
   }
   if (!zifnora_is_number(answer->outcome) && !zifnora_is_constructor(answer->outcome)) {
-    /* A stop and a run fault have no place; the steps and cells tell how far the run came. */
+    /* A stop and a run fault have no place; the steps tell how far the run came, the cells how many were alive together. */
     printf("%s %u steps %u cells %u\n", zifnora_is_stop(answer->outcome) ? "stopped" : "fault", answer->outcome, answer->steps,
            answer->cells);
     return 1;

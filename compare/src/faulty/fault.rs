@@ -1,5 +1,5 @@
-//! The deliberate faults; `listed.rs`, `listed_remembering.rs` and
-//! `listed_hirer.rs` have their descriptions.
+//! The deliberate faults; `listed.rs`, `listed_remembering.rs`,
+//! `listed_giving.rs` and `listed_hirer.rs` have their descriptions.
 
 #[derive(Clone, Copy, Debug, PartialEq, Eq)]
 pub enum Fault {
@@ -96,6 +96,22 @@ pub enum Fault {
     StopRemembered,
     ConstructorForgotten,
     NothingRemembered,
+    NothingGivenBack,
+    ConstructorGivesBack,
+    EndGivesBack,
+    OwnCellKept,
+    MostAfterGivingBack,
+    LiveAtEndCounted,
+    MadeCounted,
+    MadeLimited,
+    InnerForgotten,
+    OwnCellKeeps,
+    CellBelowForgotten,
+    ConstructorNeverKeeps,
+    NumberKeeps,
+    RecallKeeps,
+    GivenBackCleared,
+    EntriesUsedAgain,
     HirerSetIgnored,
     HirerSetShifted,
     HirerComplement,

@@ -1,8 +1,9 @@
 //! The deliberate faults, each with its description; those in what cells
-//! remember are in `listed_remembering.rs`, those in the run for a hirer in
-//! `listed_hirer.rs`.
+//! remember are in `listed_remembering.rs`, those in giving cells back in
+//! `listed_giving.rs`, those in the run for a hirer in `listed_hirer.rs`.
 
 use super::fault::Fault;
+use super::listed_giving::GIVING;
 use super::listed_hirer::HIRER;
 use super::listed_remembering::REMEMBERING;
 
@@ -40,6 +41,11 @@ pub const AGAINST_MEANING: &[Fault] = &[
     Fault::NextPosition,
     Fault::EntriesUsed,
     Fault::ContextForNode,
+    Fault::ConstructorGivesBack,
+    Fault::InnerForgotten,
+    Fault::CellBelowForgotten,
+    Fault::ConstructorNeverKeeps,
+    Fault::EntriesUsedAgain,
     Fault::BatchRowReadings,
     Fault::BatchRecordPlace,
 ];
@@ -49,7 +55,8 @@ pub const AGAINST_MEANING: &[Fault] = &[
 pub type Listed = (Fault, &'static str, u64);
 
 pub fn all() -> impl Iterator<Item = Listed> {
-    OWNER.iter().chain(REMEMBERING).chain(HIRER).copied()
+    let runs = OWNER.iter().chain(REMEMBERING).chain(GIVING);
+    runs.chain(HIRER).copied()
 }
 
 const OWNER: &[Listed] = &[

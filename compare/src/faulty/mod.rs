@@ -4,8 +4,10 @@
 
 mod batch;
 pub mod fault;
+mod giving;
 mod hirer;
 pub mod listed;
+pub mod listed_giving;
 pub mod listed_hirer;
 pub mod listed_remembering;
 mod reading;

@@ -1,10 +1,11 @@
 //! Faults in cells and in what they remember.
 
 use super::fault::Fault;
-use super::Faulty;
+use super::{giving, Faulty};
 use crate::model::cells::{
     self, Cell, Value, CALLEE, CELL_BYTES, ENTRIES, ENTRY_BYTES, FIRST_ENTRY,
 };
+use crate::model::live_cells::{self, LiveCells, OpenCall};
 use crate::model::records::two_bytes;
 use crate::model::run::Run;
 use crate::model::translation::{Node, Translation};
@@ -17,7 +18,51 @@ impl CellBehaviour for Faulty {
     fn new_cell(&self, run: &Run<Self>, cell: Cell) -> Cell {
         match self.0 {
             Fault::EntriesUsed => with_entries_before(run, cell),
+            Fault::EntriesUsedAgain => giving::with_entries_given_back(&run.cells, cell),
             _ => cell,
+        }
+    }
+
+    fn is_full(&self, cells: &LiveCells, allowed: u32) -> bool {
+        match self.0 {
+            Fault::MadeLimited => cells.made as u32 >= allowed,
+            _ => live_cells::is_full(cells, allowed),
+        }
+    }
+
+    fn count_opened(&self, cells: &mut LiveCells) {
+        if self.0 != Fault::MostAfterGivingBack {
+            cells.most = cells.most.max(cells.live);
+        }
+    }
+
+    fn close_call(&self, cells: &mut LiveCells, end: &Result<Value, u16>) {
+        live_cells::close_call(self, cells, end);
+        if self.0 == Fault::MostAfterGivingBack {
+            cells.most = cells.most.max(cells.live);
+        }
+    }
+
+    fn gives_back(&self, end: &Result<Value, u16>, call: OpenCall) -> bool {
+        giving::wrongly_gives_back(self.0, end, call)
+            .unwrap_or_else(|| live_cells::gives_back(end, call))
+    }
+
+    fn give_back(&self, cells: &mut LiveCells, call: OpenCall) {
+        live_cells::give_back(cells, call);
+        match self.0 {
+            Fault::OwnCellKept => cells.live += 1,
+            Fault::GivenBackCleared => giving::clear(cells),
+            _ => {}
+        }
+    }
+
+    fn cell_count(&self, cells: &LiveCells, end: &Result<Value, u16>) -> usize {
+        match self.0 {
+            Fault::MadeCounted => cells.made,
+            Fault::LiveAtEndCounted => cells.live,
+            Fault::EndGivesBack if end.is_err() => cells.live,
+            _ => cells.most,
         }
     }
 
@@ -46,9 +91,11 @@ impl CellBehaviour for Faulty {
         }
     }
 
-    fn recall(&self, run: &mut Run<Self>, value: Value) -> Value {
-        if self.0 == Fault::RememberedUncounted {
-            run.steps -= 1;
+    fn recall(&self, run: &mut Run<Self>, cell: u16, value: Value) -> Value {
+        match self.0 {
+            Fault::RememberedUncounted => run.steps -= 1,
+            Fault::RecallKeeps => live_cells::note_remembered(&mut run.cells, cell, value),
+            _ => {}
         }
         match (self.0, value) {
             (Fault::ContextForNode, Value::Tuple { context, .. }) if is_tuple(run, context) => {
@@ -89,6 +136,12 @@ impl CellBehaviour for Faulty {
             _ => cell.remember(position, value),
         }
     }
+
+    fn note_remembered(&self, cells: &mut LiveCells, cell: u16, value: Value) {
+        if !giving::wrongly_noted(self.0, cells, cell, value) {
+            live_cells::note_remembered(cells, cell, value);
+        }
+    }
 }
 
 fn is_tuple(run: &Run<Faulty>, node: u16) -> bool {
@@ -101,7 +154,7 @@ fn is_tuple(run: &Run<Faulty>, node: u16) -> bool {
 /// A new cell with the entries that its bytes had before.
 fn with_entries_before(run: &Run<Faulty>, cell: Cell) -> Cell {
     let mut cell = cell;
-    let at = CELL_BYTES * run.cells.len();
+    let at = CELL_BYTES * run.cells.live;
     let Some(before) = run.lent.get(at..at + CELL_BYTES) else {
         return cell;
     };
@@ -110,10 +163,12 @@ fn with_entries_before(run: &Run<Faulty>, cell: Cell) -> Cell {
         let [kind, low, high] = [0, 2, 4].map(|at| two_bytes(bytes, at));
         *entry = match kind {
             1 => Some(Value::Number((low as u32 | (high as u32) << 16) as i32)),
-            2 if is_tuple(run, low) && (high as usize) <= run.cells.len() => Some(Value::Tuple {
-                node: low,
-                context: high,
-            }),
+            2 if is_tuple(run, low) && (high as usize) <= run.cells.written.len() => {
+                Some(Value::Tuple {
+                    node: low,
+                    context: high,
+                })
+            }
             _ => None,
         };
     }

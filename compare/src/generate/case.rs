@@ -2,7 +2,9 @@
 //! odd files. A case depends on the seed and its number only.
 
 use super::random::Random;
-use super::{ceiling, damage, foreign, regroup, sheet, targeted, template, translation};
+use super::{
+    ceiling, damage, foreign, given_back, regroup, sheet, targeted, template, translation,
+};
 use crate::model::{Behaviour, Correct};
 use zifnora::sizes::{SHEET_BYTES, TRANSLATION_BYTES};
 
@@ -18,6 +20,8 @@ pub fn well_formed(seed: u64, number: u64) -> (Case, Random) {
         0 => ceiling::greatest(&mut random),
         1 | 2 => sheet::counting(&mut random),
         3..=22 => template::template(&mut random),
+        23..=32 => given_back::numbers(&mut random),
+        33..=48 => given_back::lists(&mut random),
         _ => sheet::sheet(&mut random),
     };
     (Case::Sheet(file), random)

@@ -5,6 +5,7 @@ pub mod ceiling;
 pub mod damage;
 pub mod expr;
 pub mod foreign;
+pub mod given_back;
 pub mod plan;
 pub mod random;
 pub mod regroup;

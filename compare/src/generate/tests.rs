@@ -2,11 +2,12 @@
 
 use super::case::{well_formed, Case};
 use super::random::Random;
-use super::{ceiling, foreign, regroup, sheet, template, translation};
+use super::{ceiling, foreign, given_back, regroup, sheet, template, translation};
+use crate::interface::Allowances;
 use crate::model::translate::{translate, Labelling};
 use crate::model::translation as read_translation;
-use crate::model::{Behaviour, Correct};
-use zifnora::numbers::BAD_TREE;
+use crate::model::{kept, Behaviour, Correct};
+use zifnora::numbers::{BAD_TREE, NO_CELL};
 use zifnora::sizes::{SHEET_BYTES, TRANSLATION_BYTES};
 
 #[test]
@@ -87,4 +88,32 @@ fn foreign_and_regrouped_translations_are_accepted() {
         let after = read_translation::read(&Correct, &file).expect("accepted");
         assert_eq!(after.formals, before.formals);
     }
+}
+
+#[test]
+fn runs_give_cells_back_and_keep_some() {
+    let allowances = Allowances {
+        steps: 40_000,
+        nesting: 1024,
+        cells: 960,
+    };
+    // How many runs have fewer cells than with all kept, and how many answer
+    // where that stops with 13.
+    let counts = |make: fn(&mut Random) -> Vec<u8>| {
+        let [mut fewer, mut further] = [0; 2];
+        for seed in 0..200 {
+            let file = make(&mut Random::new(seed));
+            let sheet = Correct.read_sheet(&file).expect("accepted");
+            let translation = Correct.translate(&sheet);
+            let answer = Correct.run_accepted(&translation, &[1, 2], allowances, &mut []);
+            let kept = kept::run(&translation, &[1, 2], allowances);
+            fewer += (answer.cells < kept.cells) as u32;
+            further += (kept.outcome == NO_CELL && answer.is_own()) as u32;
+        }
+        (fewer, further)
+    };
+    let (fewer, further) = counts(given_back::numbers);
+    assert!(fewer >= 150 && further >= 10, "{fewer} {further}");
+    let (fewer, further) = counts(given_back::lists);
+    assert!(fewer >= 100 && further >= 5, "{fewer} {further}");
 }

@@ -1,7 +1,9 @@
 //! The run without remembering, as document 01 has it: what is needed twice is
-//! worked out twice.
+//! worked out twice, and no cell is given back.
 
 use super::answer::Answer;
+use super::cells::Value;
+use super::live_cells::OpenCall;
 use super::translation::Translation;
 use super::{run, Behaviour, CellBehaviour};
 use crate::interface::Allowances;
@@ -16,6 +18,10 @@ impl CellBehaviour for Forgetful {
     }
 
     fn remembers(&self, _callee: u16, _function: u16) -> bool {
+        false
+    }
+
+    fn gives_back(&self, _end: &Result<Value, u16>, _call: OpenCall) -> bool {
         false
     }
 }

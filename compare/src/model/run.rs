@@ -2,6 +2,7 @@
 
 use super::answer::Answer;
 use super::cells::{Cell, Value, CELL_BYTES};
+use super::live_cells::LiveCells;
 use super::translation::{self, Node, Translation};
 use super::{Behaviour, Refusal};
 use crate::interface::Allowances;
@@ -21,10 +22,11 @@ pub struct Run<'a, B> {
     /// Function and position of each formal.
     places: Vec<(u16, u16)>,
     pub steps: u32,
-    pub cells: Vec<Cell>,
+    pub cells: LiveCells,
 }
 
-/// Runs a translation file; the cells made are left in the lent bytes.
+/// Runs a translation file; the cells that were alive are left in the lent
+/// bytes.
 pub fn run<B: Behaviour>(
     behaviour: &B,
     file: &[u8],
@@ -94,10 +96,10 @@ pub fn run_accepted<B: Behaviour>(
             .map(|formal| behaviour.place_of(translation, formal))
             .collect(),
         steps: 0,
-        cells: Vec::new(),
+        cells: LiveCells::default(),
     };
     let end = run.visit(translation.bodies[0], 0, 1);
-    behaviour.write_cells(&run.cells, run.lent);
+    behaviour.write_cells(&run.cells.written, run.lent);
     run.answer(end)
 }
 
@@ -122,7 +124,7 @@ impl<B: Behaviour> Run<'_, B> {
     fn answer(&self, end: Result<Value, u16>) -> Answer {
         let mut answer = Answer {
             steps: self.steps,
-            cells: self.cells.len() as u16,
+            cells: self.behaviour.cell_count(&self.cells, &end) as u16,
             ..Answer::default()
         };
         match end {
@@ -174,16 +176,19 @@ impl<B: Behaviour> Run<'_, B> {
         Ok(())
     }
 
-    /// One cell more, and the body under it.
+    /// One cell more, and the body under it; then cells may be given back.
     fn call(&mut self, label: u16, function: u16, context: u16, open: u32) -> Result<Value, u16> {
-        if self.cells.len() == self.allowances.cells as usize {
+        let behaviour = self.behaviour;
+        if behaviour.is_full(&self.cells, self.allowances.cells) {
             return Err(numbers::NO_CELL);
         }
-        let cell = Cell::new(label, context, function);
-        self.cells.push(self.behaviour.new_cell(self, cell));
-        let cell = self.cells.len() as u16;
+        let cell = behaviour.new_cell(self, Cell::new(label, context, function));
+        let cell = self.cells.open(cell);
+        behaviour.count_opened(&mut self.cells);
         let body = self.translation.bodies[function as usize];
-        self.visit(body, cell, open + 1)
+        let end = self.visit(body, cell, open + 1);
+        behaviour.close_call(&mut self.cells, &end);
+        end
     }
 
     /// Visits a node that has to give a number.
@@ -229,18 +234,19 @@ impl<B: Behaviour> Run<'_, B> {
             return Err(numbers::NO_ACTUAL);
         }
         let number = context as usize - 1;
-        let cell = self.cells[number];
+        let cell = self.cells.written[number];
         let (function, position) = self.places[formal as usize];
         let behaviour = self.behaviour;
         if behaviour.uses(cell.callee, function) {
             if let Some(value) = cell.remembered(position) {
-                return Ok(behaviour.recall(self, value));
+                return Ok(behaviour.recall(self, context, value));
             }
         }
         let end = self.actual(formal, context, open);
         match behaviour.worth_remembering(end) {
             Some(value) if behaviour.remembers(cell.callee, function) => {
-                behaviour.remember(&mut self.cells[number], position, value);
+                behaviour.remember(&mut self.cells.written[number], position, value);
+                behaviour.note_remembered(&mut self.cells, context, value);
             }
             _ => {}
         }
@@ -249,7 +255,7 @@ impl<B: Behaviour> Run<'_, B> {
 
     /// The actual that the head label names, under the tail.
     fn actual(&mut self, formal: u16, context: u16, open: u32) -> Result<Value, u16> {
-        let cell = self.cells[context as usize - 1];
+        let cell = self.cells.written[context as usize - 1];
         let actuals = &self.translation.formals[formal as usize];
         let Some(&actual) = actuals.get(cell.label as usize) else {
             return Err(numbers::NO_ACTUAL);

@@ -11,63 +11,66 @@ use lib.IntN.{ℤ}
 use lib.ListN.{length, getElem?}
 use Rattle.definitions.specs.FormalPlaces.{positionOf}
 use Rattle.definitions.specs.Rule.{Value, Ending, value, integer, constructor, State, Reached, reach, visited}
-use Rattle.definitions.specs.Cells.{Cell, newCell, entryAt, keeping, withCell}
+use Rattle.definitions.specs.Cells.{Cell, newCell, entryAt, remembered}
 use Rattle.laws.proofs.Cells.{added-length, value-length}
 use Rattle.rule_laws.specs.Keeps.{Keeps, Proper, an-integer, a-constructor, an-end, Kept, Keeping}
 use Rattle.rule_laws.proofs.Keeps.{kept-ended, kept-onward}
-use Rattle.actual_visits.specs.ListedVisits.{ActualVisit, Listed, listing, numbering, rememberedListed, byListed, everyPosition, withCellListed}
-use Rattle.actual_visits.proofs.Leads.{Leads, here, back, through, ValueLeads, from, leads-added, leads-new, leads-value}
-use Rattle.actual_visits.proofs.ListedKept.{ListedKept, listed-keep}
+use Rattle.given_back.specs.SerialCells.{ActualVisit, Account, SerialCells, listingSerial, keepingSerial, withSerialCell, bySerials}
+use Rattle.actual_visits.proofs.Leads.{Leads, here, back, through, ValueLeads, from, Contained, leads-added, leads-new, leads-value, contained-added, contained-value}
+use Rattle.actual_visits.proofs.SerialsKept.{valued, withAccount, SerialsKept, serials-keep}
 use Rattle.actual_visits.proofs.DistinctLists.{each-append, each-one}
-use Rattle.actual_visits.proofs.Numbered.{Numbered, serial-is-number, valued, numbered-listing, numbered-value, numbered-called}
 
 module _ (c : ℕ) where
   -- context w does not lead to cell c
-  pub record Apart (m : Listed) (w : ℕ) : Type 0 where
-    pub numbered : Numbered m
-    pub cell : w ≤ length (m .cells)
-    pub made : c ≤ length (m .cells)
-    pub apart : ¬ (Leads (m .cells) c w)
+  pub record Apart (cs : List Cell) (w : ℕ) : Type 0 where
+    pub contained : Contained cs
+    pub cell : w ≤ length cs
+    pub made : c ≤ length cs
+    pub apart : ¬ (Leads cs c w)
 
   -- what did not lead to cell c does not, and no visit is listed for it
-  pub record Avoids (m n : Listed) : Type 0 where
+  pub record Avoids (m n : SerialCells) : Type 0 where
     pub grown : length (m .cells) ≤ length (n .cells)
-    pub numbered : Numbered m → Numbered n
+    pub contained : Contained (m .cells) → Contained (n .cells)
     pub apart : (w : ℕ) → w ≤ length (m .cells) → ¬ (Leads (m .cells) c w) → ¬ (Leads (n .cells) c w)
     pub new : List ActualVisit
     pub listed : n .visits ≡ new ++ m .visits
     pub others : (z : ActualVisit) → List·Memᴰ z new → ¬ (z .serial ≡ c)
 
-  pub stays : (m : Listed) → Avoids m m
+  pub stays : (m : SerialCells) → Avoids m m
   stays m =
-      record { grown = le-refl (length (m .cells)); numbered = λ o. o; apart = λ w h n. n; new = []; listed = refl; others = λ z i. absurd (List·Memᴰ·not-nil i) }
+      record { grown = le-refl (length (m .cells)); contained = λ o. o; apart = λ w h n. n; new = []; listed = refl; others = λ z i. absurd (List·Memᴰ·not-nil i) }
 
-  pub onward : {m n q : Listed} → Avoids m n → Avoids n q → Avoids m q
+  pub onward : {m n q : SerialCells} → Avoids m n → Avoids n q → Avoids m q
   onward {m} f g =
       record {
         grown = le-trans (f .grown) (g .grown);
-        numbered = λ o. g .numbered (f .numbered o);
+        contained = λ o. g .contained (f .contained o);
         apart = λ w h n. g .apart w (le-trans h (f .grown)) (f .apart w h n);
         new = g .new ++ f .new;
         listed = g .listed ∙ ap (λ zs. g .new ++ zs) (f .listed) ∙ sym (append-assoc (g .new) (f .new) (m .visits));
         others = each-append (λ (z : ActualVisit). ¬ (z .serial ≡ c)) (g .new) (g .others) (f .others);
       }
 
-  pub apart-onward : {m n : Listed} {w : ℕ} → Avoids m n → Apart m w → Apart n w
+  pub apart-onward : {m n : SerialCells} {w : ℕ} → Avoids m n → Apart (m .cells) w → Apart (n .cells) w
   apart-onward {w} f a =
-      record { numbered = f .numbered (a .numbered); cell = le-trans (a .cell) (f .grown); made = le-trans (a .made) (f .grown); apart = f .apart w (a .cell) (a .apart) }
+      record { contained = f .contained (a .contained); cell = le-trans (a .cell) (f .grown); made = le-trans (a .made) (f .grown); apart = f .apart w (a .cell) (a .apart) }
+
+  -- whatever the account
+  avoids-with : {m n : SerialCells} (a : Account) → Avoids m n → Avoids m (withAccount a n)
+  avoids-with a f = record { grown = f .grown; contained = f .contained; apart = f .apart; new = f .new; listed = f .listed; others = f .others }
 
   module _ (b : List ℕ) (rs : List ℤ) where
-    abbrev pub avoiding : Keeps b rs ℕ Listed
+    abbrev pub avoiding : Keeps b rs ℕ SerialCells
     avoiding =
         record {
           Becomes = λ x. Avoids;
           stays = stays;
           onward = onward;
-          At = λ m k w. Apart m w;
-          at-onward = apart-onward;
+          At = λ m k w. Apart (m .cells) w;
+          at-onward = λ f a. apart-onward f a;
           at-mentioned = λ e g a. a;
-          Built = λ m k w. Apart m w;
+          Built = λ m k w. Apart (m .cells) w;
           built-tuple = λ e a. a;
           built-field = λ i e a. a;
           Number = λ z. Unit {0};
@@ -81,30 +84,30 @@ module _ (c : ℕ) where
         }
 
     -- a value that comes out
-    pub value-apart : {m : Listed} {v : Value ℕ} → Proper avoiding m (value v) → ¬ (ValueLeads (m .cells) c v)
+    pub value-apart : {m : SerialCells} {v : Value ℕ} → Proper avoiding m (value v) → ¬ (ValueLeads (m .cells) c v)
     value-apart (a-constructor a) (from l) = a .apart l
 
-    value-within : {m : Listed} {v : Value ℕ} → Proper avoiding m (value v) → (k u : ℕ) → v ≡ constructor k u → u ≤ length (m .cells)
+    value-within : {m : SerialCells} {v : Value ℕ} → Proper avoiding m (value v) → (k u : ℕ) → v ≡ constructor k u → u ≤ length (m .cells)
     value-within (an-integer n) k u e = absurd (let z : _≡_ {A = ℕ} 0 1 = cc in omega arith)
     value-within {m} (a-constructor {c = w} a) k u e = let z : w ≡ u = cc in rw z at (a .cell)
 
     -- and is remembered in some cell
-    valued-avoids : (d i : ℕ) {m : Listed} {v : Value ℕ} → Proper avoiding m (value v) → Avoids m (valued d i v m)
+    valued-avoids : (d i : ℕ) {m : SerialCells} {v : Value ℕ} → Proper avoiding m (value v) → Avoids m (valued d i v m)
     valued-avoids d i {m} {v} p =
         record {
           grown = omega (arith, value-length (suc d) i v (m .cells));
-          numbered = numbered-value d i v (value-within p);
+          contained = λ o. contained-value o d i v (value-within p);
           apart = λ w h n l. ⊎-elim n (λ g. value-apart p (g .1)) (leads-value (m .cells) d i v l);
           new = [];
           listed = refl;
           others = λ z i. absurd (List·Memᴰ·not-nil i);
         }
 
-    remembered-avoids : (d i : ℕ) {s : State Listed} {r : Reached ℕ Listed} → Kept avoiding s r → Kept avoiding s (rememberedListed (suc d) i r)
-    unfolding rememberedListed keeping reach
+    remembered-avoids : (d i : ℕ) {s : State SerialCells} {r : Reached ℕ SerialCells} → Kept avoiding s r → Kept avoiding s (remembered keepingSerial (suc d) i r)
+    unfolding remembered keepingSerial reach
     remembered-avoids d i {s} {r} g = by (g .proper) (g .becomes)
       where
-        by : {e : Ending ℕ} → Proper avoiding (r .state .store) e → Avoids (s .store) (r .state .store) → Kept avoiding s (rememberedListed (suc d) i (reach e (r .state)))
+        by : {e : Ending ℕ} → Proper avoiding (r .state .store) e → Avoids (s .store) (r .state .store) → Kept avoiding s (remembered keepingSerial (suc d) i (reach e (r .state)))
         by (an-integer n) f = record { falls = g .falls; becomes = onward f (valued-avoids d i (an-integer n)); proper = an-integer tt }
         by (a-constructor a) f =
             let o = valued-avoids d i (a-constructor a) in
@@ -112,71 +115,73 @@ module _ (c : ℕ) where
         by (an-end n) f = kept-ended avoiding (g .falls) f n
 
     -- a visit to an actual is listed for another cell
-    listing-avoids : (d i : ℕ) (s : State Listed) → Apart (s .store) (suc d) → Avoids (s .store) (listing (suc d) i s .store)
-    unfolding listing
+    listing-avoids : (d i : ℕ) (s : State SerialCells) → Apart (s .store .cells) (suc d) → Avoids (s .store) (listingSerial (suc d) i s .store)
+    unfolding listingSerial
     listing-avoids d i s a =
         record {
           grown = le-refl (length (s .store .cells));
-          numbered = numbered-listing (suc d) i s;
+          contained = λ o. o;
           apart = λ w h n. n;
-          new = record { serial = _; position = i } ∷ [];
+          new = record { serial = suc d; position = i } ∷ [];
           listed = refl;
-          others = each-one (λ (z : ActualVisit). ¬ (z .serial ≡ c)) (λ e. a .apart (rw (sym (serial-is-number (a .numbered) (suc d) (a .cell)) ∙ e) here));
+          others = each-one (λ (z : ActualVisit). ¬ (z .serial ≡ c)) (λ e. a .apart (rw e here));
         }
 
-    previous-apart : {m : Listed} {d : ℕ} {x : Cell} → Apart m (suc d) → getElem? (m .cells) d ≡ some x → Apart m (x .previous)
+    previous-apart : {cs : List Cell} {d : ℕ} {x : Cell} → Apart cs (suc d) → getElem? cs d ≡ some x → Apart cs (x .previous)
     previous-apart {d} {x} a e =
-        record { numbered = a .numbered; cell = a .numbered .contained .previous d x e; made = a .made; apart = λ l. a .apart (back e refl l) }
+        record { contained = a .contained; cell = a .contained .previous d x e; made = a .made; apart = λ l. a .apart (back e refl l) }
 
-    recalled-apart : {m : Listed} {d : ℕ} {x : Cell} (i : ℕ) (v : Value ℕ) → Apart m (suc d) → getElem? (m .cells) d ≡ some x → entryAt x i ≡ some v
+    recalled-apart : {m : SerialCells} {d : ℕ} {x : Cell} (i : ℕ) (v : Value ℕ) → Apart (m .cells) (suc d) → getElem? (m .cells) d ≡ some x → entryAt x i ≡ some v
         → Proper avoiding m (value v)
     recalled-apart i (integer z) a e q = an-integer tt
     recalled-apart {d} {x} i (constructor k u) a e q =
-        a-constructor (record { numbered = a .numbered; cell = a .numbered .contained .remembered d x e i k u q; made = a .made; apart = λ l. a .apart (through i e q l) })
+        a-constructor (record { contained = a .contained; cell = a .contained .remembered d x e i k u q; made = a .made; apart = λ l. a .apart (through i e q l) })
 
     -- a cell more
-    called-avoids : (label w f : ℕ) (s : State Listed) → Apart (s .store) w → Avoids (s .store) (withCellListed label w f s .store)
-    unfolding numbering withCell
+    called-avoids : (label w f : ℕ) (s : State SerialCells) → Apart (s .store .cells) w → Avoids (s .store) (withSerialCell label w f s .store)
+    unfolding withSerialCell
     called-avoids label w f s a =
         record {
           grown = omega (arith, added-length (s .store .cells) (newCell label w f));
-          numbered = numbered-called label w f s (a .cell);
-          apart = λ v h n l. n (leads-added (a .numbered .contained) (newCell label w f) l h);
+          contained = λ o. contained-added o label w f (a .cell);
+          apart = λ v h n l. n (leads-added (a .contained) (newCell label w f) l h);
           new = [];
           listed = refl;
           others = λ z i. absurd (List·Memᴰ·not-nil i);
         }
 
-    body-apart : (label w f : ℕ) (s : State Listed) → Apart (s .store) w → Apart (withCellListed label w f s .store) (suc (length (s .store .cells)))
-    unfolding numbering withCell
+    body-apart : (label w f : ℕ) (s : State SerialCells) → Apart (s .store .cells) w → Apart (withSerialCell label w f s .store .cells) (suc (length (s .store .cells)))
+    unfolding withSerialCell
     body-apart label w f s a =
         let more = added-length (s .store .cells) (newCell label w f) in
         record {
-          numbered = numbered-called label w f s (a .cell) (a .numbered);
+          contained = contained-added (a .contained) label w f (a .cell);
           cell = omega (arith, more);
           made = omega (arith, more, a .made);
-          apart = λ l. ⊎-elim (λ e. omega (arith, e, a .made)) (a .apart) (leads-new (a .numbered .contained) label w f (a .cell) l refl);
+          apart = λ l. ⊎-elim (λ e. omega (arith, e, a .made)) (a .apart) (leads-new (a .contained) label w f (a .cell) l refl);
         }
 
     module _ (cellsAllowed : ℕ) where
       -- a formal's actual
-      actual-avoids : (n : ℕ) → Keeping avoiding (visited (byListed b everyPosition cellsAllowed) b rs n) → {d : ℕ} {x : Cell} (i j : ℕ) (s : State Listed)
-          → Apart (s .store) (suc d) → getElem? (s .store .cells) d ≡ some x
-          → Kept avoiding s (visited (byListed b everyPosition cellsAllowed) b rs n j (x .previous) (listing (suc d) i s))
-      unfolding listing
+      actual-avoids : (n : ℕ) → Keeping avoiding (visited (bySerials b cellsAllowed) b rs n) → {d : ℕ} {x : Cell} (i j : ℕ) (s : State SerialCells)
+          → Apart (s .store .cells) (suc d) → getElem? (s .store .cells) d ≡ some x
+          → Kept avoiding s (visited (bySerials b cellsAllowed) b rs n j (x .previous) (listingSerial (suc d) i s))
+      unfolding listingSerial
       actual-avoids n ih {d} {x} i j s a e =
           let o = listing-avoids d i s a in
-          kept-onward avoiding (le-refl (s .left)) o (ih .keeps j (x .previous) (listing (suc d) i s) (apart-onward o (previous-apart a e)))
+          kept-onward avoiding (le-refl (s .left)) o (ih .keeps j (x .previous) (listingSerial (suc d) i s) (apart-onward o (previous-apart a e)))
 
-      avoiding-kept : ListedKept avoiding cellsAllowed
+      avoiding-kept : SerialsKept avoiding cellsAllowed
       avoiding-kept =
           record {
             recalled-proper = λ {v = v} i a e q. recalled-apart i v a e q;
             own-kept = λ n ih {p = p} {c = d} {j = j} s a own q. remembered-avoids d (positionOf b p) (actual-avoids n ih (positionOf b p) j s (a .at) (a .there));
             foreign-kept = λ n ih {p = p} {j = j} s a other. actual-avoids n ih (positionOf b p) j s (a .at) (a .there);
-            grows = λ {l = l} {f = f} {w = w} s e a h. called-avoids l w f s a;
-            body-at = λ {l = l} {f = f} {w = w} s e a h. body-apart l w f s a;
+            grows = λ {l = l} {f = f} {w = w} s e a. called-avoids l w f s a;
+            body-at = λ {l = l} {f = f} {w = w} s e a. body-apart l w f s a;
+            becomes-with = λ x f. avoids-with x f;
+            built-with = λ x a. a;
           }
 
-      pub visit-avoids : (n : ℕ) → Keeping avoiding (visited (byListed b everyPosition cellsAllowed) b rs n)
-      visit-avoids = listed-keep avoiding cellsAllowed avoiding-kept
+      pub visit-avoids : (n : ℕ) → Keeping avoiding (visited (bySerials b cellsAllowed) b rs n)
+      visit-avoids = serials-keep avoiding cellsAllowed avoiding-kept

@@ -11,7 +11,7 @@ use Rattle.definitions.specs.Sizes.{mostFields}
 use Rattle.definitions.specs.Lists.{joined}
 use Rattle.laws.proofs.Joined.{joined-split, joined-even}
 use Rattle.actual_visits.specs.Distinct.{Distinct, nothing, one-more}
-use Rattle.actual_visits.specs.ListedVisits.{ActualVisit}
+use Rattle.given_back.specs.SerialCells.{ActualVisit}
 
 module _ {A : Type 0} where
   -- what holds of each element of two lists, and of one element

@@ -3,7 +3,6 @@ use mathlib.Core.Path.{_≡_, refl, ap, _∙_}
 use Prim.Native.Nat.{ℕ, suc, _<_}
 use mathlib.Core.List.{List, _∷_, [], _++_}
 use mathlib.Core.Option.{none, some}
-use native.Mathlib.Omega.{arith}
 use native.Mathlib.Decide.{ℕ-discrete}
 use lib.ListN.{getElem?, getD, set}
 use lib.Seq.{getD-set-same, getD-set-other}
@@ -13,7 +12,7 @@ use Rattle.definitions.specs.Cells.{Cell, entryAt, withEntry, changed, withValu
 use Rattle.laws.proofs.CellBytes.{FullCells}
 use Rattle.accepted.proofs.Elements.{element-below, element-front}
 use Rattle.cell_rules.proofs.Changes.{changed-there, changed-other}
-use Rattle.actual_visits.specs.ListedVisits.{ActualVisit}
+use Rattle.given_back.specs.SerialCells.{ActualVisit}
 
 pub record Filled (cs : List Cell) (z : ActualVisit) : Type 0 where
   pub place : ℕ

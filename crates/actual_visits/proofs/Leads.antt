@@ -12,7 +12,7 @@ use Rattle.definitions.specs.Cells.{Cell, newCell, entryAt, withEntry, changed,
 use Rattle.laws.proofs.Cells.{each-added, each-changed, each-entry, value-length, new-empty}
 use Rattle.accepted.proofs.Elements.{element-front}
 use Rattle.cell_rules.proofs.Contexts.{element-added}
-use Rattle.actual_visits.proofs.Remembered.{Remembered, remembered-added, remembered-value}
+use Rattle.actual_visits.proofs.Remembered.{Remembered, remembered-none, remembered-added, remembered-value}
 
 -- to context c
 pub data Leads (cs : List Cell) (c : ℕ) : ℕ → Type 0 where
@@ -135,7 +135,10 @@ module _ (cs : List Cell) (d i : ℕ) (v : Value ℕ) where
             (λ c y e l. apart-then a n c y e (before l)) (λ x e l. apart-then a n d x e (before l));
       }
 
--- contexts stay those of cells
+-- contexts are those of cells, and stay so
+pub contained-none : Contained []
+contained-none = record { previous = λ c x e. absurd (Option·none-ne-some _ e); remembered = remembered-none (λ k u. u ≤ 0) }
+
 module _ {cs : List Cell} (contained : Contained cs) where
   pub contained-added : (label w f : ℕ) → w ≤ length cs → Contained (cs ++ (newCell label w f ∷ []))
   unfolding newCell

@@ -1,9 +1,7 @@
-pub mod Forgetting
 pub mod DistinctLists
 pub mod Remembered
 pub mod Leads
-pub mod ListedKept
-pub mod Numbered
+pub mod SerialsKept
 pub mod Avoiding
 pub mod SameChildren
 pub mod Placed

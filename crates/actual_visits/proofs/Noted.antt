@@ -16,20 +16,19 @@ use Rattle.definitions.specs.Rule.{State}
 use Rattle.definitions.specs.Cells.{Cell, entryAt}
 use Rattle.definitions.specs.declared.Verdict.the-variants.{Accepted}
 use Rattle.accepted.proofs.Elements.{element-below}
+use Rattle.given_back.specs.SerialCells.{ActualVisit, SerialCells, listingSerial}
 use Rattle.shared_runs.specs.Reads.{Reads}
-use Rattle.actual_visits.specs.ListedVisits.{ActualVisit, Listed, listing}
-use Rattle.actual_visits.proofs.Numbered.{serial-is-number, numbered-listing}
 use Rattle.actual_visits.proofs.Avoiding.{Avoids}
 use Rattle.actual_visits.proofs.Placed.{formal-position-below}
 use Rattle.actual_visits.proofs.Filled.{Filled}
 use Rattle.actual_visits.proofs.DistinctLists.{each-append, each-one, distinct-one, distinct-append, Inside, inside-more}
-use Rattle.actual_visits.proofs.Once.{Good, Goes, goes-here, goes-then, Went, AtNode}
+use Rattle.actual_visits.proofs.Once.{Goes, goes-then, Went, AtNode}
 
-module _ {same : Labelling} {b t : List ℕ} (accepted : sheetVerdict b ≡ Accepted) (reads : Reads same b t) (k p d : ℕ) (x : Cell) (s : State Listed)
-    (is : translationNodeOf t k ≡ formal p) (at : AtNode same b (s .store) k (suc d)) (there : getElem? (s .store .cells) d ≡ some x)
+module _ {same : Labelling} {b t : List ℕ} (accepted : sheetVerdict b ≡ Accepted) (reads : Reads same b t) (k p d : ℕ) (x : Cell) (s : State SerialCells)
+    (is : translationNodeOf t k ≡ formal p) (at : AtNode same b (s .store .cells) k (suc d)) (there : getElem? (s .store .cells) d ≡ some x)
     (empty : entryAt x (positionOf t p) ≡ none) where
-  abbrev pub noted : Listed
-  noted = listing (suc d) (positionOf t p) s .store
+  abbrev pub noted : SerialCells
+  noted = listingSerial (suc d) (positionOf t p) s .store
 
   abbrev pub note : ActualVisit
   note = record { serial = suc d; position = positionOf t p }
@@ -40,30 +39,6 @@ module _ {same : Labelling} {b t : List ℕ} (accepted : sheetVerdict b ≡ Acce
   below : positionOf t p < mostFields
   below = formal-position-below accepted reads is (at .placed)
 
-  noted-visits : noted .visits ≡ note ∷ s .store .visits
-  unfolding listing
-  noted-visits =
-      ap (λ (c : ℕ). record { serial = c; position = positionOf t p } ∷ s .store .visits) (serial-is-number (at .good .numbered) (suc d) made)
-
-  noted-goes : Goes same b (s .store) noted
-  unfolding listing
-  noted-goes =
-      let g = goes-here same b (s .store) in
-      record {
-        kept = g .kept;
-        grown = g .grown;
-        good = λ o. record {
-          numbered = numbered-listing (suc d) (positionOf t p) s (o .numbered);
-          acyclic = o .acyclic;
-          full = o .full;
-          built = o .built;
-        };
-        keeps = g .keeps;
-      }
-
-  pub noted-good : Good same b noted
-  noted-good = noted-goes .good (at .good)
-
   -- the note's entry is not filled before its actual is visited
   note-unfilled : ¬ (Filled (s .store .cells) note)
   note-unfilled f =
@@ -72,10 +47,11 @@ module _ {same : Labelling} {b t : List ℕ} (accepted : sheetVerdict b ≡ Acce
       Option·none-ne-some _ (sym empty ∙ ap (λ (y : Cell). entryAt y (positionOf t p)) (sym c) ∙ f .is)
 
   -- the actual's visit, and what comes of its end
-  module _ {y : Bool} {q q′ : Listed} (w : Went same b y noted q) (v : Avoids (suc d) noted q) (f : Goes same b q q′) (e : q′ .visits ≡ q .visits)
-      (held : y ≡ true → Filled (q′ .cells) note) where
-    all : Goes same b (s .store) q′
-    all = goes-then same b noted-goes (goes-then same b (w .goes) f)
+  module _ {y : Bool} {q : SerialCells} (q′ : SerialCells) (w : Went same b y noted q) (v : Avoids (suc d) noted q)
+      (f : Goes same b (q .cells) (q′ .cells)) (e : q′ .visits ≡ q .visits) (held : y ≡ true → Filled (q′ .cells) note) where
+    all : Goes same b (s .store .cells) (q′ .cells)
+    unfolding listingSerial
+    all = goes-then same b (w .goes) f
 
     not-again : (z : ActualVisit) → List·Memᴰ z (w .new) → ¬ (List·Memᴰ z (note ∷ []))
     not-again z i o =
@@ -86,13 +62,14 @@ module _ {same : Labelling} {b t : List ℕ} (accepted : sheetVerdict b ≡ Acce
     note-inside = record { place = d; counts = refl; made = omega (arith, made, all .grown); below = below }
 
     pub noted-went : Went same b y (s .store) q′
+    unfolding listingSerial
     noted-went =
         record {
           goes = all;
           new = w .new ++ (note ∷ []);
-          listed = e ∙ w .listed ∙ ap (λ zs. w .new ++ zs) noted-visits ∙ sym (append-assoc (w .new) (note ∷ []) (s .store .visits));
+          listed = e ∙ w .listed ∙ sym (append-assoc (w .new) (note ∷ []) (s .store .visits));
           distinct = distinct-append (w .new) (w .distinct) (distinct-one note) not-again;
-          unfilled = each-append (λ z. ¬ (Filled (s .store .cells) z)) (w .new) (λ z i h. w .unfilled z i (noted-goes .keeps z h)) (each-one _ note-unfilled);
+          unfilled = each-append (λ z. ¬ (Filled (s .store .cells) z)) (w .new) (w .unfilled) (each-one _ note-unfilled);
           inside = each-append (Inside (length (q′ .cells))) (w .new) (λ z i. inside-more (f .grown) (w .inside z i)) (each-one _ note-inside);
           filled = λ h. each-append (Filled (q′ .cells)) (w .new) (λ z i. f .keeps z (w .filled h z i)) (each-one _ (held h));
         }

@@ -1,2 +1,1 @@
-pub mod ListedVisits
 pub mod Distinct

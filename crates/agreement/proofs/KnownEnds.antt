@@ -2,9 +2,10 @@
 -- numbers that hold the file's literals and tags, the readings and what operators make of them; it makes no more cells than
 -- allowed, and each has its eight entries.
 use mathlib.Core.Path.{_≡_, refl}
-use Prim.Native.Nat.{ℕ, _≤_}
-use mathlib.Core.List.{List, []}
+use Prim.Native.Nat.{ℕ, suc, _≤_, _<_}
+use mathlib.Core.List.{List}
 use mathlib.Core.Bool.{true, _||_, or-true}
+use native.Mathlib.Omega.{arith}
 use lib.IntN.{ℤ, pos}
 use lib.ListN.{length, getD}
 use Rattle.definitions.specs.Numbers.{isStop, isFault, isAnswer}
@@ -12,16 +13,19 @@ use Rattle.definitions.specs.Layouts.{bodyOf}
 use Rattle.definitions.specs.Operators.{gives, computed}
 use Rattle.definitions.specs.Outcomes.{numberOutcome, constructorOutcome, endOutcome}
 use Rattle.definitions.specs.TranslationNodes.{number, translationNodeOf, tagOf}
-use Rattle.definitions.specs.Rule.{Value, Ending, value}
-use Rattle.definitions.specs.Cells.{Cell}
-use Rattle.definitions.specs.Cells.{evaluation}
+use Rattle.definitions.specs.Rule.{Value, constructor, Ending, value, State}
+use Rattle.definitions.specs.Cells.{newCell}
+use Rattle.definitions.specs.LiveCells.{LiveCells, noLiveCells, keepingLive, withLiveCell, liveAfter, closing, liveEvaluation}
 use Rattle.definitions.specs.Run.{endingOutcome, ruleEnd}
 use Rattle.definitions.specs.declared.Layout.the-variants.{Translation}
 use Rattle.laws.proofs.Classes.{fault-answer}
+use Rattle.laws.proofs.Cells.{value-length}
+use Rattle.laws.proofs.Written.{written-length}
+use Rattle.laws.proofs.LiveAfter.{live-after}
 use Rattle.laws.proofs.CellBytes.{FullCells}
 use Rattle.rule_laws.specs.Keeps.{Keeps, Proper, an-integer, a-constructor, an-end, Kept}
-use Rattle.cell_rules.proofs.CellsKept.{CellsKept, cells-keep}
-use Rattle.agreement.proofs.KnownCells.{Among, a-number, any-constructor, CellsKnown, none-known, added-known, value-known}
+use Rattle.cell_rules.proofs.LiveKept.{LiveKept, live-keep}
+use Rattle.agreement.proofs.KnownCells.{Among, a-number, any-constructor, LiveKnown, none-known, written-known, value-known}
 
 -- the number of an answer or a stop
 abbrev Known : ℕ → Type 0
@@ -46,17 +50,22 @@ any-numbers b rs =
     record { Number = λ z. Unit {0}; literals = λ k e. tt; readings = λ i. tt; tags = λ k. tt; operators = λ o p q e. tt }
 
 module _ (b : List ℕ) (rs : List ℤ) (cellsAllowed : ℕ) (N : Closed b rs) where
+  -- cells that are known stay so, and none is taken away
+  record StaysKnown (m n : LiveCells) : Type 0 where
+    grown : length (m .cells) ≤ length (n .cells)
+    known : LiveKnown (N .Number) cellsAllowed m → LiveKnown (N .Number) cellsAllowed n
+
   -- these numbers come out, any constructors, and the ends that are known; the cells stay known
-  abbrev known : Keeps b rs ℕ (List Cell)
+  abbrev known : Keeps b rs ℕ LiveCells
   known =
       record {
-        Becomes = λ x m n. CellsKnown (N .Number) cellsAllowed m → CellsKnown (N .Number) cellsAllowed n;
-        stays = λ m h. h;
-        onward = λ p q h. q (p h);
-        At = λ m k w. CellsKnown (N .Number) cellsAllowed m;
-        at-onward = λ g h. g h;
+        Becomes = λ x m n. StaysKnown m n;
+        stays = λ m. record { grown = omega arith; known = λ h. h };
+        onward = λ p q. record { grown = omega (arith, p .grown, q .grown); known = λ h. q .known (p .known h) };
+        At = λ m k w. LiveKnown (N .Number) cellsAllowed m;
+        at-onward = λ g h. g .known h;
         at-mentioned = λ e g h. h;
-        Built = λ m k w. CellsKnown (N .Number) cellsAllowed m;
+        Built = λ m k w. LiveKnown (N .Number) cellsAllowed m;
         built-tuple = λ e h. h;
         built-field = λ i e h. h;
         Number = N .Number;
@@ -70,36 +79,80 @@ module _ (b : List ℕ) (rs : List ℤ) (cellsAllowed : ℕ) (N : Closed b rs) w
       }
 
   -- a value that is remembered, and one that is used
-  proper-among : {m : List Cell} {v : Value ℕ} → Proper known m (value v) → Among (N .Number) v
+  proper-among : {m : LiveCells} {v : Value ℕ} → Proper known m (value v) → Among (N .Number) v
   proper-among (an-integer n) = a-number n
   proper-among (a-constructor c) = any-constructor
 
-  used-proper : {m : List Cell} {v : Value ℕ} → CellsKnown (N .Number) cellsAllowed m → Among (N .Number) v → Proper known m (value v)
+  used-proper : {m : LiveCells} {v : Value ℕ} → LiveKnown (N .Number) cellsAllowed m → Among (N .Number) v → Proper known m (value v)
   used-proper h (a-number n) = an-integer n
   used-proper h any-constructor = a-constructor h
 
-  cells-stay-known : CellsKept known cellsAllowed
-  cells-stay-known =
+  value-stays : {v : Value ℕ} (s : State LiveCells) (w i : ℕ) → Among (N .Number) v → StaysKnown (s .store) (keepingLive w i (value v) s .store)
+  unfolding keepingLive
+  value-stays {v} s w i a =
+      let e = value-length w i v (s .store .cells) in
       record {
-        built-onward = λ g h. g h;
-        actual-at = λ e h q f. h;
-        recalled-proper = λ {c = c} {x} {v} i h q f. used-proper h (h .among c i x v q f);
-        remembers = λ w i p h. value-known _ _ w i _ (proper-among p) h;
-        grows = λ e h room. added-known _ _ _ _ _ room;
-        body-at = λ e h room. added-known _ _ _ _ _ room h;
+        grown = omega (arith, e);
+        known = λ h. record { cells = value-known _ _ w i v a (h .cells); alive = omega (arith, e, h .alive) };
       }
 
-  rule-keeps : (steps nesting : ℕ) → Kept known (record { left = steps; store = [] }) (ruleEnd b rs steps nesting cellsAllowed)
-  unfolding ruleEnd evaluation
-  rule-keeps steps nesting = cells-keep known cellsAllowed cells-stay-known nesting .keeps (bodyOf Translation b 0) 0 _ (none-known (N .Number) cellsAllowed)
+  more-known : (s : State LiveCells) (l w f : ℕ) → s .store .live < cellsAllowed → LiveKnown (N .Number) cellsAllowed (s .store)
+      → LiveKnown (N .Number) cellsAllowed (withLiveCell l w f s .store)
+  unfolding withLiveCell
+  more-known s l w f room h =
+      record {
+        cells = written-known _ _ (s .store .live) l w f (h .alive) room (h .cells);
+        alive = omega (arith, written-length (s .store .cells) (s .store .live) (newCell l w f) (h .alive));
+      }
 
-  outcome-known : {m : List Cell} {e : Ending ℕ} → Proper known m e → Known (endingOutcome b e .outcome)
+  more-stays : (s : State LiveCells) (l w f : ℕ) → s .store .live < cellsAllowed → LiveKnown (N .Number) cellsAllowed (s .store)
+      → StaysKnown (s .store) (withLiveCell l w f s .store)
+  unfolding withLiveCell
+  more-stays s l w f room h =
+      record { grown = omega (arith, written-length (s .store .cells) (s .store .live) (newCell l w f) (h .alive)); known = more-known s l w f room }
+
+  -- what a call leaves
+  closed-stays : {m n : LiveCells} (e : Ending ℕ) → StaysKnown m n → StaysKnown m (closing m e n)
+  unfolding closing
+  closed-stays {m} {n} e s =
+      record {
+        grown = s .grown;
+        known = λ h.
+            let g = s .known h in
+            record { cells = g .cells; alive = live-after e (suc (m .live)) (n .oldest) (m .live) (n .live) (length (n .cells)) (omega (arith, h .alive, s .grown)) (g .alive) };
+      }
+
+  closed-known : (m : LiveCells) {n : LiveCells} (k w : ℕ) → LiveKnown (N .Number) cellsAllowed n → LiveKnown (N .Number) cellsAllowed (closing m (value (constructor k w)) n)
+  unfolding closing liveAfter
+  closed-known m k w h = record { cells = h .cells; alive = h .alive }
+
+  cells-stay-known : LiveKept known cellsAllowed
+  cells-stay-known =
+      record {
+        built-onward = λ g h. g .known h;
+        actual-at = λ e h q f. h;
+        recalled-proper = λ {c = c} {x} {v} i h q f. used-proper h (h .cells .among c i x v q f);
+        remembers = λ s w i p. value-stays s w i (proper-among p);
+        grows = λ {l = l} {f} {w} s e h room. more-stays s l w f room h;
+        body-at = λ {l = l} {f} {w} s e h room. more-known s l w f room h;
+        closes = λ e h g. closed-stays e g;
+        built-closed = λ {m} {j} {c} h g q. closed-known m j c q;
+      }
+
+  no-cells-known : LiveKnown (N .Number) cellsAllowed noLiveCells
+  no-cells-known = record { cells = none-known _ _; alive = omega arith }
+
+  rule-keeps : (steps nesting : ℕ) → Kept known (record { left = steps; store = noLiveCells }) (ruleEnd b rs steps nesting cellsAllowed)
+  unfolding ruleEnd liveEvaluation
+  rule-keeps steps nesting = live-keep known cellsAllowed cells-stay-known nesting .keeps (bodyOf Translation b 0) 0 _ no-cells-known
+
+  outcome-known : {m : LiveCells} {e : Ending ℕ} → Proper known m e → Known (endingOutcome b e .outcome)
   unfolding endingOutcome numberOutcome constructorOutcome endOutcome isAnswer
   outcome-known (an-integer z) = refl
   outcome-known (a-constructor t) = refl
   outcome-known (an-end h) = h
 
-  value-among : N .Number (pos 0) → {m : List Cell} {e : Ending ℕ} → Proper known m e → N .Number (endingOutcome b e .value)
+  value-among : N .Number (pos 0) → {m : LiveCells} {e : Ending ℕ} → Proper known m e → N .Number (endingOutcome b e .value)
   unfolding endingOutcome numberOutcome constructorOutcome endOutcome
   value-among h (an-integer n) = n
   value-among h (a-constructor {k} {c} t) = N .tags k
@@ -113,11 +166,11 @@ module _ (b : List ℕ) (rs : List ℤ) (cellsAllowed steps nesting : ℕ) where
       || isStop (endingOutcome b (ruleEnd b rs steps nesting cellsAllowed .ending) .outcome)) ≡ true
   rule-known = outcome-known b rs cellsAllowed (any-numbers b rs) (rule-keeps b rs cellsAllowed (any-numbers b rs) steps nesting .proper)
 
-  cells-known : CellsKnown (any-numbers b rs .Number) cellsAllowed (ruleEnd b rs steps nesting cellsAllowed .state .store)
-  cells-known = rule-keeps b rs cellsAllowed (any-numbers b rs) steps nesting .becomes (none-known _ cellsAllowed)
+  cells-known : LiveKnown (any-numbers b rs .Number) cellsAllowed (ruleEnd b rs steps nesting cellsAllowed .state .store)
+  cells-known = rule-keeps b rs cellsAllowed (any-numbers b rs) steps nesting .becomes .known (no-cells-known b rs cellsAllowed (any-numbers b rs))
 
-  pub rule-cells-allowed : length (ruleEnd b rs steps nesting cellsAllowed .state .store) ≤ cellsAllowed
-  rule-cells-allowed = cells-known .room
+  pub rule-cells-allowed : length (ruleEnd b rs steps nesting cellsAllowed .state .store .cells) ≤ cellsAllowed
+  rule-cells-allowed = cells-known .cells .room
 
-  pub rule-cells-full : FullCells (ruleEnd b rs steps nesting cellsAllowed .state .store)
-  rule-cells-full = cells-known .full
+  pub rule-cells-full : FullCells (ruleEnd b rs steps nesting cellsAllowed .state .store .cells)
+  rule-cells-full = cells-known .cells .full

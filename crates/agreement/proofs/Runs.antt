@@ -15,7 +15,7 @@ use Rattle.definitions.specs.Checks.{sheetVerdict}
 use Rattle.definitions.specs.Outcomes.{Outcome}
 use Rattle.definitions.specs.Trees.{equalTrees}
 use Rattle.definitions.specs.Translate.{translation}
-use Rattle.definitions.specs.Run.{Answer, endingOutcome, reachedAnswer, ruleAnswer, allowancesFit, refusal, runVerdict, answerAfter, runAnswer}
+use Rattle.definitions.specs.Run.{Answer, endingOutcome, answerAt, reachedAnswer, ruleAnswer, allowancesFit, refusal, runVerdict, answerAfter, runAnswer}
 use Rattle.agreement.specs.Meaning.{OwnAnswer}
 use Rattle.definitions.specs.declared.Verdict.{Verdict}
 use Rattle.definitions.specs.declared.Verdict.the-variants.{Accepted, Refused}
@@ -39,7 +39,7 @@ run-refusal t rs steps nesting cellsAllowed lent v = rw v refl
 -- the outcome and value of the rule's answer
 rule-answer : (t : List ℕ) (rs : List ℤ) (steps nesting cellsAllowed : ℕ)
     → answerOutcome (ruleAnswer t rs steps nesting cellsAllowed) ≡ ruleOutcome t rs steps nesting cellsAllowed
-unfolding answerOutcome ruleAnswer reachedAnswer ruleOutcome endingOutcome
+unfolding answerOutcome ruleAnswer reachedAnswer answerAt ruleOutcome endingOutcome
 rule-answer t rs steps nesting cellsAllowed = refl
 
 outcome-of : (a : Answer) → answerOutcome a .outcome ≡ a .outcome

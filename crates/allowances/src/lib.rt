@@ -6,7 +6,7 @@ use definitions::sizes::MOST_CELLS;
 use definitions::sizes::MOST_NESTING;
 use widths::wide32;
 
-// Whether the allowances are within their ceilings and the cells are lent: 4 bytes for each.
+// Whether the allowances are within their ceilings and the cells are lent: 68 bytes for each.
 pub fn allowed(nesting: u32, cells_allowed: u32, lent: usize) -> bool
     ensures { λ r. ⌜ r ≡ allowancesFit nesting «cells_allowed» lent ⌝ }
 {

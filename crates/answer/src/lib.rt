@@ -24,7 +24,7 @@ pub enum Outcome {
     Refused { number: u16, place: usize },
 }
 
-// The outcome, with the steps taken and the cells made.
+// The outcome, with the steps taken and the most cells alive together.
 pub struct Answer {
     pub outcome: Outcome,
     pub steps: u32,

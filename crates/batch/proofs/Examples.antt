@@ -1,6 +1,7 @@
--- What the promise says of one translation, byte by byte. Its first row makes two cells, its second row one.
---   result = if reading 0 then g(7) - g(2) else g(100)    nodes 0 to 8
---   g(a) = a + a                                          nodes 9 to 11
+-- What the promise says of one translation, byte by byte. Its first row makes three cells, of which at most two are alive together, its
+-- second row one.
+--   result = if reading 0 then g(7) - g(g(2)) else g(100)    nodes 0 to 9
+--   g(a) = a + a                                             nodes 10 to 12
 use mathlib.Core.Path.{_≡_, refl}
 use Prim.Native.Nat.{ℕ}
 use mathlib.Core.List.{List, [], _∷_, _++_}
@@ -27,6 +28,7 @@ use Rattle.definitions.specs.TranslationNodes
 use Rattle.definitions.specs.Rule
 use Rattle.definitions.specs.FormalPlaces
 use Rattle.definitions.specs.Cells
+use Rattle.definitions.specs.LiveCells
 use Rattle.definitions.specs.CellBytes
 use Rattle.definitions.specs.Run
 use Rattle.definitions.specs.AnswerRecord
@@ -61,11 +63,12 @@ unfolding
     Rule.reach Rule.withStep Rule.numberDue Rule.constructorDue Rule.nodeDue Rule.resultOf Rule.selected
     Rule.evaluated Rule.visited
     FormalPlaces.functionBy FormalPlaces.positionBy
-    Cells.newCell Cells.cellOf Cells.entryAt Cells.withEntry Cells.changed Cells.withValue Cells.keeping
-    Cells.remembered Cells.recalled Cells.whereOwn Cells.underCell Cells.formalByCells Cells.withCell Rule.whereCell
-    Cells.callByCells Cells.byCells Cells.evaluation
+    Cells.newCell Cells.cellOf Cells.entryAt Cells.withEntry Cells.changed Cells.withValue
+    Cells.remembered Cells.recalled Cells.whereOwn Cells.underCell Rule.whereCell
+    LiveCells.older LiveCells.keepingLive LiveCells.formalByLiveCells LiveCells.written LiveCells.withLiveCell LiveCells.liveAfter
+    LiveCells.closing LiveCells.closed LiveCells.callByLiveCells LiveCells.byLiveCells LiveCells.liveEvaluation
     CellBytes.entryWords CellBytes.lastWord CellBytes.entriesWords CellBytes.cellWords CellBytes.cellBytes
-    Run.endingOutcome Run.endingNode Run.endingContext Run.reachedAnswer Run.ruleEnd Run.ruleAnswer Run.ruleCells
+    Run.endingOutcome Run.endingNode Run.endingContext Run.answerAt Run.reachedAnswer Run.ruleEnd Run.ruleAnswer Run.ruleCells
     Run.refusal Run.runVerdict Run.answerAfter Run.runAnswer Run.cellsOver Run.bytesAfter Run.runCells
     AnswerRecord.answerWords AnswerRecord.answerBytes
     RunsInTurn.rowOf RunsInTurn.cellsInTurn RunsInTurn.answerInTurn RunsInTurn.recordsInTurn
@@ -75,34 +78,35 @@ opened = tt
 unfoldable pub translation : List ℕ
 translation =
     Bytes.bytesOf
-    (Translate.recordWords TranslationKinds.head (1 ∷ 1 ∷ 2 ∷ 12 ∷ [])
-    ++ Translate.recordWords TranslationKinds.function (9 ∷ 0 ∷ [])
+    (Translate.recordWords TranslationKinds.head (1 ∷ 1 ∷ 2 ∷ 13 ∷ [])
+    ++ Translate.recordWords TranslationKinds.function (10 ∷ 0 ∷ [])
     ++ Translate.recordWords TranslationKinds.function (3 ∷ 1 ∷ [])
-    ++ Translate.recordWords TranslationKinds.formalList (1 ∷ 3 ∷ 6 ∷ [])
+    ++ Translate.recordWords TranslationKinds.formalList (1 ∷ 3 ∷ 4 ∷ 7 ∷ [])
     ++ Translate.recordWords TranslationKinds.reading (0 ∷ [])
     ++ Translate.recordWords TranslationKinds.number (7 ∷ 0 ∷ [])
     ++ Translate.recordWords TranslationKinds.call (0 ∷ 1 ∷ [])
     ++ Translate.recordWords TranslationKinds.number (2 ∷ 0 ∷ [])
     ++ Translate.recordWords TranslationKinds.call (1 ∷ 1 ∷ [])
-    ++ Translate.recordWords TranslationKinds.operator (1 ∷ 2 ∷ 4 ∷ [])
-    ++ Translate.recordWords TranslationKinds.number (100 ∷ 0 ∷ [])
     ++ Translate.recordWords TranslationKinds.call (2 ∷ 1 ∷ [])
-    ++ Translate.recordWords TranslationKinds.conditional (0 ∷ 5 ∷ 7 ∷ [])
+    ++ Translate.recordWords TranslationKinds.operator (1 ∷ 2 ∷ 5 ∷ [])
+    ++ Translate.recordWords TranslationKinds.number (100 ∷ 0 ∷ [])
+    ++ Translate.recordWords TranslationKinds.call (3 ∷ 1 ∷ [])
+    ++ Translate.recordWords TranslationKinds.conditional (0 ∷ 6 ∷ 8 ∷ [])
     ++ Translate.recordWords TranslationKinds.formal (0 ∷ [])
     ++ Translate.recordWords TranslationKinds.formal (0 ∷ [])
-    ++ Translate.recordWords TranslationKinds.operator (0 ∷ 9 ∷ 10 ∷ []))
+    ++ Translate.recordWords TranslationKinds.operator (0 ∷ 10 ∷ 11 ∷ []))
 
 -- the bytes of a cell that a call of g made under the empty context, and which remembers a number below 65,536
 unfoldable pub cellOfG : ℕ → ℕ → List ℕ
 cellOfG label a = Bytes.bytesOf (label ∷ 0 ∷ 1 ∷ a ∷ replicate 29 0 ++ (1 ∷ []))
 
 -- what the runs in turn are on the readings 1 and 0, in three cells that held 170s, with room for 41 bytes: the second run makes one cell,
--- of label 2, and the first run's second cell, of label 1, stays past it with what it remembers
+-- of label 3, and the first run's second cell, of label 1, stays past it with what it remembers
 pub record TwoRows (r : Written) (after room′ : List ℕ) : Type 0 where
   pub answer : r ≡ answers.Length 40
-  pub cells : after ≡ cellOfG 2 100 ++ cellOfG 1 2 ++ replicate 68 170
-  -- the numbers 10 after 13 steps with 2 cells, and 200 after 7 steps with 1 cell
-  pub records : room′ ≡ 20 ∷ 0 ∷ 64 ∷ 0 ∷ 0 ∷ 0 ∷ 10 ∷ 0 ∷ 0 ∷ 0 ∷ 13 ∷ 0 ∷ 0 ∷ 0 ∷ 0 ∷ 0 ∷ 0 ∷ 0 ∷ 2 ∷ 0
+  pub cells : after ≡ cellOfG 3 100 ++ cellOfG 1 2 ++ replicate 68 170
+  -- the numbers 6 after 17 steps with 2 cells, and 200 after 7 steps with 1 cell
+  pub records : room′ ≡ 20 ∷ 0 ∷ 64 ∷ 0 ∷ 0 ∷ 0 ∷ 6 ∷ 0 ∷ 0 ∷ 0 ∷ 17 ∷ 0 ∷ 0 ∷ 0 ∷ 0 ∷ 0 ∷ 0 ∷ 0 ∷ 2 ∷ 0
       ∷ 20 ∷ 0 ∷ 64 ∷ 0 ∷ 0 ∷ 0 ∷ 200 ∷ 0 ∷ 0 ∷ 0 ∷ 7 ∷ 0 ∷ 0 ∷ 0 ∷ 0 ∷ 0 ∷ 0 ∷ 0 ∷ 1 ∷ 0 ∷ 170 ∷ []
 
 pub two-rows : (r : Written) (after room′ : List ℕ)

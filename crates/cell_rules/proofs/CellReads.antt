@@ -117,6 +117,6 @@ module _ (t : List ℕ) (rs : List ℤ) where
         }
 
     pub arrives-remembered : {r : Reached ℕ (List Cell)} → Arrives cellReads n (stateOf left m) a e r
-        → Arrives cellReads n (stateOf left m) a e (remembered (suc c) (positionOf t p) r)
+        → Arrives cellReads n (stateOf left m) a e (remembered keeping (suc c) (positionOf t p) r)
     unfolding remembered
     arrives-remembered {r} f = kept-arrives (r .ending) (r .state) (f .went) (f .shows)

@@ -46,9 +46,9 @@ module _ (t : List ℕ) (rs : List ℤ) where
       -- that its own function's call made
       own-found : (c : ℕ) (y : Entry) (o : Option ℕ) → getElem? m c ≡ some x → functionOf t p ≡ x .callee → entryAt x (positionOf t p) ≡ y
           → actual t p (x .label) ≡ o
-          → stopped (recalled y (stateOf left m) (remembered (suc c) (positionOf t p) (nodeDue o noActual (stateOf left m) (λ j. visit j (x .previous) (stateOf left m)))) .ending) ≡ false
+          → stopped (recalled y (stateOf left m) (remembered keeping (suc c) (positionOf t p) (nodeDue o noActual (stateOf left m) (λ j. visit j (x .previous) (stateOf left m)))) .ending) ≡ false
           → Found (cellReads t rs) rs (formal p) k (x .label ∷ ws) (suc n) (stateOf (suc left) m)
-          (recalled y (stateOf left m) (remembered (suc c) (positionOf t p) (nodeDue o noActual (stateOf left m) (λ j. visit j (x .previous) (stateOf left m)))))
+          (recalled y (stateOf left m) (remembered keeping (suc c) (positionOf t p) (nodeDue o noActual (stateOf left m) (λ j. visit j (x .previous) (stateOf left m)))))
       unfolding recalled remembered keeping nodeDue reach
       own-found c (some v) o there own y e h =
           let d = recalls t rs p c x order there own y stands in
@@ -59,18 +59,18 @@ module _ (t : List ℕ) (rs : List ℤ) where
           found _ rs (formal-actual e (d .visits)) (arrives-after _ (arrives-remembered t rs p c x there own e stands (d .visits) (d .arrives)))
 
       where-found : (c : ℕ) (y : Bool) → getElem? m c ≡ some x → eqb (functionOf t p) (x .callee) ≡ y
-          → stopped (whereOwn y (suc c) (positionOf t p) (entryAt x (positionOf t p)) (stateOf left m)
+          → stopped (whereOwn keeping y (suc c) (positionOf t p) (entryAt x (positionOf t p)) (stateOf left m)
           (nodeDue (actual t p (x .label)) noActual (stateOf left m) (λ j. visit j (x .previous) (stateOf left m))) .ending) ≡ false
           → Found (cellReads t rs) rs (formal p) k (x .label ∷ ws) (suc n) (stateOf (suc left) m)
-          (whereOwn y (suc c) (positionOf t p) (entryAt x (positionOf t p)) (stateOf left m)
+          (whereOwn keeping y (suc c) (positionOf t p) (entryAt x (positionOf t p)) (stateOf left m)
           (nodeDue (actual t p (x .label)) noActual (stateOf left m) (λ j. visit j (x .previous) (stateOf left m))))
       unfolding whereOwn
       where-found c true there e h = own-found c (entryAt x (positionOf t p)) (actual t p (x .label)) there (eqb-true _ _ e) refl refl h
       where-found c false there e h = foreign-found (actual t p (x .label)) refl h
 
     formal-found : (p : ℕ) {w : ℕ} {ws : List ℕ} → Stands cellHeads m w ws
-        → stopped (underCell t visit p w (cellOf m w) (stateOf left m) .ending) ≡ false
-        → Found (cellReads t rs) rs (formal p) k ws (suc n) (stateOf (suc left) m) (underCell t visit p w (cellOf m w) (stateOf left m))
+        → stopped (underCell keeping t visit p w (cellOf m w) (stateOf left m) .ending) ≡ false
+        → Found (cellReads t rs) rs (formal p) k ws (suc n) (stateOf (suc left) m) (underCell keeping t visit p w (cellOf m w) (stateOf left m))
     unfolding underCell cellOf
     formal-found p outermost h = found _ rs formal-outside (arrives-alone _ k (record { stands = outermost; order = order }) an-end)
     formal-found p (within {c} {x} {ws} e l q s) h =

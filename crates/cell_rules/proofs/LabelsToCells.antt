@@ -37,7 +37,7 @@ module _ (t : List ℕ) (rs : List ℤ) (cellsAllowed : ℕ) where
       own-reached : (c : ℕ) (x : Cell) (y : Entry) → getElem? m c ≡ some x → functionOf t p ≡ x .callee → entryAt x (positionOf t p) ≡ y
           → actual t p (x .label) ≡ some j → Stands cellHeads m (x .previous) ws
           → Arrives (cellReads t rs) (suc n) (stateOf (suc left) m) (after a) e
-          (recalled y (stateOf left m) (remembered (suc c) (positionOf t p) (visit j (x .previous) (stateOf left m))))
+          (recalled y (stateOf left m) (remembered keeping (suc c) (positionOf t p) (visit j (x .previous) (stateOf left m))))
       unfolding recalled
       own-reached c x (some u) there own y h s =
           let d = recalls t rs p c x order there own y s in
@@ -52,7 +52,7 @@ module _ (t : List ℕ) (rs : List ℤ) (cellsAllowed : ℕ) where
       where-reached : (c : ℕ) (x : Cell) (y : Bool) → getElem? m c ≡ some x → eqb (functionOf t p) (x .callee) ≡ y
           → actual t p (x .label) ≡ some j → Stands cellHeads m (x .previous) ws
           → Arrives (cellReads t rs) (suc n) (stateOf (suc left) m) (after a) e
-          (whereOwn y (suc c) (positionOf t p) (entryAt x (positionOf t p)) (stateOf left m)
+          (whereOwn keeping y (suc c) (positionOf t p) (entryAt x (positionOf t p)) (stateOf left m)
           (nodeDue (actual t p (x .label)) noActual (stateOf left m) (λ i. visit i (x .previous) (stateOf left m))))
       unfolding whereOwn nodeDue
       where-reached c x true there o h s = rw h (own-reached c x (entryAt x (positionOf t p)) there (eqb-true _ _ o) refl h s)
@@ -70,7 +70,7 @@ module _ (t : List ℕ) (rs : List ℤ) (cellsAllowed : ℕ) where
     own-beyond : (p c : ℕ) (x : Cell) (y : Entry) {ws : List ℕ} → getElem? m c ≡ some x → functionOf t p ≡ x .callee → entryAt x (positionOf t p) ≡ y
         → actual t p (x .label) ≡ none → Stands cellHeads m (x .previous) ws
         → Arrives (cellReads t rs) (suc n) (stateOf (suc left) m) alone (ended noActual)
-        (recalled y (stateOf left m) (remembered (suc c) (positionOf t p) (reach (ended noActual) (stateOf left m))))
+        (recalled y (stateOf left m) (remembered keeping (suc c) (positionOf t p) (reach (ended noActual) (stateOf left m))))
     unfolding recalled remembered keeping reach
     own-beyond p c x (some u) there own y h s = absurd (Option·none-ne-some _ (sym h ∙ recalls t rs p c x order there own y s .named))
     own-beyond p c x none there own y h s = arrives-alone _ k (record { stands = s; order = order }) an-end
@@ -78,7 +78,7 @@ module _ (t : List ℕ) (rs : List ℤ) (cellsAllowed : ℕ) where
     where-beyond : (p c : ℕ) (x : Cell) (y : Bool) {ws : List ℕ} → getElem? m c ≡ some x → eqb (functionOf t p) (x .callee) ≡ y
         → actual t p (x .label) ≡ none → Stands cellHeads m (x .previous) ws
         → Arrives (cellReads t rs) (suc n) (stateOf (suc left) m) alone (ended noActual)
-        (whereOwn y (suc c) (positionOf t p) (entryAt x (positionOf t p)) (stateOf left m)
+        (whereOwn keeping y (suc c) (positionOf t p) (entryAt x (positionOf t p)) (stateOf left m)
         (nodeDue (actual t p (x .label)) noActual (stateOf left m) (λ i. visit i (x .previous) (stateOf left m))))
     unfolding whereOwn nodeDue
     where-beyond p c x true there o h s = rw h (own-beyond p c x (entryAt x (positionOf t p)) there (eqb-true _ _ o) refl h s)

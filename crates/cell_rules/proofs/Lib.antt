@@ -10,4 +10,4 @@ pub mod CellsToLabels
 pub mod LabelsToCells
 pub mod Stays
 pub mod Evaluations
-pub mod CellsKept
+pub mod LiveKept

@@ -1,5 +1,5 @@
 -- Cells in lent bytes: what is read of a cell besides its label and its previous cell, what is written of an entry, and one cell more
--- after those made.
+-- after those alive.
 use Prim.Native.Nat.{ℕ, _+_, _*_, _-_, _/_, _%_}
 use mathlib.Core.List.{List}
 use mathlib.Core.Option.{none, some}
@@ -39,7 +39,7 @@ entryOf x =
 unfoldable pub entryWritten : List ℕ → ℕ → ℕ → List ℕ → List ℕ
 entryWritten b c i words = cond (leb (entryPlace c i + entrySize) (length b)) (sets b (entryPlace c i) (bytesOf words)) b
 
--- the bytes with a cell added after those made; a cell that does not fit is not written
+-- the bytes with a new cell written after those alive; a cell that does not fit is not written
 unfoldable pub cellAdded : List ℕ → ℕ → ℕ → ℕ → ℕ → List ℕ
-cellAdded b made label previous callee =
-    cond (ltb made (length b / cellSize)) (sets b (cellSize * made) (bytesOf (cellWords (newCell label previous callee)))) b
+cellAdded b live label previous callee =
+    cond (ltb live (length b / cellSize)) (sets b (cellSize * live) (bytesOf (cellWords (newCell label previous callee)))) b

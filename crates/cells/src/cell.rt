@@ -102,12 +102,12 @@ fn clear_entries(b: &mut [u8], at: usize)
     }
 }
 
-// Adds a cell after those made, where it fits. Its entries are empty.
-pub fn add_cell(cells: &mut [u8], made: usize, label: u16, previous: u16, callee: u16)
-    ensures { λ _. ⌜ now (cells .exit) ≡ cellAdded (now (cells .entry)) made label previous callee ⌝ }
+// Writes a new cell after those alive, where it fits. Its entries are empty.
+pub fn add_cell(cells: &mut [u8], live: usize, label: u16, previous: u16, callee: u16)
+    ensures { λ _. ⌜ now (cells .exit) ≡ cellAdded (now (cells .entry)) live label previous callee ⌝ }
 {
-    if made < cells.len() / CELL_BYTES {
-        let at = CELL_BYTES * made;
+    if live < cells.len() / CELL_BYTES {
+        let at = CELL_BYTES * live;
         set_word(cells, at, label);
         set_word(cells, at + 2, previous);
         clear_entries(cells, at);

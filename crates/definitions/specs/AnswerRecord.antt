@@ -1,5 +1,5 @@
 -- The answer record (document 01, "Record kind 64, 20 bytes: outcome .., value (4 bytes ..), steps (4), node, context,
--- cells made").
+-- cells made", since document 02, request 9, the most alive together).
 use Prim.Native.Nat.{ℕ}
 use mathlib.Core.List.{List, [], _∷_, _++_}
 use mir.Syntax.{w32}

@@ -1,5 +1,6 @@
 -- Contexts kept as cells that remember the values of formals (document 01, "Run"; document 02, request 7: "a cell remembers the value
--- of each formal"), and the evaluation rule over them.
+-- of each formal"), and the evaluation rule over them. Since document 02, request 9, a run follows the rule of `LiveCells`, which gives
+-- cells back; this one keeps them all.
 use Prim.Native.Nat.{ℕ, zero, suc}
 use mathlib.Core.List.{List, [], _∷_, _++_}
 use mathlib.Core.Option.{Option, none, some}
@@ -53,13 +54,17 @@ unfoldable pub withValue : ℕ → ℕ → Value ℕ → List Cell → List Cell
 withValue zero i v cs = cs
 withValue (suc c) i v cs = changed (withEntry i v) cs c
 
+-- how what is kept, of type `S`, has the cell of a context remember at a position what a visit ended with
+abbrev pub Keeping : Type 0 → Type 0
+Keeping S = ℕ → ℕ → Ending ℕ → State S → State S
+
 -- "a value is remembered": of a visit's end, a value and never a stop or a fault
-unfoldable pub keeping : ℕ → ℕ → Ending ℕ → State (List Cell) → State (List Cell)
+unfoldable pub keeping : Keeping (List Cell)
 keeping w i (value v) s = record { left = s .left; store = withValue w i v (s .store) }
 keeping w i (ended n) s = s
 
-unfoldable pub remembered : ℕ → ℕ → Reached ℕ (List Cell) → Reached ℕ (List Cell)
-remembered w i r = reach (r .ending) (keeping w i (r .ending) (r .state))
+unfoldable pub remembered : {S : Type 0} → Keeping S → ℕ → ℕ → Reached ℕ S → Reached ℕ S
+remembered keep w i r = reach (r .ending) (keep w i (r .ending) (r .state))
 
 -- "if the head cell remembers it, that value is used, else .."
 unfoldable pub recalled : {S : Type 0} → Entry → State S → Reached ℕ S → Reached ℕ S
@@ -67,19 +72,19 @@ recalled none s otherwise = otherwise
 recalled (some v) s otherwise = reach (value v) s
 
 -- "A formal visited under a cell that another function's call made remembers nothing", and uses nothing
-unfoldable pub whereOwn : Bool → ℕ → ℕ → Entry → State (List Cell) → Reached ℕ (List Cell) → Reached ℕ (List Cell)
-whereOwn false w i o s actual = actual
-whereOwn true w i o s actual = recalled o s (remembered w i actual)
+unfoldable pub whereOwn : {S : Type 0} → Keeping S → Bool → ℕ → ℕ → Entry → State S → Reached ℕ S → Reached ℕ S
+whereOwn keep false w i o s actual = actual
+whereOwn keep true w i o s actual = recalled o s (remembered keep w i actual)
 
 -- "formal: visit the actual that the head label names, under the tail"; no head, or no such actual, is 18
-unfoldable pub underCell : List ℕ → Visit ℕ (List Cell) → ℕ → ℕ → Option Cell → State (List Cell) → Reached ℕ (List Cell)
-underCell b visit p w none s = reach (ended noActual) s
-underCell b visit p w (some c) s =
-    whereOwn (eqb (functionOf b p) (c .callee)) w (positionOf b p) (entryAt c (positionOf b p)) s
+unfoldable pub underCell : {S : Type 0} → Keeping S → List ℕ → Visit ℕ S → ℕ → ℕ → Option Cell → State S → Reached ℕ S
+underCell keep b visit p w none s = reach (ended noActual) s
+underCell keep b visit p w (some c) s =
+    whereOwn keep (eqb (functionOf b p) (c .callee)) w (positionOf b p) (entryAt c (positionOf b p)) s
     (nodeDue (actual b p (c .label)) noActual s (λ n. visit n (c .previous) s))
 
 unfoldable pub formalByCells : List ℕ → Visit ℕ (List Cell) → ℕ → ℕ → State (List Cell) → Reached ℕ (List Cell)
-formalByCells b visit p w s = underCell b visit p w (cellOf (s .store) w) s
+formalByCells b visit p w s = underCell keeping b visit p w (cellOf (s .store) w) s
 
 -- the state with a cell added
 unfoldable pub withCell : ℕ → ℕ → ℕ → State (List Cell) → State (List Cell)

@@ -26,6 +26,7 @@ pub mod FormalPlaces
 pub mod Rule
 pub mod PlainCells
 pub mod Cells
+pub mod LiveCells
 pub mod CellBytes
 pub mod Run
 pub mod AnswerRecord

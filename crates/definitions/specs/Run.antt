@@ -15,11 +15,12 @@ use Rattle.definitions.specs.Outcomes.{Outcome, numberOutcome, construct
 use Rattle.definitions.specs.TranslationNodes.{tagOf}
 use Rattle.definitions.specs.Rule.{integer, constructor, Ending, value, ended, Reached}
 use Rattle.definitions.specs.Cells.{Cell, evaluation}
+use Rattle.definitions.specs.LiveCells.{LiveCells, liveEvaluation}
 use Rattle.definitions.specs.CellBytes.{cellBytes}
 use Rattle.definitions.specs.declared.Verdict.{Verdict}
 use Rattle.definitions.specs.declared.Verdict.the-variants.{Accepted, Refused}
 
--- "outcome .., value .., steps, node, context, cells made"
+-- "outcome .., value .., steps, node, context", and the most cells alive together
 pub record Answer : Type 0 where
   pub outcome : ℕ
   pub value : ℤ
@@ -45,32 +46,45 @@ endingContext (value (integer z)) = 0
 endingContext (value (constructor k w)) = w
 endingContext (ended n) = 0
 
--- the answer that an end of the rule is, at a step allowance
-unfoldable pub reachedAnswer : List ℕ → ℕ → Reached ℕ (List Cell) → Answer
-reachedAnswer b steps r =
+-- the answer of an ending at a step allowance, by the steps left and the number of cells
+unfoldable pub answerAt : List ℕ → ℕ → Ending ℕ → ℕ → ℕ → Answer
+answerAt b steps e left cells =
     record {
-      outcome = endingOutcome b (r .ending) .outcome;
-      value = endingOutcome b (r .ending) .value;
-      steps = steps - r .state .left;
-      node = endingNode (r .ending);
-      context = endingContext (r .ending);
-      cells = length (r .state .store);
+      outcome = endingOutcome b e .outcome;
+      value = endingOutcome b e .value;
+      steps = steps - left;
+      node = endingNode e;
+      context = endingContext e;
+      cells = cells;
     }
 
--- the lent cells at the end: "Stops and faults keep the cells made; bytes beyond them are untouched"
+-- the answer that an end of the rule is: "the record's cell count is the most alive together"
+unfoldable pub reachedAnswer : List ℕ → ℕ → Reached ℕ LiveCells → Answer
+reachedAnswer b steps r = answerAt b steps (r .ending) (r .state .left) (length (r .state .store .cells))
+
+-- the lent cells at the end, those given back too: "bytes beyond those are untouched"
 unfoldable pub cellsOver : List ℕ → List Cell → List ℕ
 cellsOver before cs = cellBytes cs ++ drop (cellSize * length cs) before
 
 -- the rule that a run follows, with its three allowances: what it evaluates, the answer that this is, and the lent cells
 -- that it leaves. Whoever speaks of a run's rule cites these three
-unfoldable pub ruleEnd : List ℕ → List ℤ → ℕ → ℕ → ℕ → Reached ℕ (List Cell)
-ruleEnd b rs steps nesting cells = evaluation b rs steps nesting cells
+unfoldable pub ruleEnd : List ℕ → List ℤ → ℕ → ℕ → ℕ → Reached ℕ LiveCells
+ruleEnd b rs steps nesting cells = liveEvaluation b rs steps nesting cells
 
 unfoldable pub ruleAnswer : List ℕ → List ℤ → ℕ → ℕ → ℕ → Answer
 ruleAnswer b rs steps nesting cells = reachedAnswer b steps (ruleEnd b rs steps nesting cells)
 
 unfoldable pub ruleCells : List ℕ → List ℤ → ℕ → ℕ → ℕ → List ℕ → List ℕ
-ruleCells b rs steps nesting cells before = cellsOver before (ruleEnd b rs steps nesting cells .state .store)
+ruleCells b rs steps nesting cells before = cellsOver before (ruleEnd b rs steps nesting cells .state .store .cells)
+
+-- the rule of request 7, which keeps all cells, and the answer that it is
+unfoldable pub keptEnd : List ℕ → List ℤ → ℕ → ℕ → ℕ → Reached ℕ (List Cell)
+keptEnd b rs steps nesting cells = evaluation b rs steps nesting cells
+
+unfoldable pub keptAnswer : List ℕ → List ℤ → ℕ → ℕ → ℕ → Answer
+keptAnswer b rs steps nesting cells =
+    let r = keptEnd b rs steps nesting cells in
+    answerAt b steps (r .ending) (r .state .left) (length (r .state .store))
 
 -- "a refusal has 0 steps and cells"
 unfoldable pub refusal : ℕ → ℕ → Answer

@@ -9,7 +9,7 @@ use lib.ListN.{length}
 use Rattle.definitions.specs.Numbers.{isStop, isAnswer}
 use Rattle.definitions.specs.PlainCells.{plainEvaluation}
 use Rattle.definitions.specs.Run as Run
-use Rattle.definitions.specs.Run.{reachedAnswer, ruleEnd, ruleAnswer, refusal, answerAfter, runAnswer}
+use Rattle.definitions.specs.Run.{answerAt, reachedAnswer, ruleEnd, ruleAnswer, refusal, answerAfter, runAnswer}
 use Rattle.definitions.specs.declared.Verdict.{Verdict}
 use Rattle.definitions.specs.declared.Verdict.the-variants.{Accepted, Refused}
 use Rattle.laws.proofs.Classes.{refusal-no-answer, answer-no-stop}
@@ -35,12 +35,12 @@ module _ (b : List ℕ) (rs : List ℤ) (steps nesting cellsAllowed : ℕ) (befo
       run .answer
       ∙ ended-by b rs steps nesting cellsAllowed _ (running-numbered b rs nesting cellsAllowed (length before)) (rw (run .answer) at ended)
 
-  pub ended-cells : answerOf r .cells ≡ length (ruleEnd b rs steps nesting cellsAllowed .state .store)
-  unfolding ruleAnswer reachedAnswer
+  pub ended-cells : answerOf r .cells ≡ length (ruleEnd b rs steps nesting cellsAllowed .state .store .cells)
+  unfolding ruleAnswer reachedAnswer answerAt
   ended-cells = ap (λ (a : Run.Answer). a .cells) ended-rule
 
   ended-outcome : answerOutcome (answerOf r) ≡ ruleOutcome b rs steps nesting cellsAllowed
-  unfolding answerOutcome ruleOutcome ruleAnswer reachedAnswer
+  unfolding answerOutcome ruleOutcome ruleAnswer reachedAnswer answerAt
   ended-outcome = ap answerOutcome ended-rule
 
   no-stop : isStop (answerOutcome (answerOf r) .outcome) ≡ false
@@ -54,7 +54,7 @@ module _ (b : List ℕ) (rs : List ℤ) (steps nesting cellsAllowed : ℕ) (befo
 
   pub ended-steps : (steps′ nesting′ cellsAllowed′ : ℕ) → plainOutcome b rs steps′ nesting′ cellsAllowed′ ≡ answerOutcome (answerOf r)
       → answerOf r .steps ≤ steps′ - plainEvaluation b rs steps′ nesting′ cellsAllowed′ .state .left
-  unfolding ruleAnswer reachedAnswer
+  unfolding ruleAnswer reachedAnswer answerAt
   ended-steps steps′ nesting′ cellsAllowed′ e =
       rw (ap (λ (a : Run.Answer). a .steps) ended-rule)
       (rule-no-more-steps b rs steps nesting cellsAllowed steps′ nesting′ cellsAllowed′ (rw ended-outcome at no-stop) (rw e no-stop))

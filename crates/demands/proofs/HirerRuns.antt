@@ -13,7 +13,7 @@ use Rattle.definitions.specs.Layouts.{readings, firstNode}
 use Rattle.definitions.specs.TranslationNodes.{reading, translationNodeOf}
 use Rattle.definitions.specs.Checks.{sheetVerdict, translationVerdict}
 use Rattle.definitions.specs.Translate.{translation}
-use Rattle.definitions.specs.Cells.{byCells, evaluation}
+use Rattle.definitions.specs.LiveCells.{byLiveCells, liveEvaluation}
 use Rattle.definitions.specs.Run as Run
 use Rattle.definitions.specs.Run.{ruleEnd, ruleAnswer, ruleCells, refusal, runVerdict, answerAfter, bytesAfter, runAnswer, runCells}
 use Rattle.definitions.specs.Hirer.{readingAllowed, closedVerdict, hirerVerdict, hirerAnswer, hirerCells}
@@ -108,8 +108,8 @@ module _ (b : List ℕ) (set : ℕ) (rs : List ℤ) (steps nesting cellsAllowed 
 -- two lists of readings that agree on the set
 module _ (b : List ℕ) (set : ℕ) (rs qs : List ℤ) (lengths : length rs ≡ length qs) (same : AgreeOn set (readings b) rs qs) (steps nesting cellsAllowed : ℕ) where
   rule-alike : translationVerdict b ≡ Accepted → closedVerdict b set ≡ Accepted → ruleEnd b rs steps nesting cellsAllowed ≡ ruleEnd b qs steps nesting cellsAllowed
-  unfolding ruleEnd evaluation
-  rule-alike accepted v = rw (visited-alike (byCells b cellsAllowed) b rs qs alike nesting) refl
+  unfolding ruleEnd liveEvaluation
+  rule-alike accepted v = rw (visited-alike (byLiveCells b cellsAllowed) b rs qs alike nesting) refl
     where
       alike : (k i : ℕ) → translationNodeOf b k ≡ reading i → getD rs i (pos 0) ≡ getD qs i (pos 0)
       alike k i e = let h = named-allowed b accepted set k v e in same .agree i (h .0) (h .1)

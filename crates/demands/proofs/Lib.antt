@@ -20,3 +20,4 @@ pub mod SharedLabels
 pub mod HiredTrailers
 pub mod RememberedValues
 pub mod VisitedOnce
+pub mod GivenBack

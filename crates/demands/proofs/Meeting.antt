@@ -48,7 +48,7 @@ rule-met a untouched false false e f h = absurd (true≢false (sym h))
 
 pub after-met : (b : List ℕ) (rs : List ℤ) (steps nesting cellsAllowed : ℕ) (untouched : Type 0) (v : Verdict) → NumberedIn v → ((n p : ℕ) → v ≡ verdicts.Refused n p → untouched)
     → Met (answerAfter v (ruleAnswer b rs steps nesting cellsAllowed)) untouched
-unfolding answerAfter ruleAnswer Run.reachedAnswer
+unfolding answerAfter ruleAnswer Run.reachedAnswer Run.answerAt
 after-met b rs steps nesting cellsAllowed untouched Accepted k u = rule-met _ untouched _ _ refl refl (rule-known b rs cellsAllowed steps nesting)
 after-met b rs steps nesting cellsAllowed untouched (verdicts.Refused n p) k u = Demands.Met.refuses n p refl k (u n p refl)
 

@@ -14,7 +14,7 @@ use Rattle.definitions.specs.Layouts.{readings}
 use Rattle.definitions.specs.Verdicts.{_andThen_, require}
 use Rattle.definitions.specs.Checks.{translationVerdict}
 use Rattle.definitions.specs.Output.{writtenOf, outputOf}
-use Rattle.definitions.specs.Run.{allowancesFit, reachedAnswer, ruleAnswer, answerAfter, bytesAfter}
+use Rattle.definitions.specs.Run.{allowancesFit, answerAt, reachedAnswer, ruleAnswer, answerAfter, bytesAfter}
 use Rattle.definitions.specs.RunsInTurn.{rowOf, cellsInTurn, recordsInTurn}
 use Rattle.definitions.specs.declared.Verdict.{Verdict}
 use Rattle.definitions.specs.declared.Verdict.the-variants as verdicts
@@ -49,7 +49,7 @@ module _ (b : List ℕ) (rows : ℕ) (rs : List ℤ) (steps nesting cellsAllowed
   verdict = rowsVerdict b rows rs nesting cellsAllowed (length before) (length room)
 
   all-ended : verdict ≡ Accepted → AllEnded rows room′
-  unfolding answerAfter ruleAnswer reachedAnswer
+  unfolding answerAfter ruleAnswer reachedAnswer answerAt
   all-ended accepted =
       record {
         ends = λ i h.

@@ -8,7 +8,7 @@ use lib.IntN.{ℤ}
 use Rattle.definitions.specs.Numbers.{isAnswer}
 use Rattle.definitions.specs.Checks.{sheetVerdict}
 use Rattle.definitions.specs.Translate.{translation}
-use Rattle.definitions.specs.Run.{Answer, reachedAnswer, refusal, answerAfter, ruleAnswer}
+use Rattle.definitions.specs.Run.{Answer, answerAt, reachedAnswer, refusal, answerAfter, ruleAnswer}
 use Rattle.definitions.specs.declared.Verdict.{Verdict}
 use Rattle.definitions.specs.declared.Verdict.the-variants.{Accepted, Refused}
 use Rattle.laws.proofs.Classes.{refusal-no-answer}
@@ -23,7 +23,7 @@ use Rattle.demands.proofs.Refusals.{NumberedIn}
 pub after-own : (sheet : List ℕ) → sheetVerdict sheet ≡ Accepted → (rs : List ℤ) (steps nesting cellsAllowed : ℕ) (v : Verdict) → NumberedIn v
     → isAnswer (answerAfter v (ruleAnswer (translation sheet) rs steps nesting cellsAllowed) .outcome) ≡ true
     → OwnAnswer sheet rs (answerOutcome (answerAfter v (ruleAnswer (translation sheet) rs steps nesting cellsAllowed)))
-unfolding answerAfter ruleAnswer reachedAnswer ruleOutcome answerOutcome refusal
+unfolding answerAfter ruleAnswer reachedAnswer answerAt ruleOutcome answerOutcome refusal
 after-own sheet accepted rs steps nesting cellsAllowed Accepted k h =
     rule-gives-own sheet accepted rs (record { steps = steps; nesting = nesting; cellsAllowed = cellsAllowed; gives = refl }) h
 after-own sheet accepted rs steps nesting cellsAllowed (Refused n p) k h = absurd (true≢false (sym h ∙ refusal-no-answer n k))

@@ -1,6 +1,6 @@
--- Request 7 of document 02, in its words. What a run does is the rule of `definitions/specs/Cells.antt`, answer and every cell byte; this page
--- says what that rule does with a formal and with a cell, for every translation file, also one that no translator writes, and what the
--- bytes are. "What a sheet answers by call by name remains the yardstick for its run": that is demand 3, whose sentences on the page
+-- Request 7 of document 02, in its words. What a run does is the rule of `definitions/specs/LiveCells.antt`, answer and every cell byte; this
+-- page says what that rule does with a formal and with a cell, for every translation file, also one that no translator writes, and what the
+-- bytes are; what it does with a call is on the page `GivenBack`. "What a sheet answers by call by name remains the yardstick for its run": that is demand 3, whose sentences on the page
 -- `Demands` are about this rule.
 use mathlib.Core.Path.{_≡_, refl, sym}
 use mathlib.Core.Logic.{_↔_}
@@ -25,7 +25,8 @@ use Rattle.definitions.specs.Trees.{equalTrees}
 use Rattle.definitions.specs.Translate.{translation}
 use Rattle.definitions.specs.TranslationNodes.{formal, translationNodeOf, actual}
 use Rattle.definitions.specs.Rule.{Value, value, ended, State, Reached, Visit, reach, nodeDue, withStep, evaluated, visited}
-use Rattle.definitions.specs.Cells.{Cell, newCell, cellOf, entryAt, withEntry, withValue, keeping, remembered, recalled, whereOwn, underCell, formalByCells, byCells}
+use Rattle.definitions.specs.Cells.{Cell, newCell, cellOf, entryAt, withEntry, withValue, remembered, recalled, whereOwn, underCell}
+use Rattle.definitions.specs.LiveCells.{LiveCells, keepingLive, formalByLiveCells, byLiveCells}
 use Rattle.definitions.specs.CellBytes.{entryWords, cellWords, cellBytes}
 use Rattle.definitions.specs.Run.{ruleEnd, ruleAnswer, ruleCells, cellsOver, runVerdict}
 use Rattle.definitions.specs.declared.Layout.the-variants.{Sheet, Translation}
@@ -51,7 +52,7 @@ use Rattle.demands.proofs.Handing.{handed}
 module _ (b : List ℕ) (rs : List ℤ) (steps nesting cellsAllowed : ℕ) (before : List ℕ) (r : Answer) (after : List ℕ)
     (run : Runs b rs steps nesting cellsAllowed before r after) (accepted : runVerdict b rs nesting cellsAllowed (length before) ≡ Accepted) where
   abbrev cells : List Cell
-  cells = ruleEnd b rs steps nesting cellsAllowed .state .store
+  cells = ruleEnd b rs steps nesting cellsAllowed .state .store .cells
 
   pub request-7-run : (answerOf r ≡ ruleAnswer b rs steps nesting cellsAllowed) × (after ≡ cellBytes cells ++ drop (cellSize * length cells) before)
   unfolding ruleCells cellsOver
@@ -80,51 +81,51 @@ module _ (x : Cell) (full : length (x .entries) ≡ mostFields) where
 
 -- "Visiting a formal counts its step": formal p, at node k, in any file
 module _ (b : List ℕ) (rs : List ℤ) (cellsAllowed nesting k p w : ℕ) (is : translationNodeOf b k ≡ formal p) where
-  abbrev visit : Visit ℕ (List Cell)
-  visit = visited (byCells b cellsAllowed) b rs nesting
+  abbrev visit : Visit ℕ LiveCells
+  visit = visited (byLiveCells b cellsAllowed) b rs nesting
 
-  pub request-7-step : (left : ℕ) (cs : List Cell)
-      → visited (byCells b cellsAllowed) b rs (suc nesting) k w (record { left = suc left; store = cs })
-      ≡ formalByCells b visit p w (record { left = left; store = cs })
-  unfolding visited withStep evaluated byCells
-  request-7-step left cs = rw is refl
+  pub request-7-step : (left : ℕ) (m : LiveCells)
+      → visited (byLiveCells b cellsAllowed) b rs (suc nesting) k w (record { left = suc left; store = m })
+      ≡ formalByLiveCells b visit p w (record { left = left; store = m })
+  unfolding visited withStep evaluated byLiveCells
+  request-7-step left m = rw is refl
 
 -- what it does then, with any visit of its actual
-module _ (b : List ℕ) (visit : Visit ℕ (List Cell)) (p w : ℕ) (s : State (List Cell)) where
+module _ (b : List ℕ) (visit : Visit ℕ LiveCells) (p w : ℕ) (s : State LiveCells) where
   -- no cell: 18, as before
-  pub request-7-outside : cellOf (s .store) w ≡ none → formalByCells b visit p w s ≡ reach (ended noActual) s
-  unfolding formalByCells underCell
+  pub request-7-outside : cellOf (s .store .cells) w ≡ none → formalByLiveCells b visit p w s ≡ reach (ended noActual) s
+  unfolding formalByLiveCells underCell
   request-7-outside e = rw e refl
 
-  module _ (x : Cell) (head : cellOf (s .store) w ≡ some x) where
+  module _ (x : Cell) (head : cellOf (s .store .cells) w ≡ some x) where
     -- the actual that the head label names, visited under the tail; a label beyond the list is 18, as before
-    abbrev actualVisit : Reached ℕ (List Cell)
+    abbrev actualVisit : Reached ℕ LiveCells
     actualVisit = nodeDue (actual b p (x .label)) noActual s (λ n. visit n (x .previous) s)
 
     module _ (own : functionOf b p ≡ x .callee) where
       -- "if the head cell remembers it, that value is used"
-      pub request-7-used : (v : Value ℕ) → entryAt x (positionOf b p) ≡ some v → formalByCells b visit p w s ≡ reach (value v) s
-      unfolding formalByCells underCell whereOwn recalled
+      pub request-7-used : (v : Value ℕ) → entryAt x (positionOf b p) ≡ some v → formalByLiveCells b visit p w s ≡ reach (value v) s
+      unfolding formalByLiveCells underCell whereOwn recalled
       request-7-used v e = rw (head, eq-eqb (functionOf b p) (x .callee) own, e) refl
 
       -- "else the actual is visited and a value is remembered"
-      pub request-7-visited : entryAt x (positionOf b p) ≡ none → formalByCells b visit p w s ≡ remembered w (positionOf b p) actualVisit
-      unfolding formalByCells underCell whereOwn recalled
+      pub request-7-visited : entryAt x (positionOf b p) ≡ none → formalByLiveCells b visit p w s ≡ remembered keepingLive w (positionOf b p) actualVisit
+      unfolding formalByLiveCells underCell whereOwn recalled
       request-7-visited e = rw (head, eq-eqb (functionOf b p) (x .callee) own, e) refl
 
     -- "A formal visited under a cell that another function's call made remembers nothing", and uses nothing
-    pub request-7-foreign : (functionOf b p ≡ x .callee → ⊥) → formalByCells b visit p w s ≡ actualVisit
-    unfolding formalByCells underCell whereOwn
+    pub request-7-foreign : (functionOf b p ≡ x .callee → ⊥) → formalByLiveCells b visit p w s ≡ actualVisit
+    unfolding formalByLiveCells underCell whereOwn
     request-7-foreign other = rw (head, ne-eqb (functionOf b p) (x .callee) other) refl
 
 -- a value is remembered in the formal's cell, at its position; a stop or a fault never is
-pub request-7-value : (w i : ℕ) (v : Value ℕ) (left : ℕ) (cs : List Cell)
-    → remembered w i (reach (value v) (record { left = left; store = cs })) ≡ reach (value v) (record { left = left; store = withValue w i v cs })
-unfolding remembered keeping reach
-request-7-value w i v left cs = refl
+pub request-7-value : (w i : ℕ) (v : Value ℕ) (s : State LiveCells)
+    → remembered keepingLive w i (reach (value v) s) .state .store .cells ≡ withValue w i v (s .store .cells)
+unfolding remembered keepingLive reach
+request-7-value w i v s = refl
 
-pub request-7-end : (w i n : ℕ) (s : State (List Cell)) → remembered w i (reach (ended n) s) ≡ reach (ended n) s
-unfolding remembered keeping reach
+pub request-7-end : (w i n : ℕ) (s : State LiveCells) → remembered keepingLive w i (reach (ended n) s) ≡ reach (ended n) s
+unfolding remembered keepingLive reach
 request-7-end w i n s = refl
 
 -- "a function record in a translation gains its parameter count after the node count (.. 0 to 8, else 4 at that function; a sum that isn't P

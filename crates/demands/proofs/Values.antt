@@ -9,7 +9,7 @@ use lib.IntN.{ℤ, pos}
 use mir.Syntax.{w32}
 use mir.Val.{SFits}
 use Rattle.definitions.specs.Numbers.{isAnswer}
-use Rattle.definitions.specs.Run.{reachedAnswer, refusal, answerAfter, ruleAnswer}
+use Rattle.definitions.specs.Run.{answerAt, reachedAnswer, refusal, answerAfter, ruleAnswer}
 use Rattle.definitions.specs.declared.Verdict.{Verdict}
 use Rattle.definitions.specs.declared.Verdict.the-variants.{Accepted, Refused}
 use Rattle.laws.proofs.Classes.{refusal-no-answer}
@@ -37,6 +37,6 @@ module _ (b : List ℕ) (rs : List ℤ) (bytes : Bytes b) (readings : SignedRead
   -- of an answer that comes after a verdict
   pub after-fits : (steps nesting cellsAllowed : ℕ) (v : Verdict) → NumberedIn v → isAnswer (answerAfter v (ruleAnswer b rs steps nesting cellsAllowed) .outcome) ≡ true
       → SFits w32 (answerAfter v (ruleAnswer b rs steps nesting cellsAllowed) .value)
-  unfolding answerAfter ruleAnswer reachedAnswer refusal
+  unfolding answerAfter ruleAnswer reachedAnswer answerAt refusal
   after-fits steps nesting cellsAllowed Accepted k h = rule-value b rs cellsAllowed fitting steps nesting zero-fits
   after-fits steps nesting cellsAllowed (Refused n p) k h = absurd (true≢false (sym h ∙ refusal-no-answer n k))

@@ -1,5 +1,5 @@
 -- Request 8 of document 02, in its words, over what the public calls promise: `Translates` of `translator::translate` and `Runs` of
--- `run::run`. The visits to actuals are listed by the rule of `actual_visits/specs/ListedVisits.antt`, each by the cell that it is made
+-- `run::run`. The visits to actuals are listed by the rule of `given_back/specs/ListedVisits.antt`, each by the cell that it is made
 -- for, which has a serial number, and the formal's position.
 use mathlib.Core.Path.{_≡_, sym, ap, _∙_}
 use Prim.Native.Nat.{ℕ, _*_, _-_, _≤_}
@@ -12,9 +12,11 @@ use Rattle.definitions.specs.PlainCells.{plainEvaluation}
 use Rattle.definitions.specs.Run.{reachedAnswer, ruleEnd, ruleAnswer}
 use Rattle.definitions.specs.declared.Written.the-variants.{Length}
 use Rattle.actual_visits.specs.Distinct.{Distinct}
-use Rattle.actual_visits.specs.ListedVisits.{ActualVisit, forgetting, forgettingPlain, listedEvaluation, noPosition, listedEnd, actualVisits, cellsMade}
-use Rattle.actual_visits.proofs.Forgetting.{list-forgotten, plain-forgotten}
-use Rattle.actual_visits.proofs.AtMostOnce.{visits-distinct, visits-eightfold, cells-made}
+use Rattle.given_back.specs.SerialCells.{ActualVisit}
+use Rattle.given_back.specs.ListedVisits.{forgetting, listedEnd, actualVisits, cellsMade}
+use Rattle.given_back.proofs.Forgetting.{list-forgotten}
+use Rattle.given_back.proofs.Evaluations.{most-made}
+use Rattle.actual_visits.proofs.AtMostOnce.{visits-distinct, visits-eightfold}
 use Rattle.agreement.specs.Answers.{plainOutcome, PlainGives, answerOutcome}
 use Rattle.translator.specs.Promise.{Translates}
 use Rattle.answer.specs.declared.Answer.{Answer}
@@ -28,11 +30,6 @@ use Rattle.demands.proofs.EndedRuns.{ended-rule, ended-cells, ended-ste
 -- every translation file
 pub request-8-listed : (b : List ℕ) (rs : List ℤ) (steps nesting cellsAllowed : ℕ) → forgetting (listedEnd b rs steps nesting cellsAllowed) ≡ ruleEnd b rs steps nesting cellsAllowed
 request-8-listed = list-forgotten
-
--- and where no position is remembered, it is "the rule without remembering"
-pub request-8-without : (b : List ℕ) (rs : List ℤ) (steps nesting cellsAllowed : ℕ)
-    → forgettingPlain (listedEvaluation b noPosition rs steps nesting cellsAllowed) ≡ plainEvaluation b rs steps nesting cellsAllowed
-request-8-without = plain-forgotten
 
 -- A translated sheet: the bytes that the translator wrote, unchanged
 module _ (sheet out : List ℕ) (n : ℕ) (out′ : List ℕ) (translated : Translates sheet out (Length n) out′) (rs : List ℤ) (steps nesting cellsAllowed : ℕ) where
@@ -65,12 +62,12 @@ module _ (sheet out : List ℕ) (n : ℕ) (out′ : List ℕ) (translated : Tran
     pub request-8-once : Distinct visits
     request-8-once = request-8-any .0
 
-    -- "So the visits to actuals are at most the cells times eight.": the cells made, which the run's answer counts
-    pub request-8-eightfold : (length visits ≤ made * 8) × (made ≡ answerOf r .cells)
+    -- "So the visits to actuals are at most the cells times eight.": "The eightfold bound .. counts cells made, given back or not" (request 9),
+    -- which are at least those that the run's answer counts
+    pub request-8-eightfold : (length visits ≤ made * 8) × (answerOf r .cells ≤ made)
     request-8-eightfold = (
       request-8-any .1,
-      rw (h .is) (cells-made sheet (h .accepted) rs steps nesting cellsAllowed)
-          ∙ sym (ended-cells (take n out′) rs steps nesting cellsAllowed before r after run ended),
+      rw (ended-cells (take n out′) rs steps nesting cellsAllowed before r after run ended) (most-made (take n out′) rs steps nesting cellsAllowed),
     )
 
     -- "And such a run never takes more steps than the rule without remembering and without ceilings takes, at allowances that suffice, to

@@ -35,7 +35,7 @@ pub data StoppedOrRefused (a : Answer) (untouched : Type 0) : Type 0 where
   stops : isStop (a .outcome) ≡ true → StoppedOrRefused a untouched
   refuses : (n p : ℕ) → a ≡ refusal n p → isRefusal n ≡ true → untouched → StoppedOrRefused a untouched
 
--- a run that is not refused: the rule's answer (outcome, value, steps, node, context, cells made), and its cells over the lent bytes
+-- a run that is not refused: the rule's answer (outcome, value, steps, node, context, the most cells alive together), and its cells over the lent bytes
 pub record RunExact (b : List ℕ) (rs : List ℤ) (steps nesting cellsAllowed : ℕ) (before : List ℕ) (a : Answer) (after : List ℕ) : Type 0 where
   pub answer : a ≡ ruleAnswer b rs steps nesting cellsAllowed
   pub cells : after ≡ ruleCells b rs steps nesting cellsAllowed before

@@ -34,7 +34,7 @@ pub data RowsMetInC (rows code : ℕ) (room′ : List ℕ) (untouched : Type 0) 
   runs : codeNumber code ≡ 0 → codeValue code ≡ rows * answerSize → AllEnded rows room′ → RowsMetInC rows code room′ untouched
   refuses : isRefusal (codeNumber code) ≡ true → untouched → RowsMetInC rows code room′ untouched
 
--- row i is exactly the rule: its record is that of the rule's answer (outcome, value, steps, node, context, cells made), and the cells that it
+-- row i is exactly the rule: its record is that of the rule's answer (outcome, value, steps, node, context, number of cells), and the cells that it
 -- leaves are the rule's over those that the rows before it left
 pub record RowExact (b : List ℕ) (rs : List ℤ) (steps nesting cellsAllowed : ℕ) (before room′ : List ℕ) (i : ℕ) : Type 0 where
   pub written : take answerSize (drop (i * answerSize) room′) ≡ answerBytes (ruleAnswer b (rowOf b rs i) steps nesting cellsAllowed)

@@ -9,14 +9,14 @@ use Rattle.definitions.specs.Sizes.{mostFields}
 use Rattle.definitions.specs.Rule.{Value}
 use Rattle.definitions.specs.Cells.{Entry, Cell, newCell, entryAt, withEntry, changed, withValue}
 
-some-one : {x y : Cell} → some x ≡ some y → x ≡ y
+some-one : {A : Type 0} {x y : A} → some x ≡ some y → x ≡ y
 some-one e = cc
 
--- what holds of each cell in its place
-abbrev pub Each : (ℕ → Cell → Type 0) → List Cell → Type 0
-Each P cs = (c : ℕ) (x : Cell) → getElem? cs c ≡ some x → P c x
+-- what holds of each element of a list in its place, as of each cell
+abbrev pub Each : {A : Type 0} → (ℕ → A → Type 0) → List A → Type 0
+Each {A} P cs = (c : ℕ) (x : A) → getElem? cs c ≡ some x → P c x
 
-pub each-added : (P : ℕ → Cell → Type 0) (cs : List Cell) (x : Cell) → Each P cs → P (length cs) x → Each P (cs ++ (x ∷ []))
+pub each-added : {A : Type 0} (P : ℕ → A → Type 0) (cs : List A) (x : A) → Each P cs → P (length cs) x → Each P (cs ++ (x ∷ []))
 each-added P [] x h p zero y e = subst (P 0) (some-one e) p
 each-added P [] x h p (suc c) y e = absurd (Option·none-ne-some _ e)
 each-added P (z ∷ cs) x h p zero y e = h zero y e

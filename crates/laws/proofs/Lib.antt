@@ -18,5 +18,7 @@ pub mod NodeKinds
 pub mod Stores
 pub mod Words
 pub mod Cells
+pub mod Written
+pub mod LiveAfter
 pub mod CellBytes
 pub mod FirstPassing

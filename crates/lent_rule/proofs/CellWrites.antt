@@ -1,5 +1,5 @@
 -- Cells written over lent bytes: with an entry's bytes written they are the cells in which that entry holds the value, and with a cell's
--- bytes written after them they are the cells with a new one.
+-- bytes written over one of them or after them they are the cells with that one written there.
 use mathlib.Core.Path.{_≡_, refl, sym, ap, _∙_}
 use Prim.Native.Nat.{ℕ, zero, suc, _+_, _*_, _/_, _≤_, _<_}
 use mathlib.Core.List.{List, [], _∷_, _++_, append-assoc, append-nil}
@@ -12,12 +12,13 @@ use Rattle.definitions.specs.Sizes.{mostFields, cellSize}
 use Rattle.definitions.specs.Bytes.{wordBytes, words32, bytesOf}
 use Rattle.definitions.specs.Rule.{Value, integer, constructor}
 use Rattle.definitions.specs.Cells.{Entry, Cell, newCell, withEntry, changed, withValue}
+use Rattle.definitions.specs.LiveCells.{written}
 use Rattle.definitions.specs.CellBytes.{entryWords, lastWord, entriesWords, cellWords, cellBytes}
 use Rattle.definitions.specs.Run.{cellsOver}
 use Rattle.laws.proofs.Stores.{over-front, sets-before, sets-behind}
 use Rattle.laws.proofs.Words.{bytes-append}
 use Rattle.laws.proofs.Cells.{value-length}
-use Rattle.laws.proofs.CellBytes.{FullCells, full-rest, cell-size, bytes-size, over-size}
+use Rattle.laws.proofs.CellBytes.{FullCells, full-rest, cell-size, over-size}
 use Rattle.accepted.proofs.Elements.{element-below}
 use Rattle.cells.specs.LentCells.{entryPlace, entryWritten, cellAdded}
 
@@ -111,33 +112,53 @@ module _ (v : Value ℕ) where
       (cells-written cs rest c i x full e h
       ∙ ap (λ (n : ℕ). cellBytes (changed (withEntry i v) cs c) ++ drop (cellSize * n) before) (sym (value-length (suc c) i v cs)))
 
--- one cell more
+-- a new cell
 new-size : (l w f : ℕ) → length (bytesOf (cellWords (newCell l w f))) ≡ cellSize
 unfolding newCell
 new-size l w f = cell-size (newCell l w f) refl
 
-bytes-more : (cs : List Cell) (x : Cell) → cellBytes (cs ++ (x ∷ [])) ≡ cellBytes cs ++ bytesOf (cellWords x)
-unfolding cellBytes
-bytes-more [] x = append-nil (bytesOf (cellWords x))
-bytes-more (y ∷ cs) x =
-    ap (λ (l : List ℕ). bytesOf (cellWords y) ++ l) (bytes-more cs x) ∙ sym (append-assoc (bytesOf (cellWords y)) (cellBytes cs) (bytesOf (cellWords x)))
+-- the bytes of a cell over those of one of the cells, or after them
+cells-over : (before : List ℕ) (cs : List Cell) (n : ℕ) (x : Cell) → n ≤ length cs → FullCells cs → length (bytesOf (cellWords x)) ≡ cellSize
+    → cellSize * suc n ≤ length before
+    → sets (cellBytes cs ++ drop (cellSize * length cs) before) (cellSize * n) (bytesOf (cellWords x))
+    ≡ cellBytes (written cs n x) ++ drop (cellSize * length (written cs n x)) before
+unfolding cellBytes written
+cells-over before [] zero x h full size room =
+    let bytes = bytesOf (cellWords x) in
+    rw (append-nil bytes) (over-front bytes before cellSize size (omega arith))
+cells-over before [] (suc n) x h full size room = absurd (omega arith)
+cells-over before (y ∷ cs) zero x h full size room =
+    let bytes = bytesOf (cellWords x) in
+    let old = bytesOf (cellWords y) in
+    let own = cell-size y (full .each 0 y refl) in
+    let behind = drop (cellSize * suc (length cs)) before in
+    let rest = cellBytes cs ++ behind in
+    let left : cellSize ≤ length (old ++ rest) = omega (arith, own, length-append old rest) in
+    rw (append-assoc old (cellBytes cs) behind, append-assoc bytes (cellBytes cs) behind)
+    (over-front bytes (old ++ rest) cellSize size left ∙ ap (λ (l : List ℕ). bytes ++ l) (drop-at old rest cellSize own))
+cells-over before (y ∷ cs) (suc n) x h full size room =
+    let old = bytesOf (cellWords y) in
+    let new = written cs n x in
+    let later = drop cellSize before in
+    let behind : (k : ℕ) → drop (cellSize * suc k) before ≡ drop (cellSize * k) later =
+    λ k. let more : cellSize * suc k ≡ cellSize + cellSize * k = omega arith in rw more (sym (drop-drop (cellSize * k) cellSize before)) in
+    let at : cellSize * suc n ≡ length old + cellSize * n = omega (arith, cell-size y (full .each 0 y refl)) in
+    rw (
+      at,
+      behind (length cs),
+      behind (length new),
+      append-assoc old (cellBytes cs) (drop (cellSize * length cs) later),
+      append-assoc old (cellBytes new) (drop (cellSize * length new) later),
+    )
+    (sets-behind old (cellBytes cs ++ drop (cellSize * length cs) later) (bytesOf (cellWords x)) (cellSize * n)
+    ∙ ap (λ (l : List ℕ). old ++ l) (cells-over later cs n x (omega arith) (full-rest full) size (omega (arith, length-drop cellSize before))))
 
-pub cell-over : (before : List ℕ) (cs : List Cell) (l w f : ℕ) → FullCells cs → cellSize * suc (length cs) ≤ length before
-    → cellAdded (cellsOver before cs) (length cs) l w f ≡ cellsOver before (cs ++ (newCell l w f ∷ []))
+pub cell-over : (before : List ℕ) (cs : List Cell) (n l w f : ℕ) → n ≤ length cs → FullCells cs → cellSize * suc n ≤ length before
+    → cellSize * length cs ≤ length before
+    → cellAdded (cellsOver before cs) n l w f ≡ cellsOver before (written cs n (newCell l w f))
 unfolding cellAdded cellsOver
-cell-over before cs l w f full h =
-    let n = length cs in
-    let rest = drop (cellSize * n) before in
-    let bytes = bytesOf (cellWords (newCell l w f)) in
-    let size : length (cellBytes cs ++ rest) ≡ length before = over-size before cs full (omega arith) in
-    let room : n < length (cellBytes cs ++ rest) / cellSize = omega arith in
-    let at : cellSize * n ≡ length (cellBytes cs) + 0 = omega (arith, bytes-size cs full) in
-    let left : cellSize ≤ length rest = omega (arith, length-drop (cellSize * n) before) in
-    let total : cellSize * n + cellSize ≡ cellSize * length (cs ++ (newCell l w f ∷ [])) = omega (arith, length-append cs (newCell l w f ∷ [])) in
-    rw (lt-ltb n (length (cellBytes cs ++ rest) / cellSize) room)
-    (ap (λ (k : ℕ). sets (cellBytes cs ++ rest) k bytes) at
-    ∙ sets-behind (cellBytes cs) rest bytes 0
-    ∙ ap (λ (b : List ℕ). cellBytes cs ++ b) (over-front bytes rest cellSize (new-size l w f) left)
-    ∙ ap (λ (b : List ℕ). cellBytes cs ++ (bytes ++ b)) (drop-drop cellSize (cellSize * n) before ∙ ap (λ (k : ℕ). drop k before) total)
-    ∙ sym (append-assoc (cellBytes cs) bytes (drop (cellSize * length (cs ++ (newCell l w f ∷ []))) before))
-    ∙ ap (λ (b : List ℕ). b ++ drop (cellSize * length (cs ++ (newCell l w f ∷ []))) before) (sym (bytes-more cs (newCell l w f))))
+cell-over before cs n l w f h full room few =
+    let rest = drop (cellSize * length cs) before in
+    let size : length (cellBytes cs ++ rest) ≡ length before = over-size before cs full few in
+    let left : n < length (cellBytes cs ++ rest) / cellSize = omega arith in
+    rw (lt-ltb n (length (cellBytes cs ++ rest) / cellSize) left) (cells-over before cs n (newCell l w f) h full (new-size l w f) room)

@@ -31,25 +31,25 @@ pub record Narrow (z : ℤ) : Type 0 where
 pub record NarrowReadings (rs : List ℤ) : Type 0 where
   pub reading : (i : ℕ) → Narrow (getD rs i (pos 0))
 
--- an entry of one of `made` cells: a narrow number, or a tuple under the empty context or one of the cells
-pub data EntryInOrder (b : List ℕ) (made : ℕ) : Entry → Type 0 where
-  nothing : EntryInOrder b made none
-  a-number : {z : ℤ} → Narrow z → EntryInOrder b made (some (integer z))
-  a-constructor : {k w : ℕ} → TupleAt b k → w ≤ made → EntryInOrder b made (some (constructor k w))
+-- an entry of one of `most` cells, alive or given back: a narrow number, or a tuple under the empty context or one of the cells
+pub data EntryInOrder (b : List ℕ) (most : ℕ) : Entry → Type 0 where
+  nothing : EntryInOrder b most none
+  a-number : {z : ℤ} → Narrow z → EntryInOrder b most (some (integer z))
+  a-constructor : {k w : ℕ} → TupleAt b k → w ≤ most → EntryInOrder b most (some (constructor k w))
 
--- cell c, counted from 0, of `made` cells
-pub record CellInOrder (b : List ℕ) (made c : ℕ) (x : Cell) : Type 0 where
+-- one of `most` cells
+pub record CellInOrder (b : List ℕ) (most : ℕ) (x : Cell) : Type 0 where
   pub label : x .label < 65536
   pub callee : x .callee < 65536
-  pub previous : x .previous ≤ c
+  pub previous : x .previous ≤ most
   pub size : length (x .entries) ≡ mostFields
-  pub entries : (i : ℕ) → EntryInOrder b made (entryAt x i)
+  pub entries : (i : ℕ) → EntryInOrder b most (entryAt x i)
 
 pub record CellsInOrder (b : List ℕ) (cellsAllowed : ℕ) (cs : List Cell) : Type 0 where
   pub few : length cs ≤ cellsAllowed
-  pub cell : (c : ℕ) (x : Cell) → getElem? cs c ≡ some x → CellInOrder b (length cs) c x
+  pub cell : (c : ℕ) (x : Cell) → getElem? cs c ≡ some x → CellInOrder b (length cs) x
 
--- the lent bytes are cells in order, written over what was lent, with room for as many as are allowed
+-- the lent bytes are cells in order, written over what was lent, with room for as many as are allowed; no more are alive
 pub record Standing (b : List ℕ) (cellsAllowed : ℕ) (l : Lent) : Type 0 where
   pub before : List ℕ
   pub room : cellSize * cellsAllowed ≤ length before
@@ -57,17 +57,18 @@ pub record Standing (b : List ℕ) (cellsAllowed : ℕ) (l : Lent) : Type 0 wher
   pub cells : List Cell
   pub order : CellsInOrder b cellsAllowed cells
   pub bytes : l .bytes ≡ cellsOver before cells
-  pub made : l .made ≡ length cells
+  pub most : l .most ≡ length cells
+  pub alive : l .live ≤ length cells
 
--- a constructor that an ending holds is a tuple under the empty context or one of the cells made
+-- a constructor that an ending holds is a tuple under the empty context or one of the cells
 abbrev pub Inside : List ℕ → ℕ → Ending ℕ → Type 0
-Inside b made (value (integer z)) = Unit {0}
-Inside b made (value (constructor k w)) = TupleAt b k × (w ≤ made)
-Inside b made (ended n) = Unit {0}
+Inside b most (value (integer z)) = Unit {0}
+Inside b most (value (constructor k w)) = TupleAt b k × (w ≤ most)
+Inside b most (ended n) = Unit {0}
 
--- what holds of the end of a visit that began with so many steps left and cells made
-pub record Good (b : List ℕ) (cellsAllowed left made : ℕ) (r : Reached ℕ Lent) : Type 0 where
+-- what holds of the end of a visit that began with so many steps left and cells written
+pub record Good (b : List ℕ) (cellsAllowed left most : ℕ) (r : Reached ℕ Lent) : Type 0 where
   pub falls : r .state .left ≤ left
-  pub grows : made ≤ r .state .store .made
+  pub grows : most ≤ r .state .store .most
   pub standing : Standing b cellsAllowed (r .state .store)
-  pub inside : Inside b (r .state .store .made) (r .ending)
+  pub inside : Inside b (r .state .store .most) (r .ending)

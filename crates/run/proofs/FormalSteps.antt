@@ -23,13 +23,14 @@ use Rattle.definitions.specs.Rule as Rule
 use Rattle.definitions.specs.Rule.{Reached, ended, nodeDue, evaluated}
 use Rattle.definitions.specs.Cells.{recalled}
 use Rattle.cells.specs.LentCells.{calleeAt, entryNumber, entryOf}
-use Rattle.lent_rule.specs.Lent.{Lent, underCell, formalByLent, byLent}
+use Rattle.live_counts.specs.Counts.{constructorNoted}
+use Rattle.lent_rule.specs.Lent.{Lent, underLent, formalByLent, byLent}
 use Rattle.lent_rule.proofs.Stands.{previous-made}
 use Rattle.run.specs.declared.state.Outcome.{Outcome}
 use Rattle.run.specs.declared.look_up.Found.{Found}
 use Rattle.run.specs.declared.look_up.Found.the-variants.{Node, Nothing}
 use Rattle.run.specs.NodeTable.{firstPart, secondPart, thirdPart}
-use Rattle.run.specs.Packed.{outcomeIn, isValueIn, stateIn}
+use Rattle.run.specs.Packed.{outcomeIn, isValueIn}
 use Rattle.run.specs.States.{below, above, endingOf, foundOf, stateOf, reachedOf, countedState, visits, evaluates, bytesRemembering}
 use Rattle.run.specs.States.{NodeIs, Visitable, Visits, Evaluates}
 use Rattle.run.proofs.NodeKinds.{is-formal}
@@ -50,7 +51,7 @@ module _ (b : List ℕ) (rs : List ℤ) (limits at : ℕ) (s : Rule.State Lent) 
   visited = visits b rs (above limits) (below limits)
 
   formal-as : NodeIs b rec (below at) kinds.formal
-      → evaluates b rs (above limits) (below limits) (below at) (above at) s ≡ underCell b visited (field rec 0) (above at) s (eqb (above at) 0)
+      → evaluates b rs (above limits) (below limits) (below at) (above at) s ≡ underLent b visited (field rec 0) (above at) s (eqb (above at) 0)
   unfolding evaluated byLent formalByLent
   formal-as h = worked-out b rs limits at s (is-formal h)
 
@@ -63,7 +64,7 @@ module _ (b : List ℕ) (rs : List ℤ) (limits at : ℕ) (s : Rule.State Lent) 
       → own ≡ eqb f (calleeAt (s .store .bytes) (above at))
       → evaluates b rs (above limits) (below limits) (below at) (above at) s
       ≡ recalled (entryOf (cond own (entryNumber (s .store .bytes) (above at) i) 0)) s (rememberedWhere own (above at) i actualVisit)
-  unfolding underCell
+  unfolding underLent
   formal-under {i = i} {own = own} h z ef ei eo =
       formal-as h
       ∙ rw (ne-eqb (above at) 0 z, ← ef, ← ei, ← eo) (own-or-not own (above at) i (entryNumber (s .store .bytes) (above at) i) s actualVisit)
@@ -72,7 +73,7 @@ module _ {b tab : List ℕ} {t limits at : ℕ} {counts : List ℕ} {cells : Ref
   -- under the empty context
   pub formal-ends : {x : ℕ} {o : Outcome} → above at ≡ 0 → outcomeIn x ≡ o → endingOf o ≡ ended noActual
       → Evaluates b tab limits at counts cells x counts cells
-  unfolding underCell
+  unfolding underLent
   formal-ends z = node-ends (a .1) (λ rs h. formal-as b rs limits at _ (a .1 .node) ∙ rw (eq-eqb (above at) 0 z) refl)
 
 -- the formal's cell was read, which left the lent bytes: whether the cell is the formal's own, and the number of its entry there
@@ -90,7 +91,7 @@ pub record ActualSought (b tab : List ℕ) (t limits at : ℕ) (counts : List �
       (λ rs. rememberedWhere own (above at) i (nodeDue (foundOf o) noActual (countedState counts (cells′ .now))
       (λ k. visits b rs (above limits) (below limits) k tail (countedState counts (cells′ .now)))))
   pub there : {k : ℕ} → o ≡ Node k → k < nodes b
-  pub made : tail ≤ getD counts 1 0
+  pub written : tail ≤ getD counts 2 0
 
 -- lent bytes behind a slice
 abbrev pub behind : RefT (List ℕ) → List ℕ → RefT (List ℕ)
@@ -155,7 +156,7 @@ module _ {b tab : List ℕ} {t limits at : ℕ} {counts : List ℕ} {cells : Ref
             stays = refl;
           };
           there = λ q. actual-child (a .1 .equipped .accepted) _ (a .1 .node) eo q;
-          made = rw (read .1 ∙ ap (λ (l : List ℕ). previousAt l (above at)) (r .kept)) (previous-made (context .standing) (above at) head (context .made));
+          written = rw (read .1 ∙ ap (λ (l : List ℕ). previousAt l (above at)) (r .kept)) (previous-made (context .standing) (above at) head (context .written));
         }
 
 module _ {b tab : List ℕ} {t limits at : ℕ} {counts : List ℕ} {cells : RefT (List ℕ)} {own : Bool} {i tail : ℕ} {cells′ : RefT (List ℕ)} {o : Found}
@@ -167,19 +168,20 @@ module _ {b tab : List ℕ} {t limits at : ℕ} {counts : List ℕ} {cells : Ref
   module _ {k p : ℕ} (e : o ≡ Node k) (q : (below p ≡ k) × (above p ≡ tail)) where
     -- what its visit asks
     pub actual-asked : (2 * getD counts 0 0 < t) × Visitable b tab limits p counts (cells′ .now)
-    actual-asked = (s .remains .falls, visitable-at q (s .remains .equipped) (s .there e) (at-context (s .remains .context) (s .made)))
+    actual-asked = (s .remains .falls, visitable-at q (s .remains .equipped) (s .there e) (at-context (s .remains .context) (s .written)))
 
     -- what it gives is returned, and remembered
-    pub actual-returned : {x : ℕ} {counts″ list : List ℕ} {cells″ : RefT (List ℕ)} → Visits b tab limits p counts cells′ x counts″ cells″
+    pub actual-returned : {x kind : ℕ} {counts″ counts‴ list : List ℕ} {cells″ : RefT (List ℕ)} → Visits b tab limits p counts cells′ x counts″ cells″
         → list ≡ bytesRemembering own (cells″ .now) (above at) i (endingOf (outcomeIn x))
-        → Evaluates b tab limits at counts cells x counts″ (behind cells″ list)
-    actual-returned {x} {counts″} {list} {cells″} v el =
+        → kind ≡ x % 65536 → counts‴ ≡ constructorNoted own (above at) kind counts″
+        → Evaluates b tab limits at counts cells x counts‴ (behind cells″ list)
+    unfolding constructorNoted
+    actual-returned {x} {counts″ = counts″} {list = list} {cells″} v el ek ec =
         record {
           same = λ rs h.
-              ap (reachedOf (stateIn x counts″)) el
-              ∙ reached-remembered own (above at) i (stateIn x counts″) (cells″ .now)
+              rw (el, ec, ek) (reached-remembered own (above at) i x counts″ (cells″ .now))
               ∙ ap (rememberedWhere own (above at) i) (visits-at q v rs h ∙ sym (node-there noActual _ _ e))
               ∙ sym (s .remains .same rs h);
-          size = v .size;
+          size = rw ec refl;
           stays = v .stays ∙ s .remains .stays;
         }

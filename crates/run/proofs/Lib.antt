@@ -11,6 +11,7 @@ pub mod Remains
 pub mod Operands
 pub mod Visiting
 pub mod SimpleSteps
+pub mod CallSteps
 pub mod FormalSteps
 pub mod NumberSteps
 pub mod ConstructorSteps

@@ -7,7 +7,7 @@ use native.Mathlib.Omega.{arith}
 use native.Mathlib.Nat.{le-trans}
 use lib.IntN.{ℤ}
 use lib.ListN.{getD, getElem?, length, set}
-use lib.Seq.{getD-set-same, getD-set-other}
+use lib.Seq.{getD-set-same}
 use denote.Ref.{RefT}
 use Rattle.definitions.specs.TranslationKinds as kinds
 use Rattle.definitions.specs.Records.{field}
@@ -29,21 +29,17 @@ use Rattle.lent_rule.proofs.Good.{visit-good}
 use Rattle.run.specs.declared.state.Value.{Value}
 use Rattle.run.specs.declared.state.Value.the-variants.{Constructor}
 use Rattle.run.specs.declared.state.Outcome.the-variants as outcomes
-use Rattle.run.specs.declared.state.State.{State}
 use Rattle.run.specs.declared.look_up.Found.{Found}
 use Rattle.run.specs.declared.look_up.Found.the-variants.{Node}
 use Rattle.run.specs.Packed.{outcomeIn}
-use Rattle.run.specs.States.{below, above, foundOf, endingOf, valueOf, stateOf, reachedOf, NodeIs, visits, Equipped, InContext, Visits}
+use Rattle.run.specs.States.{below, above, foundOf, endingOf, valueOf, stateOf, lentOf, countedState, reachedOf, NodeIs, visits, Equipped, InContext, Visits}
 use Rattle.run.proofs.Endings.{found-some}
 use Rattle.run.proofs.NodeKinds.{is-formal, is-conditional, is-call, is-case}
 
 -- the measures: two for each step left, and one more at the function of a kind
-pub falls-set : (counts : List ℕ) {t : ℕ} → length counts ≡ 2 → (getD counts 0 0 ≡ 0 → ⊥) → 2 * getD counts 0 0 ≡ t
+pub falls-set : (counts : List ℕ) {t : ℕ} → length counts ≡ 4 → (getD counts 0 0 ≡ 0 → ⊥) → 2 * getD counts 0 0 ≡ t
     → 2 * getD (set counts 0 (getD counts 0 0 - 1)) 0 0 + 1 < t
 falls-set counts size h e = rw (getD-set-same counts 0 (getD counts 0 0 - 1) 0 (omega arith)) (omega arith)
-
-pub falls-call : (counts : List ℕ) {t : ℕ} (v : ℕ) → length counts ≡ 2 → 2 * getD counts 0 0 + 1 ≡ t → 2 * getD (set counts 1 v) 0 0 < t
-falls-call counts v size e = rw (getD-set-other counts 1 0 v 0 (λ z. omega (arith, z))) (omega arith)
 
 pub falls-on : {l left t : ℕ} → l ≤ left → 2 * left < t → 2 * l < t
 falls-on h e = omega arith
@@ -73,30 +69,30 @@ member-child {b} {k} {x} i accepted t e f = member-below b accepted k i x t (fou
 
 -- after a visit, from lent bytes that hold cells in order
 module _ (b : List ℕ) (accepted : translationVerdict b ≡ Accepted) (bytes : Bytes b) (rs : List ℤ) (narrow : NarrowReadings rs)
-    (cellsAllowed n x w left made : ℕ) (cells : List ℕ) (r : State) (during : List ℕ) (below : x < nodes b)
-    (stands : Standing b cellsAllowed (record { bytes = cells; made = made })) (context : w ≤ made)
-    (g : reachedOf r during ≡ visits b rs cellsAllowed n x w (stateOf left made cells)) where
-  reached-good : Good b cellsAllowed left made (reachedOf r during)
+    (cellsAllowed n k w : ℕ) (counts before : List ℕ) (x : ℕ) (counts′ during : List ℕ) (below : k < nodes b)
+    (stands : Standing b cellsAllowed (lentOf counts before)) (context : w ≤ getD counts 2 0)
+    (g : reachedOf x counts′ during ≡ visits b rs cellsAllowed n k w (countedState counts before)) where
+  reached-good : Good b cellsAllowed (getD counts 0 0) (getD counts 2 0) (reachedOf x counts′ during)
   unfolding visits stateOf
-  reached-good = rw (← g) at (visit-good b accepted bytes rs narrow cellsAllowed n x w (stateOf left made cells) stands below context)
+  reached-good = rw (← g) at (visit-good b accepted bytes rs narrow cellsAllowed n k w (countedState counts before) stands below context)
 
-  pub reached-falls : r .left ≤ left
+  reached-falls : getD counts′ 0 0 ≤ getD counts 0 0
   unfolding reachedOf reach stateOf
   reached-falls = reached-good .falls
 
-  pub reached-grows : made ≤ r .made
+  reached-grows : getD counts 2 0 ≤ getD counts′ 2 0
   unfolding reachedOf reach stateOf
   reached-grows = reached-good .grows
 
-  pub reached-stands : Standing b cellsAllowed (record { bytes = during; made = r .made })
+  reached-stands : Standing b cellsAllowed (lentOf counts′ during)
   unfolding reachedOf reach stateOf
   reached-stands = reached-good .standing
 
-  pub reached-inside : Inside b (r .made) (endingOf (r .outcome))
+  reached-inside : Inside b (getD counts′ 2 0) (endingOf (outcomeIn x))
   unfolding reachedOf reach stateOf
   reached-inside = reached-good .inside
 
-  pub reached-tuple : (m u : ℕ) → r .outcome ≡ outcomes.Value (Constructor m u) → TupleAt b m × (u ≤ r .made)
+  reached-tuple : (m u : ℕ) → outcomeIn x ≡ outcomes.Value (Constructor m u) → TupleAt b m × (u ≤ getD counts′ 2 0)
   unfolding endingOf valueOf
   reached-tuple m u e = rw e at reached-inside
 
@@ -106,24 +102,24 @@ module _ {b tab : List ℕ} {limits p k w : ℕ} {counts : List ℕ} {cells : Re
   here : below p < nodes b
   here = rw (at .0) there
 
-  under : above p ≤ getD counts 1 0
-  under = rw (at .1) (c .made)
+  under : above p ≤ getD counts 2 0
+  under = rw (at .1) (c .written)
 
   pub visit-falls : getD counts′ 0 0 ≤ getD counts 0 0
   visit-falls =
-      reached-falls b (q .accepted) (q .bytes) (q .readings) (q .narrow) _ _ _ _ _ _ _ _ _ here (c .standing) under (v .same (q .readings) (q .held))
+      reached-falls b (q .accepted) (q .bytes) (q .readings) (q .narrow) _ _ _ _ counts _ x _ _ here (c .standing) under (v .same (q .readings) (q .held))
 
   -- what an earlier context stands in
-  pub visit-context : {u : ℕ} → u ≤ getD counts 1 0 → InContext b (above limits) u counts′ (cells′ .now)
+  pub visit-context : {u : ℕ} → u ≤ getD counts 2 0 → InContext b (above limits) u counts′ (cells′ .now)
   visit-context h =
       let same = v .same (q .readings) (q .held) in
-      let grows = reached-grows b (q .accepted) (q .bytes) (q .readings) (q .narrow) _ _ _ _ _ _ _ _ _ here (c .standing) under same in
+      let grows = reached-grows b (q .accepted) (q .bytes) (q .readings) (q .narrow) _ _ _ _ counts _ x _ _ here (c .standing) under same in
       record {
         size = v .size;
-        standing = reached-stands b (q .accepted) (q .bytes) (q .readings) (q .narrow) _ _ _ _ _ _ _ _ _ here (c .standing) under same;
-        made = le-trans h grows;
+        standing = reached-stands b (q .accepted) (q .bytes) (q .readings) (q .narrow) _ _ _ _ counts _ x _ _ here (c .standing) under same;
+        written = le-trans h grows;
       }
 
-  pub visit-tuple : {m u : ℕ} → outcomeIn x ≡ outcomes.Value (Constructor m u) → TupleAt b m × (u ≤ getD counts′ 1 0)
+  pub visit-tuple : {m u : ℕ} → outcomeIn x ≡ outcomes.Value (Constructor m u) → TupleAt b m × (u ≤ getD counts′ 2 0)
   visit-tuple e =
-      reached-tuple b (q .accepted) (q .bytes) (q .readings) (q .narrow) _ _ _ _ _ _ _ _ _ here (c .standing) under (v .same (q .readings) (q .held)) _ _ e
+      reached-tuple b (q .accepted) (q .bytes) (q .readings) (q .narrow) _ _ _ _ counts _ x _ _ here (c .standing) under (v .same (q .readings) (q .held)) _ _ e

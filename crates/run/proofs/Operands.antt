@@ -130,15 +130,15 @@ pub record Awaits (b tab : List ℕ) (t limits at : ℕ) (counts : List ℕ) (ce
   pub remains : Remains b tab t limits at counts cells counts′ cells′
       (λ rs. awaited (d rs) (visits b rs (above limits) (below limits) k w (countedState counts′ (cells′ .now))))
   pub there : k < nodes b
-  pub made : w ≤ getD counts′ 1 0
+  pub written : w ≤ getD counts′ 2 0
 
--- an operand was visited for a node of a kind, and x returned: what remains, and that a constructor is a tuple's, under a context of the cells made
+-- an operand was visited for a node of a kind, and x returned: what remains, and that a constructor is a tuple's, under a context of the cells written
 pub record OperandVisited (b tab : List ℕ) (t limits at : ℕ) (counts : List ℕ) (cells : RefT (List ℕ)) (x : ℕ) (counts′ : List ℕ)
     (cells′ : RefT (List ℕ)) (kind : ℕ) (d : List ℤ → Wanted) : Type 0 where
   pub node : Evaluable b tab limits at counts (cells .now) kind
   pub remains : Remains b tab t limits at counts cells counts′ cells′
       (λ rs. goesOn (d rs) (endingOf (outcomeIn x)) (countedState counts′ (cells′ .now)))
-  pub tuple : {m u : ℕ} → outcomeIn x ≡ outcomes.Value (Constructor m u) → TupleAt b m × (u ≤ getD counts′ 1 0)
+  pub tuple : {m u : ℕ} → outcomeIn x ≡ outcomes.Value (Constructor m u) → TupleAt b m × (u ≤ getD counts′ 2 0)
 
 -- and x is the value v
 pub record Gives (b tab : List ℕ) (t limits at : ℕ) (counts : List ℕ) (cells : RefT (List ℕ)) (x : ℕ) (counts′ : List ℕ)
@@ -166,12 +166,12 @@ operand-awaits {b} {limits = limits} {at = at} {counts = counts} {cells = cells}
         stays = refl;
       };
       there = n .there;
-      made = a .1 .context .made;
+      written = a .1 .context .written;
     }
 
 awaits-context : {b tab : List ℕ} {t limits at : ℕ} {counts : List ℕ} {cells : RefT (List ℕ)} {counts′ : List ℕ} {cells′ : RefT (List ℕ)} {kind k w : ℕ}
     {d : List ℤ → Wanted} → Awaits b tab t limits at counts cells counts′ cells′ kind k w d → InContext b (above limits) w counts′ (cells′ .now)
-awaits-context a = at-context (a .remains .context) (a .made)
+awaits-context a = at-context (a .remains .context) (a .written)
 
 -- the visit of an operand: what it asks, and what is known after it
 module _ {b tab : List ℕ} {t limits at : ℕ} {counts : List ℕ} {cells : RefT (List ℕ)} {counts′ : List ℕ} {cells′ : RefT (List ℕ)} {kind k w p : ℕ}
@@ -191,7 +191,7 @@ module _ {b tab : List ℕ} {t limits at : ℕ} {counts : List ℕ} {cells : Ref
           equipped = a .remains .equipped;
           same = λ rs h. a .remains .same rs h ∙ rw (← visits-at q v rs h) refl;
           falls = falls-on (visit-falls (a .remains .equipped) q (a .there) (awaits-context a) v) (a .remains .falls);
-          context = visit-context (a .remains .equipped) q (a .there) (awaits-context a) v (a .remains .context .made);
+          context = visit-context (a .remains .equipped) q (a .there) (awaits-context a) v (a .remains .context .written);
           stays = v .stays ∙ a .remains .stays;
         };
         tuple = visit-tuple (a .remains .equipped) q (a .there) (awaits-context a) v;
@@ -229,7 +229,7 @@ module _ {b tab : List ℕ} {t limits at : ℕ} {counts : List ℕ} {cells : Ref
     pub given-tuple : TupleAt b m
     given-tuple = g .visited .tuple (g .told) .0
 
-    pub given-context : u ≤ getD counts′ 1 0
+    pub given-context : u ≤ getD counts′ 2 0
     given-context = g .visited .tuple (g .told) .1
 
     pub tuple-room : m < mostNodes

@@ -1,14 +1,15 @@
--- Laws of an outcome in one number, and of the state that it is the outcome of.
+-- Laws of an outcome in one number, and of the state that a run's last visit leaves.
 use mathlib.Core.Path.{_≡_, refl, sym, ap, _∙_}
 use Prim.Native.Nat.{ℕ, _/_, _%_, _<_}
 use mathlib.Core.List.{List}
 use native.Mathlib.Omega.{arith}
 use lib.IntN.{ℤ}
+use lib.ListN.{getD}
 use borrow.Author.Tests.{ne-eqb}
 use mir.Syntax.{w32}
 use mir.Val.{toZ, SFits}
 use Rattle.definitions.specs.Operators.{residue}
-use Rattle.definitions.specs.Rule.{Ending, Reached}
+use Rattle.definitions.specs.Rule.{Reached, reach}
 use Rattle.run.specs.declared.state.Value.{Value}
 use Rattle.run.specs.declared.state.Value.the-variants.{Number, Constructor}
 use Rattle.run.specs.declared.state.Outcome.{Outcome}
@@ -16,7 +17,7 @@ use Rattle.run.specs.declared.state.Outcome.the-variants as outcomes
 use Rattle.run.specs.declared.state.State.{State}
 use Rattle.lent_rule.specs.Lent.{Lent}
 use Rattle.run.specs.NodeTable.{Parts}
-use Rattle.run.specs.States.{endingOf, reachedOf, Leaves}
+use Rattle.run.specs.States.{endingOf, stateOf, reachedOf, Leaves}
 use Rattle.run.specs.Packed.{either, outcomeIn}
 use Rattle.run.proofs.Entries.{split, halves, bits-back}
 
@@ -62,11 +63,6 @@ ended-packed o n x eo t =
 pub value-packed : (o : Outcome) (v : Value) (x : ℕ) → o ≡ outcomes.Value v → outcomeIn x ≡ outcomes.Value v → outcomeIn x ≡ o
 value-packed o v x eo e = e ∙ sym eo
 
--- the state of a visit that returned a number, by the counts that it left
-pub leaves-in : {o : Outcome} {e : Ending ℕ} {left made : ℕ} (x : ℕ) → outcomeIn x ≡ o → endingOf o ≡ e
-    → Leaves (record { outcome = outcomeIn x; left = left; made = made }) e left made
-leaves-in x f l = record { ending = ap endingOf f ∙ l; steps = refl; cells = refl }
-
 -- an outcome by the state that was opened
 pub opens : {o p q : Outcome} → o ≡ p → o ≡ q → p ≡ q
 opens e f = sym e ∙ f
@@ -74,7 +70,13 @@ opens e f = sym e ∙ f
 pub opens-value : {o p : Outcome} {v w : Value} → o ≡ p → o ≡ outcomes.Value v → v ≡ w → p ≡ outcomes.Value w
 opens-value e f g = sym e ∙ f ∙ ap outcomes.Value g
 
-pub reached-opened : (s : State) (x l m : ℕ) (after : List ℕ) (q : Reached ℕ Lent) → (s .outcome ≡ outcomeIn x) × (s .left ≡ l) × (s .made ≡ m)
-    → reachedOf (record { outcome = outcomeIn x; left = l; made = m }) after ≡ q → reachedOf s after ≡ q
-unfolding reachedOf
-reached-opened s x l m after q e g = rw (e .0, e .1, e .2) g
+pub last-opened : {end : State} {after : List ℕ} {r : Reached ℕ Lent} (x : ℕ) (counts : List ℕ)
+    → (end .outcome ≡ outcomeIn x) × (end .left ≡ getD counts 0 0) × (end .most ≡ getD counts 2 0) → reachedOf x counts after ≡ r → Leaves end after r
+unfolding reachedOf reach stateOf
+last-opened x counts e g =
+    record {
+      ending = ap endingOf (e .0) ∙ ap (λ (u : Reached ℕ Lent). u .ending) g;
+      left = e .1 ∙ ap (λ (u : Reached ℕ Lent). u .state .left) g;
+      most = e .2 ∙ ap (λ (u : Reached ℕ Lent). u .state .store .most) g;
+      bytes = ap (λ (u : Reached ℕ Lent). u .state .store .bytes) g;
+    }

@@ -15,9 +15,8 @@ use Rattle.lent_rule.specs.Lent.{Lent}
 use Rattle.run.specs.NodeTable.{ReadingsIn}
 use Rattle.run.specs.Packed.{outcomeIn}
 use Rattle.run.specs.States.{below, above, endingOf, foundOf, countedState, visits, evaluates, Equipped, InContext, Visitable, Evaluable, Visits, Evaluates}
-use Rattle.run.proofs.Outcomes.{leaves-reached}
+use Rattle.run.proofs.Outcomes.{reached-as}
 use Rattle.run.proofs.Endings.{node-missing, node-there}
-use Rattle.run.proofs.Packing.{leaves-in}
 use Rattle.run.proofs.Counting.{visitable-at, visits-at}
 
 -- the node of `at` worked out, from counts and lent bytes
@@ -49,7 +48,7 @@ pub node-ends : {b tab : List ℕ} {limits at : ℕ} {counts : List ℕ} {cells 
     → ((rs : List ℤ) → ReadingsIn b rs tab → workedOut b rs limits at counts (cells .now) ≡ reach e (countedState counts (cells .now)))
     → outcomeIn x ≡ o → endingOf o ≡ e → Evaluates b tab limits at counts cells x counts cells
 node-ends a s f g =
-    record { same = λ rs h. leaves-reached _ (leaves-in _ f g) ∙ sym (s rs h); size = a .context .size; stays = refl }
+    record { same = λ rs h. reached-as _ _ _ f g ∙ sym (s rs h); size = a .context .size; stays = refl }
 
 module _ {b tab : List ℕ} {t limits at : ℕ} {counts : List ℕ} {cells : RefT (List ℕ)} {counts′ : List ℕ} {cells′ : RefT (List ℕ)} where
   -- the same, said otherwise
@@ -64,15 +63,15 @@ module _ {b tab : List ℕ} {t limits at : ℕ} {counts : List ℕ} {cells : Ref
       → outcomeIn x ≡ o → endingOf o ≡ e → Evaluates b tab limits at counts cells x counts′ cells′
   remains-ends r f g =
       record {
-        same = λ rs h. leaves-reached _ (leaves-in _ f g) ∙ sym (r .same rs h);
+        same = λ rs h. reached-as _ _ _ f g ∙ sym (r .same rs h);
         size = r .context .size;
         stays = r .stays;
       }
 
 -- what another context stands in there
-pub at-context : {b : List ℕ} {cellsAllowed u w : ℕ} {counts bytes : List ℕ} → InContext b cellsAllowed u counts bytes → w ≤ getD counts 1 0
+pub at-context : {b : List ℕ} {cellsAllowed u w : ℕ} {counts bytes : List ℕ} → InContext b cellsAllowed u counts bytes → w ≤ getD counts 2 0
     → InContext b cellsAllowed w counts bytes
-at-context c h = record { size = c .size; standing = c .standing; made = h }
+at-context c h = record { size = c .size; standing = c .standing; written = h }
 
 -- it goes on to the visit of node k under context w
 pub record Onward (b tab : List ℕ) (t limits at : ℕ) (counts : List ℕ) (cells : RefT (List ℕ)) (counts′ : List ℕ) (cells′ : RefT (List ℕ))
@@ -80,7 +79,7 @@ pub record Onward (b tab : List ℕ) (t limits at : ℕ) (counts : List ℕ) (ce
   pub remains : Remains b tab t limits at counts cells counts′ cells′
       (λ rs. visits b rs (above limits) (below limits) k w (countedState counts′ (cells′ .now)))
   pub there : k < nodes b
-  pub made : w ≤ getD counts′ 1 0
+  pub written : w ≤ getD counts′ 2 0
 
 -- it goes on to the visit of the node that was found, under context w, or ends with a fault
 pub record Sought (b tab : List ℕ) (t limits at : ℕ) (counts : List ℕ) (cells : RefT (List ℕ)) (counts′ : List ℕ) (cells′ : RefT (List ℕ))
@@ -89,13 +88,13 @@ pub record Sought (b tab : List ℕ) (t limits at : ℕ) (counts : List ℕ) (ce
       (λ rs. nodeDue (foundOf o) fault (countedState counts′ (cells′ .now))
       (λ k. visits b rs (above limits) (below limits) k w (countedState counts′ (cells′ .now))))
   pub there : {k : ℕ} → o ≡ Node k → k < nodes b
-  pub made : w ≤ getD counts′ 1 0
+  pub written : w ≤ getD counts′ 2 0
 
 module _ {b tab : List ℕ} {t limits at : ℕ} {counts : List ℕ} {cells : RefT (List ℕ)} {counts′ : List ℕ} {cells′ : RefT (List ℕ)} where
   module _ {k w p : ℕ} (r : Onward b tab t limits at counts cells counts′ cells′ k w) (e : (below p ≡ k) × (above p ≡ w)) where
     -- what the visit asks, and what it gives is returned
     pub visit-asked : (2 * getD counts′ 0 0 < t) × Visitable b tab limits p counts′ (cells′ .now)
-    visit-asked = (r .remains .falls, visitable-at e (r .remains .equipped) (r .there) (at-context (r .remains .context) (r .made)))
+    visit-asked = (r .remains .falls, visitable-at e (r .remains .equipped) (r .there) (at-context (r .remains .context) (r .written)))
 
     pub visit-returned : {x : ℕ} {counts″ : List ℕ} {cells″ : RefT (List ℕ)} → Visits b tab limits p counts′ cells′ x counts″ cells″
         → Evaluates b tab limits at counts cells x counts″ cells″
@@ -112,4 +111,4 @@ module _ {b tab : List ℕ} {t limits at : ℕ} {counts : List ℕ} {cells : Ref
     node-missed e f g = remains-ends (remains-as (s .remains) (λ rs. node-missing fault _ _ e)) f g
 
     pub node-found : {k : ℕ} → o ≡ Node k → Onward b tab t limits at counts cells counts′ cells′ k w
-    node-found e = record { remains = remains-as (s .remains) (λ rs. node-there fault _ _ e); there = s .there e; made = s .made }
+    node-found e = record { remains = remains-as (s .remains) (λ rs. node-there fault _ _ e); there = s .there e; written = s .written }

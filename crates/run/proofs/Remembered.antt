@@ -13,24 +13,25 @@ use mir.Val.{toZ}
 use Rattle.definitions.specs.Bytes.{words32}
 use Rattle.definitions.specs.Operators.{residue}
 use Rattle.definitions.specs.Rule as Rule
-use Rattle.definitions.specs.Rule.{Ending, Reached, reach}
-use Rattle.definitions.specs.Cells.{recalled}
+use Rattle.definitions.specs.Rule.{Reached, reach}
+use Rattle.definitions.specs.Cells.{recalled, remembered, whereOwn}
+use Rattle.definitions.specs.LiveCells.{older}
 use Rattle.definitions.specs.CellBytes.{entryWords}
 use Rattle.cells.specs.LentCells.{entryOf, entryWritten}
 use Rattle.operators.proofs.Residues.{residue-read}
-use Rattle.lent_rule.specs.Lent.{Lent, keeping, remembered, whereOwn}
-use Rattle.run.specs.declared.state.State.{State}
+use Rattle.live_counts.specs.Counts.{constructorNoted}
+use Rattle.lent_rule.specs.Lent.{Lent, keepingLent}
 use Rattle.run.specs.Packed.{outcomeIn, isValueIn}
 use Rattle.run.specs.States.{valueOf, endingOf, stateOf, reachedOf, bytesRemembering}
 use Rattle.run.proofs.Packing.{outcome-number, outcome-constructor, outcome-ended}
 
 -- the three kinds of numbers that hold an outcome
-data Held (x : ℕ) : Type 0 where
+pub data Held (x : ℕ) : Type 0 where
   a-number : x % 65536 ≡ 1 → Held x
   a-constructor : x % 65536 ≡ 2 → Held x
   an-end : (x % 65536 ≡ 1 → ⊥) → (x % 65536 ≡ 2 → ⊥) → Held x
 
-held : (x : ℕ) → Held x
+pub held : (x : ℕ) → Held x
 held x = by (ℕ-discrete (x % 65536) 1) (ℕ-discrete (x % 65536) 2)
   where
     by : Dec (x % 65536 ≡ 1) → Dec (x % 65536 ≡ 2) → Held x
@@ -131,27 +132,30 @@ recalled-none x e = rw e refl
 -- a visit's end, remembered where the cell is the formal's own
 unfoldable pub rememberedWhere : Bool → ℕ → ℕ → Reached ℕ Lent → Reached ℕ Lent
 rememberedWhere false w i r = r
-rememberedWhere true w i r = remembered w i r
+rememberedWhere true w i r = remembered keepingLent w i r
 
 pub own-or-not : (own : Bool) (w i x : ℕ) (s : Rule.State Lent) (actual : Reached ℕ Lent)
-    → whereOwn own w i (entryOf x) s actual ≡ recalled (entryOf (cond own x 0)) s (rememberedWhere own w i actual)
+    → whereOwn keepingLent own w i (entryOf x) s actual ≡ recalled (entryOf (cond own x 0)) s (rememberedWhere own w i actual)
 unfolding whereOwn rememberedWhere recalled entryOf
 own-or-not true w i x s actual = refl
 own-or-not false w i x s actual = refl
 
 pub end-kept : (own : Bool) (w i n : ℕ) (s : Rule.State Lent) → rememberedWhere own w i (reach (Rule.ended n) s) ≡ reach (Rule.ended n) s
-unfolding rememberedWhere remembered keeping reach
+unfolding rememberedWhere remembered keepingLent reach
 end-kept true w i n s = refl
 end-kept false w i n s = refl
 
-kept-bytes : (own : Bool) (w i left made : ℕ) (bytes : List ℕ) (e : Ending ℕ)
-    → reach e (stateOf left made (bytesRemembering own bytes w i e)) ≡ rememberedWhere own w i (reach e (stateOf left made bytes))
-unfolding rememberedWhere remembered keeping reach stateOf bytesRemembering
-kept-bytes false w i left made bytes e = refl
-kept-bytes true w i left made bytes (Rule.value v) = refl
-kept-bytes true w i left made bytes (Rule.ended n) = refl
+kept-own : (w i x : ℕ) (counts bytes : List ℕ) → Held x
+    → reachedOf x (constructorNoted true w (x % 65536) counts) (bytesRemembering true bytes w i (endingOf (outcomeIn x)))
+    ≡ remembered keepingLent w i (reachedOf x counts bytes)
+unfolding reachedOf remembered keepingLent older reach stateOf bytesRemembering constructorNoted endingOf valueOf
+kept-own w i x counts bytes (a-number q) = rw (outcome-number x q, q) refl
+kept-own w i x counts bytes (a-constructor q) = rw (outcome-constructor x q, q) refl
+kept-own w i x counts bytes (an-end n m) = rw (outcome-ended x n m, ne-eqb (x % 65536) 2 m) refl
 
-pub reached-remembered : (own : Bool) (w i : ℕ) (r : State) (bytes : List ℕ)
-    → reachedOf r (bytesRemembering own bytes w i (endingOf (r .outcome))) ≡ rememberedWhere own w i (reachedOf r bytes)
-unfolding reachedOf
-reached-remembered own w i r bytes = kept-bytes own w i (r .left) (r .made) bytes (endingOf (r .outcome))
+pub reached-remembered : (own : Bool) (w i x : ℕ) (counts bytes : List ℕ)
+    → reachedOf x (constructorNoted own w (x % 65536) counts) (bytesRemembering own bytes w i (endingOf (outcomeIn x)))
+    ≡ rememberedWhere own w i (reachedOf x counts bytes)
+unfolding reachedOf rememberedWhere reach stateOf bytesRemembering constructorNoted
+reached-remembered false w i x counts bytes = refl
+reached-remembered true w i x counts bytes = kept-own w i x counts bytes (held x)

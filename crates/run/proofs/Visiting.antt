@@ -1,5 +1,5 @@
 -- What a visit does before and after the function of its node's kind: the two stops, a step counted, and the node by its kind.
-use mathlib.Core.Path.{_≡_, refl}
+use mathlib.Core.Path.{_≡_, refl, sym, _∙_}
 use Prim.Native.Nat.{ℕ, _+_, _*_, _-_, _<_}
 use mathlib.Core.List.{List}
 use lib.ListN.{getD, set}
@@ -10,7 +10,7 @@ use Rattle.definitions.specs.Rule.{ended}
 use Rattle.run.specs.declared.state.Outcome.{Outcome}
 use Rattle.run.specs.Packed.{outcomeIn}
 use Rattle.run.specs.States.{below, above, endingOf, NodeIs, Visitable, Evaluable, Visits, Evaluates}
-use Rattle.run.proofs.Packing.{leaves-in}
+use Rattle.run.proofs.Outcomes.{reached-as}
 use Rattle.run.proofs.Counting.{context-taken, visit-taken}
 use Rattle.run.proofs.Nodes.{falls-set}
 use Rattle.run.proofs.Steps.{visit-no-step, visit-no-nesting}
@@ -24,7 +24,7 @@ module _ {b tab : List ℕ} {limits at : ℕ} {counts : List ℕ} where
     pub no-step-left : getD counts 0 0 ≡ 0 → outcomeIn x ≡ o → endingOf o ≡ ended noStep → Visits b tab limits at counts cells x counts cells
     no-step-left z f g =
         record {
-          same = λ rs h. visit-no-step b rs (above limits) (below at) (above at) (cells .now) (below limits) z (leaves-in x f g);
+          same = λ rs h. reached-as _ _ _ f g ∙ sym (visit-no-step b rs (above limits) (below at) (above at) _ (below limits) (getD counts 0 0) z);
           size = a .context .size;
           stays = refl;
         }
@@ -33,7 +33,7 @@ module _ {b tab : List ℕ} {limits at : ℕ} {counts : List ℕ} where
         → Visits b tab limits at counts cells x counts cells
     no-nesting-left l z f g =
         record {
-          same = λ rs h. visit-no-nesting b rs (above limits) (below at) (above at) (cells .now) (below limits) l z (leaves-in x f g);
+          same = λ rs h. reached-as _ _ _ f g ∙ sym (visit-no-nesting b rs (above limits) (below at) (above at) _ (below limits) (getD counts 0 0) l z);
           size = a .context .size;
           stays = refl;
         }

@@ -1,7 +1,5 @@
--- An outcome in one number of 64 bits, and the state that it is the outcome of.
+-- An outcome in one number of 64 bits.
 use Prim.Native.Nat.{ℕ, _/_, _%_}
-use mathlib.Core.List.{List}
-use lib.ListN.{getD}
 use mathlib.Core.Bool.{Bool, true, false, _||_}
 use lib.Dec.{eqb}
 use mir.Syntax.{w32}
@@ -10,7 +8,6 @@ use Rattle.definitions.specs.CellBytes.{numberKind, constructorKind}
 use Rattle.run.specs.declared.state.Value.the-variants.{Number, Constructor}
 use Rattle.run.specs.declared.state.Outcome.{Outcome}
 use Rattle.run.specs.declared.state.Outcome.the-variants as outcomes
-use Rattle.run.specs.declared.state.State.{State}
 
 unfoldable pub either : Bool → Outcome → Outcome → Outcome
 either true a b = a
@@ -25,7 +22,3 @@ outcomeIn x =
 -- whether it is a value
 unfoldable pub isValueIn : ℕ → Bool
 isValueIn x = eqb (x % 65536) numberKind || eqb (x % 65536) constructorKind
-
--- the state of a visit that returned a number, by the counts that it left
-abbrev pub stateIn : ℕ → List ℕ → State
-stateIn x counts = record { outcome = outcomeIn x; left = getD counts 0 0; made = getD counts 1 0 }

@@ -21,8 +21,6 @@ use crate::node_table::Table;
 use crate::node_table::fill_nodes;
 use crate::node_table::set_readings;
 use crate::packed::opened;
-use crate::state::LEFT;
-use crate::state::MADE;
 use crate::visit::visit;
 use allowances::allowed;
 use answer::Answer;
@@ -34,6 +32,8 @@ use definitions::sizes::MOST_FUNCTIONS;
 use definitions::sizes::MOST_RECORDS;
 use file_layout::layout;
 use format::translation::fill_translation;
+use live_counts::LEFT;
+use live_counts::MOST;
 use widths::wide;
 
 // Reads a translation into a lent table. Of a refused file only the verdict counts.
@@ -77,14 +77,14 @@ pub fn run_table(
     set_readings(table, readings);
     let limits = nesting + 0x1_0000 * cells_allowed;
     let first = first_body(file) as u32;
-    let mut counts = [steps, 0u32];
+    let mut counts = [steps, 0u32, 0u32, 0u32];
     let x = visit(&file, table, cells, &mut counts, limits, first);
-    answered(table, opened(x, counts[LEFT], counts[MADE]), steps)
+    answered(table, opened(x, counts[LEFT], counts[MOST]), steps)
 }
 
-// Runs a translation on a list of readings, with allowances of steps, nesting and cells, in lent cells of 68 bytes. The answer
-// is the rule's, and the lent bytes start with the cells made and stay as they were past them; or it is the refusal, and the
-// lent bytes stay as they were. The slice behind `cells` stays the same.
+// Runs a translation on a list of readings, with allowances of steps, nesting and live cells, in lent cells of 68 bytes. The answer
+// is the rule's, and the lent bytes start with as many cells as were alive together at most and stay as they were past them; or it is
+// the refusal, and the lent bytes stay as they were. The slice behind `cells` stays the same.
 pub fn run(
     file: &[u8],
     readings: &[i32],

@@ -73,13 +73,13 @@ fn outcome_in(x: u64) -> Outcome
     Outcome::Ended(first_in(x))
 }
 
-// The state after a visit: the outcome that it returned, the steps left and the cells made.
-pub(crate) fn opened(x: u64, left: u32, made: u32) -> State
-    ensures { λ r. ⌜ (r .outcome ≡ outcomeIn x) × (r .left ≡ left) × (r .made ≡ made) ⌝ }
+// The state after a visit: the outcome that it returned, the steps left and the most cells alive together.
+pub(crate) fn opened(x: u64, left: u32, most: u32) -> State
+    ensures { λ r. ⌜ (r .outcome ≡ outcomeIn x) × (r .left ≡ left) × (r .most ≡ most) ⌝ }
 {
     State {
         outcome: outcome_in(x),
         left,
-        made,
+        most,
     }
 }

@@ -1,4 +1,4 @@
-// The state of a run: how the last visit ended, the steps left and the cells made.
+// The state of a run: how the last visit ended, the steps left and the most cells alive together.
 ghost use mathlib.Core.Path.{_≡_};
 ghost use lib.IntN.{pos};
 ghost use Rattle.definitions.specs.Rule.{integer, constructor, value, ended};
@@ -17,17 +17,10 @@ pub enum Outcome {
     Ended(u16),
 }
 
-// The counts of a run, the steps left and the cells made, and where each stands.
-pub type Counts = [u32; 2];
-
-pub const LEFT: usize = 0;
-
-pub const MADE: usize = 1;
-
 pub struct State {
     pub outcome: Outcome,
     pub left: u32,
-    pub made: u32,
+    pub most: u32,
 }
 
 // The outcome of a visit that a stop or a run fault ends.

@@ -1,5 +1,5 @@
 // The visits of a run: of a node, and by its kind of a formal, a selection, a case and the rest. They call each other while the steps
-// left fall. `tab` is the table of the run; `counts` has the steps left and the cells made; `limits` has the visits that may still
+// left fall. `tab` is the table of the run; `counts` has the counts of the run; `limits` has the visits that may still
 // be nested below and the cell allowance above; `at` has the node below and the context above.
 ghost use Rattle.definitions.specs.TranslationKinds as kinds;
 ghost use Rattle.run.specs.States.{Visitable, Evaluable, Visits, Evaluates};
@@ -24,9 +24,6 @@ use crate::node_table::third_in;
 use crate::packed::is_value;
 use crate::packed::opened;
 use crate::packed::packed;
-use crate::state::Counts;
-use crate::state::LEFT;
-use crate::state::MADE;
 use crate::state::Outcome;
 use crate::state::Value;
 use crate::state::constructor;
@@ -38,6 +35,14 @@ use cells::cell::add_cell;
 use cells::cell::pair_of;
 use definitions::numbers;
 use definitions::translation_kinds;
+use live_counts::Counts;
+use live_counts::LEFT;
+use live_counts::LIVE;
+use live_counts::MOST;
+use live_counts::OLDEST;
+use live_counts::close_call;
+use live_counts::note_constructor;
+use live_counts::open_call;
 use operators::compute;
 use widths::wide32;
 
@@ -125,6 +130,7 @@ fn visit_formal(
     let tail = (cell / 0x1_0000) as u16;
     let x = visit(b, tab, cells, counts, limits, pair_of(n, tail));
     remember(*cells, own, w, place % POSITIONS, x);
+    note_constructor(counts, own, w, kind_in(x));
     x
 }
 
@@ -144,7 +150,7 @@ fn visit_select(
     let w = (at / 0x1_0000) as u16;
     let n = first_in(entry(tab, k));
     let tuple = visit(b, tab, cells, counts, limits, pair_of(n, w));
-    let state = opened(tuple, counts[LEFT], counts[MADE]);
+    let state = opened(tuple, counts[LEFT], counts[MOST]);
     let outcome = state.outcome;
     let Outcome::Value(value) = outcome else {
         return tuple;
@@ -180,7 +186,7 @@ fn visit_operator(
     let w = (at / 0x1_0000) as u16;
     let n = second_in(entry(tab, k));
     let first = visit(b, tab, cells, counts, limits, pair_of(n, w));
-    let state = opened(first, counts[LEFT], counts[MADE]);
+    let state = opened(first, counts[LEFT], counts[MOST]);
     let outcome = state.outcome;
     let Outcome::Value(value) = outcome else {
         return first;
@@ -190,7 +196,7 @@ fn visit_operator(
     };
     let m = third_in(entry(tab, k));
     let second = visit(b, tab, cells, counts, limits, pair_of(m, w));
-    let state = opened(second, counts[LEFT], counts[MADE]);
+    let state = opened(second, counts[LEFT], counts[MOST]);
     let outcome = state.outcome;
     let Outcome::Value(value) = outcome else {
         return second;
@@ -217,7 +223,7 @@ fn visit_conditional(
     let w = (at / 0x1_0000) as u16;
     let n = first_in(entry(tab, k));
     let condition = visit(b, tab, cells, counts, limits, pair_of(n, w));
-    let state = opened(condition, counts[LEFT], counts[MADE]);
+    let state = opened(condition, counts[LEFT], counts[MOST]);
     let outcome = state.outcome;
     let Outcome::Value(value) = outcome else {
         return condition;
@@ -230,7 +236,7 @@ fn visit_conditional(
     visit(b, tab, cells, counts, limits, pair_of(m, w))
 }
 
-// A call: one cell more, and the body under it.
+// A call: one cell more alive, and the body under it; then the call is closed, which may give cells back.
 fn visit_call(
     b: &&[u8],
     tab: &Table,
@@ -242,23 +248,19 @@ fn visit_call(
     requires { ⌜ Evaluable (now (now b)) (now tab) limits at (now counts) (now (now cells)) kinds.call ⌝ }
     ensures { λ r. ⌜ Evaluates (now (now (b .entry))) (now (tab .entry)) limits at (now (counts .entry)) (now (cells .entry)) r (now (counts .exit)) (now (cells .exit)) ⌝ }
 {
-    let count = counts[MADE];
-    if limits / 0x1_0000 <= count {
+    let live = counts[LIVE];
+    if limits / 0x1_0000 <= live {
         return packed(ended(numbers::NO_CELL));
     }
+    let oldest = counts[OLDEST];
     let node = entry(tab, (at % 0x1_0000) as u16);
     let w = (at / 0x1_0000) as u16;
-    add_cell(*cells, wide32(count), first_in(node), w, second_in(node));
-    counts[MADE] = count + 1;
-    let context = (count + 1) as u16;
-    visit(
-        b,
-        tab,
-        cells,
-        counts,
-        limits,
-        pair_of(third_in(node), context),
-    )
+    add_cell(*cells, wide32(live), first_in(node), w, second_in(node));
+    open_call(counts);
+    let body = pair_of(third_in(node), (live + 1) as u16);
+    let x = visit(b, tab, cells, counts, limits, body);
+    close_call(counts, live, oldest, kind_in(x));
+    x
 }
 
 // A case: the scrutinee, then the first clause with its tag.
@@ -277,7 +279,7 @@ fn visit_case(
     let w = (at / 0x1_0000) as u16;
     let n = first_in(entry(tab, k));
     let scrutinee = visit(b, tab, cells, counts, limits, pair_of(n, w));
-    let state = opened(scrutinee, counts[LEFT], counts[MADE]);
+    let state = opened(scrutinee, counts[LEFT], counts[MOST]);
     let outcome = state.outcome;
     let Outcome::Value(value) = outcome else {
         return scrutinee;

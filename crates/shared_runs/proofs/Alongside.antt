@@ -1,5 +1,5 @@
--- Two evaluations side by side, of files that read as translations of sheets with equal trees: which nodes, contexts and cells go
--- together.
+-- Two evaluations side by side over cells by serial number, of files that read as translations of sheets with equal trees: which nodes,
+-- contexts and cells go together.
 use mathlib.Core.Path.{_≡_, refl, sym, ap}
 use Prim.Native.Nat.{ℕ, zero, suc, _<_}
 use mathlib.Core.List.{List}
@@ -22,6 +22,7 @@ use Rattle.accepted.proofs.Clauses.{chosen-found}
 use Rattle.readback.specs.TranslatedNode.{translatedNode}
 use Rattle.cell_rules.specs.Contexts.{cellHeads, HasHead, Kept}
 use Rattle.cell_rules.proofs.Contexts.{kept-all, kept-then, has-kept}
+use Rattle.given_back.specs.SerialCells.{ActualVisit, Account, SerialCells}
 use Rattle.rule_laws.specs.SideBySide.{SideBySide, Due, neither, each, Alike, numbers, readings, formals, selects, operators, conditionals, calls, tuples, cases}
 use Rattle.trees.specs.SameNodes.{Pairs, SameNode, same-number, same-reading, same-parameter, same-pattern, same-operator, same-conditional, same-call, same-build, same-case}
 use Rattle.trees.proofs.Parts.{scrutinee-of}
@@ -75,18 +76,20 @@ module _ (same same′ : Labelling) (a b : List ℕ) where
     one-number : {z : ℤ} → SameEntry cs ds (some (integer z)) (some (integer z))
     such-constructors : {k m c d : ℕ} → BuiltBy cs ds k m c d → SameEntry cs ds (some (constructor k c)) (some (constructor m d))
 
-  -- the steps left, and the cells of each, which remember alike
+  -- the steps left, the cells of each, which remember alike, and one account and one list of visits to actuals
   pub record World : Type 0 where
     pub left : ℕ
     pub here : List Cell
     pub there : List Cell
     pub remember : AlikeCells (SameEntry here there) here there
+    pub account : Account
+    pub visits : List ActualVisit
 
-  abbrev pub hereOf : World → State (List Cell)
-  hereOf w = record { left = w .left; store = w .here }
+  abbrev pub hereOf : World → State SerialCells
+  hereOf w = record { left = w .left; store = record { cells = w .here; account = w .account; visits = w .visits } }
 
-  abbrev pub thereOf : World → State (List Cell)
-  thereOf w = record { left = w .left; store = w .there }
+  abbrev pub thereOf : World → State SerialCells
+  thereOf w = record { left = w .left; store = record { cells = w .there; account = w .account; visits = w .visits } }
 
   -- cells keep their heads
   pub record Onward (w v : World) : Type 0 where
@@ -146,7 +149,7 @@ module _ (same same′ : Labelling) (a b : List ℕ) where
     pub contexts : c ≡ d
     pub fits : Fits (w .here) (w .there) c (ownerOf Sheet a twin)
 
-  abbrev pub sides : SideBySide ℕ (List Cell) ℕ (List Cell)
+  abbrev pub sides : SideBySide ℕ SerialCells ℕ SerialCells
   sides =
       record {
         World = World;

@@ -2,6 +2,7 @@ pub mod SameTrees
 pub mod FormalsRead
 pub mod AlikeCells
 pub mod Alongside
+pub mod AlikeChanges
 pub mod Runs
 pub mod Shared
 pub mod OneLabel

@@ -1,27 +1,25 @@
--- Runs of two files that read as translations of sheets with equal trees, by any two labellings, go alike.
+-- Runs of two files that read as translations of sheets with equal trees, by any two labellings, go alike: over cells by serial number, and
+-- so by the rule that a run follows, which goes in step with that.
 use mathlib.Core.Path.{_≡_, refl, sym, ap, _∙_}
 use Prim.Native.Nat.{ℕ, zero, suc, _<_}
 use mathlib.Core.List.{List, [], _∷_, _++_}
 use mathlib.Core.Option.{some}
 use mathlib.Core.Bool.{Bool, true, false}
-use native.Mathlib.Omega.{arith}
 use lib.IntN.{ℤ}
 use lib.ListN.{length, getElem?}
 use lib.Dec.{ltb, eqb}
 use borrow.Author.Tests.{eq-eqb}
 use Rattle.definitions.specs.Layouts.{functions, bodyOf, ownerOf}
-use Rattle.definitions.specs.FormalPlaces.{functionOf}
+use Rattle.definitions.specs.FormalPlaces.{functionOf, positionOf}
 use Rattle.definitions.specs.References.{parameters}
 use Rattle.definitions.specs.SheetNodes.{call, sheetNodeOf}
 use Rattle.definitions.specs.TranslationNodes.{translationNodeOf, tagOf, tupleFields}
 use Rattle.definitions.specs.Checks.{sheetVerdict}
 use Rattle.definitions.specs.Labels.{Labelling, labelOf}
 use Rattle.definitions.specs.Translate.{formalOf}
-use Rattle.definitions.specs.Rule.{Value, Ending, integer, constructor, State, Reached, Visit, reach, withStep, nodeDue, visited}
-use Rattle.definitions.specs.Cells.{Entry, Cell, newCell, cellOf, entryAt, withValue, keeping, remembered, recalled, whereOwn, underCell, formalByCells}
-use Rattle.definitions.specs.Rule.{whereCell}
-use Rattle.definitions.specs.Cells.{withCell, callByCells, byCells, evaluation}
-use Rattle.definitions.specs.Run.{endingOutcome, ruleEnd}
+use Rattle.definitions.specs.Rule.{Ending, Reached, Visit, nodeDue, whereCell, visited}
+use Rattle.definitions.specs.Cells.{Cell, newCell, cellOf, entryAt, whereOwn, underCell}
+use Rattle.definitions.specs.Run.{endingOutcome}
 use Rattle.definitions.specs.declared.Layout.the-variants.{Sheet, Translation}
 use Rattle.definitions.specs.declared.Verdict.the-variants.{Accepted}
 use Rattle.accepted.specs.Child.{argument, component}
@@ -32,59 +30,26 @@ use Rattle.accepted.proofs.Checks.{sheet-shape}
 use Rattle.accepted.proofs.Names.{call-below, call-count}
 use Rattle.accepted.proofs.Trees.{child-below, child-owner}
 use Rattle.cell_rules.specs.Contexts.{Head, headOf, cellHeads, Kept}
-use Rattle.cell_rules.proofs.Contexts.{element-added, kept-all, kept-then, kept-added}
-use Rattle.cell_rules.proofs.Changes.{value-kept}
+use Rattle.cell_rules.proofs.Contexts.{element-added, kept-all, kept-added}
 use Rattle.rule_laws.specs.SideBySide.{AlikeEnds, integers, constructors, ends, Both, cut, arrive, Due, Beside, Alike, InStep}
 use Rattle.rule_laws.proofs.Lockstep.{both-back, both-here, evaluations-in-step}
+use Rattle.given_back.specs.SerialCells.{Account, SerialCells, noSerialCells, listingSerial, keepingSerial, formalBySerials, openingAccount}
+use Rattle.given_back.specs.SerialCells.{withSerialCell, closedSerial, callBySerials, bySerials, serialEvaluation}
+use Rattle.given_back.proofs.Evaluations.{rule-serial}
 use Rattle.shared_runs.specs.Reads.{AlikeSheets, Named, Reads}
-use Rattle.shared_runs.specs.SameRuns.{SameEnds, SameRuns}
+use Rattle.shared_runs.specs.SameRuns.{SameSerialEnds, SameRuns}
 use Rattle.shared_runs.proofs.SameTrees.{trees-then, trees-itself, same-nodes, same-calls, pairs-at, element-found}
 use Rattle.shared_runs.proofs.FormalsRead.{formal-function, formal-position}
-use Rattle.shared_runs.proofs.AlikeCells.{AlikeCells, no-cell, cells-map, cells-even, cells-at, cells-valued, cells-added}
-use Rattle.shared_runs.proofs.Alongside.{Twins, Fits, outermost, within, AtNodes, BuiltBy, SameEntry, nothing, one-number, such-constructors, World, hereOf, thereOf}
-use Rattle.shared_runs.proofs.Alongside.{fits-kept, built-kept, entry-kept, OfFormal, OfCall, sides, due-found, child-at, alike-by}
+use Rattle.shared_runs.proofs.AlikeCells.{no-cell, cells-map, cells-even, cells-at, cells-added}
+use Rattle.shared_runs.proofs.Alongside.{Twins, Fits, outermost, within, AtNodes, BuiltBy, nothing, World, hereOf, thereOf}
+use Rattle.shared_runs.proofs.Alongside.{fits-kept, entry-kept, OfFormal, OfCall, sides, due-found, child-at, alike-by}
+use Rattle.shared_runs.proofs.AlikeChanges.{leaving, listed, step-both, remembered-both, closed-both, recalled-both}
+
+-- visits that list themselves first, as visits to the actual of formal p under context w
+abbrev listing : List ℕ → Visit ℕ SerialCells → ℕ → ℕ → Visit ℕ SerialCells
+listing t visit p w n v s = visit n v (listingSerial w (positionOf t p) s)
 
 module _ (same same′ : Labelling) (a b : List ℕ) where
-  -- one step of each
-  step-both : (left : ℕ) (cs ds : List Cell) (p : AlikeCells (SameEntry same same′ a b cs ds) cs ds) (go go′ : State (List Cell) → Reached ℕ (List Cell))
-      → ((n : ℕ) → Both (sides same same′ a b) (record { left = left; here = cs; there = ds; remember = p })
-      (go (record { left = n; store = cs })) (go′ (record { left = n; store = ds })))
-      → Both (sides same same′ a b) (record { left = left; here = cs; there = ds; remember = p }) (withStep left cs go) (withStep left ds go′)
-  unfolding withStep
-  step-both zero cs ds p go go′ f = both-here (sides same same′ a b) _ ends
-  step-both (suc n) cs ds p go go′ f = f n
-
-  -- the world in which each remembers a value more, in the same place
-  abbrev valued : (v : World same same′ a b) (w i : ℕ) (x y : Value ℕ) → SameEntry same same′ a b (v .here) (v .there) (some x) (some y) → World same same′ a b
-  valued v w i x y h =
-      let f = entry-kept same same′ a b (value-kept w i x (v .here)) (value-kept w i y (v .there)) in
-      record {
-        left = v .left;
-        here = withValue w i x (v .here);
-        there = withValue w i y (v .there);
-        remember = cells-valued _ w i (f (some x) (some y) h) (cells-map f (v .remember));
-      }
-
-  remembered-both : (w : World same same′ a b) (c i : ℕ) {r q : Reached ℕ (List Cell)} → Both (sides same same′ a b) w r q
-      → Both (sides same same′ a b) w (remembered c i r) (remembered c i q)
-  unfolding remembered keeping reach
-  remembered-both w c i (arrive v l (integers {z})) =
-      arrive (valued v c i (integer z) (integer z) one-number)
-      (record { one = kept-then (l .one) (value-kept c i _ (v .here)); two = kept-then (l .two) (value-kept c i _ (v .there)) }) integers
-  remembered-both w c i (arrive v l (constructors {k} {m} {c = x} {d = y} h)) =
-      arrive (valued v c i (constructor k x) (constructor m y) (such-constructors h))
-      (record { one = kept-then (l .one) (value-kept c i _ (v .here)); two = kept-then (l .two) (value-kept c i _ (v .there)) })
-      (constructors (built-kept same same′ a b (value-kept c i _ (v .here)) (value-kept c i _ (v .there)) h))
-  remembered-both w c i (arrive v l ends) = arrive v l ends
-
-  recalled-both : (w : World same same′ a b) {x y : Entry} {r q : Reached ℕ (List Cell)} → SameEntry same same′ a b (w .here) (w .there) x y
-      → Both (sides same same′ a b) w r q
-      → Both (sides same same′ a b) w (recalled x (hereOf same same′ a b w) r) (recalled y (thereOf same same′ a b w) q)
-  unfolding recalled
-  recalled-both w nothing f = f
-  recalled-both w one-number f = both-here (sides same same′ a b) w integers
-  recalled-both w (such-constructors h) f = both-here (sides same same′ a b) w (constructors h)
-
   module _ {t u : List ℕ} (first : sheetVerdict a ≡ Accepted) (second : sheetVerdict b ≡ Accepted) (sheets : AlikeSheets a b)
       (one : Reads same a t) (two : Reads same′ b u) (rs : List ℤ) (cellsAllowed : ℕ) where
     node-alike : {w : World same same′ a b} {k m c d : ℕ} → AtNodes same same′ a b (w .here) (w .there) k m c d
@@ -143,15 +108,15 @@ module _ (same same′ : Labelling) (a b : List ℕ) where
           with-two = sheets .bodies f h;
         })
 
-    module _ (visit visit′ : Visit ℕ (List Cell)) (beside : Beside (sides same same′ a b) visit visit′) (w : World same same′ a b) where
+    module _ (visit visit′ : Visit ℕ SerialCells) (beside : Beside (sides same same′ a b) visit visit′) (w : World same same′ a b) where
       -- a formal under cells of its own function's calls
       own-both : (f i c k m x p : ℕ) {ns : List ℕ} {y z : Cell} → i < parameters a f → Twins a b k m x → sheetNodeOf a x ≡ call f ns
           → Fits same same′ a b (w .here) (w .there) p (ownerOf Sheet a x)
           → getElem? (w .here) c ≡ some y → headOf y ≡ record { label = labelOf same a f k; previous = p; callee = f }
           → getElem? (w .there) c ≡ some z → headOf z ≡ record { label = labelOf same′ b f m; previous = p; callee = f }
-          → Both (sides same same′ a b) w (underCell t visit (formalOf a f i) (suc c) (some y) (hereOf same same′ a b w))
-          (underCell u visit′ (formalOf b f i) (suc c) (some z) (thereOf same same′ a b w))
-      unfolding underCell whereOwn nodeDue entryAt
+          → Both (sides same same′ a b) w (underCell keepingSerial t (listing t visit (formalOf a f i) (suc c)) (formalOf a f i) (suc c) (some y) (hereOf same same′ a b w))
+          (underCell keepingSerial u (listing u visit′ (formalOf b f i) (suc c)) (formalOf b f i) (suc c) (some z) (thereOf same same′ a b w))
+      unfolding underCell whereOwn nodeDue entryAt listingSerial
       own-both f i c k m x p {y} {z} h l n fits e d e′ d′ =
           let hf = call-below a first x (l .own) n in
           let hf′ : f < functions b = rw (sheets .count) at hf in
@@ -164,31 +129,36 @@ module _ (same same′ : Labelling) (a b : List ℕ) where
           let s′ : z .label ≡ labelOf same′ b f m = ap (λ (q : Head). q .label) d′ in
           let v : y .previous ≡ p = ap (λ (q : Head). q .previous) d in
           let v′ : z .previous ≡ p = ap (λ (q : Head). q .previous) d′ in
+          let x = listed same same′ a b (record { serial = suc c; position = i }) w in
           rw (o, o′, formal-position one f i hf h, formal-position two f i hf′ h′, s, s′, v, v′, g .listed, j .listed)
-          (recalled-both w (cells-at _ c i nothing (w .remember) e e′)
-          (remembered-both w (suc c) i (beside .both w (g .node) (j .node) p p (actual-at l n h fits g j))))
+          (recalled-both same same′ a b w (cells-at _ c i nothing (w .remember) e e′)
+          (remembered-both same same′ a b w (suc c) i
+          (both-back (sides same same′ a b) {v = x} (record { one = kept-all (w .here); two = kept-all (w .there) })
+          (beside .both x (g .node) (j .node) p p (actual-at l n h fits g j)))))
 
       formal-by : (f i c : ℕ) → i < parameters a f → Fits same same′ a b (w .here) (w .there) c f
-          → Both (sides same same′ a b) w (underCell t visit (formalOf a f i) c (cellOf (w .here) c) (hereOf same same′ a b w))
-          (underCell u visit′ (formalOf b f i) c (cellOf (w .there) c) (thereOf same same′ a b w))
+          → Both (sides same same′ a b) w (underCell keepingSerial t (listing t visit (formalOf a f i) c) (formalOf a f i) c (cellOf (w .here) c) (hereOf same same′ a b w))
+          (underCell keepingSerial u (listing u visit′ (formalOf b f i) c) (formalOf b f i) c (cellOf (w .there) c) (thereOf same same′ a b w))
       unfolding underCell cellOf
       formal-by f i zero h outermost = both-here (sides same same′ a b) w ends
       formal-by f i (suc c) h (within {p} {k} {m} {x} e d l n fits) =
           rw (e .there, d .there) (own-both f i c k m x p h l n fits (e .there) (e .is) (d .there) (d .is))
 
       formal-both : {p q c d : ℕ} → OfFormal same same′ a b w p q c d
-          → Both (sides same same′ a b) w (byCells t cellsAllowed .atFormal visit p c (hereOf same same′ a b w))
-          (byCells u cellsAllowed .atFormal visit′ q d (thereOf same same′ a b w))
-      unfolding byCells formalByCells
+          → Both (sides same same′ a b) w (bySerials t cellsAllowed .atFormal visit p c (hereOf same same′ a b w))
+          (bySerials u cellsAllowed .atFormal visit′ q d (thereOf same same′ a b w))
+      unfolding bySerials formalBySerials
       formal-both {c} h = rw (h .is-one, h .is-two, ← h .contexts) (formal-by (h .function) (h .position) c (h .inside) (h .fits))
 
       -- the bodies of two calls, each under a cell that was added for it
       cell-both : (f k m x c : ℕ) {ns : List ℕ} (y : Bool) → Twins a b k m x → sheetNodeOf a x ≡ call f ns
           → Fits same same′ a b (w .here) (w .there) c (ownerOf Sheet a x)
           → Both (sides same same′ a b) w
-          (whereCell y (hereOf same same′ a b w) (λ s. visit (bodyOf Translation t f) (suc (length (s .store))) (withCell (labelOf same a f k) c f s)))
-          (whereCell y (thereOf same same′ a b w) (λ s. visit′ (bodyOf Translation u f) (suc (length (s .store))) (withCell (labelOf same′ b f m) c f s)))
-      unfolding whereCell withCell newCell
+          (whereCell y (hereOf same same′ a b w)
+          (λ s. closedSerial (s .store) (visit (bodyOf Translation t f) (suc (length (s .store .cells))) (withSerialCell (labelOf same a f k) c f s))))
+          (whereCell y (thereOf same same′ a b w)
+          (λ s. closedSerial (s .store) (visit′ (bodyOf Translation u f) (suc (length (s .store .cells))) (withSerialCell (labelOf same′ b f m) c f s))))
+      unfolding whereCell withSerialCell newCell
       cell-both f k m x c false l e fits = both-here (sides same same′ a b) w ends
       cell-both f k m x c true l e fits =
           let g = newCell (labelOf same a f k) c f in
@@ -200,30 +170,32 @@ module _ (same same′ : Labelling) (a b : List ℕ) where
             here = w .here ++ (g ∷ []);
             there = w .there ++ (h ∷ []);
             remember = cells-added _ (labelOf same a f k) (labelOf same′ b f m) c c f f nothing (cells-map (entry-kept same same′ a b r s) (w .remember));
+            account = openingAccount (suc (length (w .here))) (w .account);
+            visits = w .visits;
           } in
           let z = call-below a first x (l .own) e in
           let even = cells-even _ (w .remember) in
           let q : getElem? (w .there ++ (h ∷ [])) (length (w .here)) ≡ some h = rw even (element-added (w .there) h) in
           let y : Fits same same′ a b (v .here) (v .there) (suc (length (w .here))) f =
           within (record { cell = g; there = element-added (w .here) g; is = refl }) (record { cell = h; there = q; is = refl }) l e (fits-kept same same′ a b r s fits) in
-          both-back (sides same same′ a b) {v = v} (record { one = r; two = s })
-          (beside .both v (bodyOf Translation t f) (bodyOf Translation u f) (suc (length (w .here))) (suc (length (w .there)))
+          closed-both same same′ a b w w (both-back (sides same same′ a b) {v = v} (record { one = r; two = s })
+          (rw (← even) (beside .both v (bodyOf Translation t f) (bodyOf Translation u f) (suc (length (w .here))) (suc (length (w .here)))
           (record {
             twin = bodyOf Sheet a f;
             like = body-like f z;
-            contexts = ap suc even;
+            contexts = refl;
             fits = rw (owner-of-body Sheet a (sheet-shape a first) f z) y;
-          }))
+          }))))
 
       call-both : {l f l′ f′ c d : ℕ} → OfCall same same′ a b w l f l′ f′ c d
-          → Both (sides same same′ a b) w (byCells t cellsAllowed .atCall visit l f c (hereOf same same′ a b w))
-          (byCells u cellsAllowed .atCall visit′ l′ f′ d (thereOf same same′ a b w))
-      unfolding byCells callByCells
+          → Both (sides same same′ a b) w (bySerials t cellsAllowed .atCall visit l f c (hereOf same same′ a b w))
+          (bySerials u cellsAllowed .atCall visit′ l′ f′ d (thereOf same same′ a b w))
+      unfolding bySerials callBySerials
       call-both {f} {c} h =
-          rw (h .is-one, h .is-two, h .function, ← h .contexts, ← cells-even _ (w .remember))
-          (cell-both f (h .one) (h .two) (h .twin) c (ltb (length (w .here)) cellsAllowed) (h .like) (h .is) (h .fits))
+          rw (h .is-one, h .is-two, h .function, ← h .contexts)
+          (cell-both f (h .one) (h .two) (h .twin) c (ltb (w .account .live) cellsAllowed) (h .like) (h .is) (h .fits))
 
-    in-step : InStep (sides same same′ a b) (byCells t cellsAllowed) t rs (byCells u cellsAllowed) u rs
+    in-step : InStep (sides same same′ a b) (bySerials t cellsAllowed) t rs (bySerials u cellsAllowed) u rs
     unfolding visited
     in-step =
         record {
@@ -231,11 +203,10 @@ module _ (same same′ : Labelling) (a b : List ℕ) where
           tags = tags-alike;
           fields = fields-alike;
           step = λ w go go′ f.
-              step-both (w .left) (w .here) (w .there) (w .remember) go go′
-              (λ n. f (record { left = n; here = w .here; there = w .there; remember = w .remember }) (record { one = kept-all (w .here); two = kept-all (w .there) }));
+              step-both same same′ a b (w .left) w go go′ (λ n. f (leaving same same′ a b n w) (record { one = kept-all (w .here); two = kept-all (w .there) }));
           unopened = λ n e.
               rw (← e) (record {
-                both = λ w k m c d h. step-both (w .left) (w .here) (w .there) (w .remember) _ _ (λ n. both-here (sides same same′ a b) w ends);
+                both = λ w k m c d h. step-both same same′ a b (w .left) w _ _ (λ n. both-here (sides same same′ a b) w ends);
               });
           opened = λ n m e. record { rest = n; is = sym e; nested = refl };
           formals-both = λ n m e f w v l h. both-back (sides same same′ a b) l (formal-both _ _ f v h);
@@ -248,18 +219,31 @@ module _ (same same′ : Labelling) (a b : List ℕ) where
     ends-same (constructors h) = rw (tags-alike h) refl
     ends-same ends = refl
 
-    same-from : {w : World same same′ a b} {r q : Reached ℕ (List Cell)} → Both (sides same same′ a b) w r q → SameEnds t u r q
+    same-from : {w : World same same′ a b} {r q : Reached ℕ SerialCells} → Both (sides same same′ a b) w r q → SameSerialEnds t u r q
     same-from (cut z) = absurd z
-    same-from (arrive v l e) = record { outcome = ends-same e; left = refl; cells = cells-even _ (v .remember) }
+    same-from (arrive v l e) = record { outcome = ends-same e; left = refl; account = refl }
 
     -- visits from any states and contexts that go together
     pub visits-alike : (nesting : ℕ) (w : World same same′ a b) {k m c d : ℕ} → AtNodes same same′ a b (w .here) (w .there) k m c d
-        → SameEnds t u (visited (byCells t cellsAllowed) t rs nesting k c (hereOf same same′ a b w)) (visited (byCells u cellsAllowed) u rs nesting m d (thereOf same same′ a b w))
+        → SameSerialEnds t u (visited (bySerials t cellsAllowed) t rs nesting k c (hereOf same same′ a b w)) (visited (bySerials u cellsAllowed) u rs nesting m d (thereOf same same′ a b w))
     visits-alike nesting w h = same-from (evaluations-in-step (sides same same′ a b) in-step nesting nesting refl .both w _ _ _ _ h)
 
     -- and the whole evaluations
-    pub runs-alike : (steps nesting : ℕ) → SameRuns t u rs steps nesting cellsAllowed
-    unfolding ruleEnd evaluation
-    runs-alike steps nesting =
-        visits-alike nesting (record { left = steps; here = []; there = []; remember = no-cell })
+    pub serials-alike : (steps nesting : ℕ)
+        → SameSerialEnds t u (serialEvaluation t rs steps nesting cellsAllowed) (serialEvaluation u rs steps nesting cellsAllowed)
+    unfolding serialEvaluation
+    serials-alike steps nesting =
+        visits-alike nesting (record { left = steps; here = []; there = []; remember = no-cell; account = noSerialCells .account; visits = [] })
         (record { twin = bodyOf Sheet a 0; like = body-like 0 (functions-least Sheet a (sheet-shape a first)); contexts = refl; fits = outermost })
+
+    -- so the rule that a run follows, which goes in step with them
+    pub runs-alike : (steps nesting : ℕ) → SameRuns t u rs steps nesting cellsAllowed
+    runs-alike steps nesting =
+        let h = serials-alike steps nesting in
+        let r = rule-serial t rs steps nesting cellsAllowed in
+        let q = rule-serial u rs steps nesting cellsAllowed in
+        record {
+          outcome = r .outcome ∙ h .outcome ∙ sym (q .outcome);
+          left = r .left ∙ h .left ∙ sym (q .left);
+          cells = r .most ∙ ap (λ (x : Account). x .most) (h .account) ∙ sym (q .most);
+        }

@@ -16,8 +16,8 @@ use Rattle.definitions.specs.Labels.{Labelling, neverShared, firstCall, labelOf
 use Rattle.definitions.specs.Translate.{translationBy, translation, unsharedTranslation}
 use Rattle.definitions.specs.Outcomes.{Outcome}
 use Rattle.definitions.specs.Rule.{Reached}
-use Rattle.definitions.specs.Cells.{Cell}
-use Rattle.definitions.specs.Run.{endingOutcome, reachedAnswer, ruleEnd, ruleAnswer, runVerdict, answerAfter, runAnswer}
+use Rattle.definitions.specs.LiveCells.{LiveCells}
+use Rattle.definitions.specs.Run.{endingOutcome, answerAt, reachedAnswer, ruleEnd, ruleAnswer, runVerdict, answerAfter, runAnswer}
 use Rattle.definitions.specs.declared.Layout.the-variants.{Sheet}
 use Rattle.definitions.specs.declared.Verdict.{Verdict}
 use Rattle.definitions.specs.declared.Verdict.the-variants.{Accepted, Refused}
@@ -86,9 +86,9 @@ module _ (same : Labelling) (b : List ℕ) (accepted : sheetVerdict b ≡ Accept
       }
 
 -- answers of ends that are the same, after one verdict
-answers-by : {t u : List ℕ} {r q : Reached ℕ (List Cell)} (steps : ℕ) (v : Verdict) → SameEnds t u r q
+answers-by : {t u : List ℕ} {r q : Reached ℕ LiveCells} (steps : ℕ) (v : Verdict) → SameEnds t u r q
     → SameAnswers (answerAfter v (reachedAnswer t steps r)) (answerAfter v (reachedAnswer u steps q))
-unfolding answerAfter reachedAnswer
+unfolding answerAfter reachedAnswer answerAt
 answers-by steps Accepted s =
     record {
       outcome = ap (λ (o : Outcome). o .outcome) (s .outcome);

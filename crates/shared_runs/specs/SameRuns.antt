@@ -6,14 +6,21 @@ use mathlib.Core.List.{List}
 use lib.IntN.{ℤ}
 use lib.ListN.{length}
 use Rattle.definitions.specs.Rule.{Reached}
-use Rattle.definitions.specs.Cells.{Cell}
+use Rattle.definitions.specs.LiveCells.{LiveCells}
 use Rattle.definitions.specs.Run.{Answer, endingOutcome, ruleEnd}
+use Rattle.given_back.specs.SerialCells.{SerialCells}
 
--- ends of the rule over files t and u: outcome and value, steps left, number of cells
-pub record SameEnds (t u : List ℕ) (r q : Reached ℕ (List Cell)) : Type 0 where
+-- ends of the rule over files t and u: outcome and value, steps left, the most cells alive together
+pub record SameEnds (t u : List ℕ) (r q : Reached ℕ LiveCells) : Type 0 where
   pub outcome : endingOutcome t (r .ending) ≡ endingOutcome u (q .ending)
   pub left : r .state .left ≡ q .state .left
-  pub cells : length (r .state .store) ≡ length (q .state .store)
+  pub cells : length (r .state .store .cells) ≡ length (q .state .store .cells)
+
+-- ends of the rule over cells by serial number: outcome and value, steps left, the run's account
+pub record SameSerialEnds (t u : List ℕ) (r q : Reached ℕ SerialCells) : Type 0 where
+  pub outcome : endingOutcome t (r .ending) ≡ endingOutcome u (q .ending)
+  pub left : r .state .left ≡ q .state .left
+  pub account : r .state .store .account ≡ q .state .store .account
 
 -- the rule's, with these readings and allowances
 abbrev pub SameRuns : List ℕ → List ℕ → List ℤ → ℕ → ℕ → ℕ → Type 0

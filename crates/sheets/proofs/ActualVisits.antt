@@ -16,7 +16,8 @@ use Rattle.definitions.specs.declared.Verdict.{Verdict}
 use Rattle.definitions.specs.declared.Verdict.the-variants.{Accepted}
 use Rattle.laws.proofs.Lists.{all-each}
 use Rattle.actual_visits.specs.Distinct.{Distinct, one-more}
-use Rattle.actual_visits.specs.ListedVisits.{ActualVisit, listing, numbering, rememberedListed, whereRemembered, underListed, formalListed, callListed, byListed, listedEvaluation, listedEnd}
+use Rattle.given_back.specs.SerialCells.{ActualVisit}
+use Rattle.given_back.specs.ListedVisits.{listing, keepingListed, formalListed, numbering, closedListed, callListed, byListed, listedEvaluation, listedEnd}
 use Rattle.sheets.specs.EqualCalls.{num, first, sum, of}
 use Rattle.sheets.specs.Remembering.{fiveTimes, twice, foreignFormal}
 use Rattle.sheets.specs.ActualVisits.{for, VisitTrial, nineTimes, eachTwice, visitTrials, visitsWith, allBut, RuledOut}
@@ -35,7 +36,7 @@ ended t =
     record { verdict = sheetVerdict (t .sheet); outcome = endingOutcome b (r .ending); visits = r .state .store .visits }
 
 pub visits-hold : map ended visitTrials ≡ map (λ (t : VisitTrial). record { verdict = Accepted; outcome = t .outcome; visits = t .visits }) visitTrials
-unfolding opened listing numbering rememberedListed whereRemembered underListed formalListed callListed byListed listedEvaluation listedEnd
+unfolding opened listing keepingListed formalListed numbering closedListed callListed byListed listedEvaluation listedEnd
     num first sum of fiveTimes twice nineTimes eachTwice visitTrials
 visits-hold = refl
 
@@ -67,12 +68,12 @@ repeats-not (x ∷ xs) h (one-more n d) = by (λ g. repeats-not xs g d) (has x x
     by f false e h = f h
 
 forgetting-repeats : allOf mostFields (λ i. repeats (visitsWith (allBut i) eachTwice)) ≡ true
-unfolding opened listing numbering rememberedListed whereRemembered underListed formalListed callListed byListed listedEvaluation
+unfolding opened listing keepingListed formalListed numbering closedListed callListed byListed listedEvaluation
     num sum eachTwice
 forgetting-repeats = refl
 
 pub ruled-out : RuledOut
-unfolding opened listing numbering rememberedListed whereRemembered underListed formalListed callListed byListed listedEvaluation listedEnd
+unfolding opened listing keepingListed formalListed numbering closedListed callListed byListed listedEvaluation listedEnd
     num first sum of nineTimes foreignFormal
 ruled-out =
     record {

@@ -46,11 +46,11 @@ pub template-unshared : unsharedTranslation template ≡ templateWith (10 ∷ 12
 unfolding opened neverShared unsharedTranslation num first sum of template templateWith
 template-unshared = refl
 
--- and both run alike: 6, 34 steps, 10 cells
-pub template-run : runAnswer (translation template) [] 1000 100 100 6800 ≡ answering (numberOutcome (pos 6)) 34 10
+-- and both run alike: 6, 34 steps, 4 cells
+pub template-run : runAnswer (translation template) [] 1000 100 100 6800 ≡ answering (numberOutcome (pos 6)) 34 4
 unfolding opened num first sum of template
 template-run = refl
 
-pub template-run-unshared : runAnswer (unsharedTranslation template) [] 1000 100 100 6800 ≡ answering (numberOutcome (pos 6)) 34 10
+pub template-run-unshared : runAnswer (unsharedTranslation template) [] 1000 100 100 6800 ≡ answering (numberOutcome (pos 6)) 34 4
 unfolding opened neverShared unsharedTranslation num first sum of template
 template-run-unshared = refl

@@ -21,6 +21,7 @@ use Rattle.definitions.specs.TranslationNodes
 use Rattle.definitions.specs.Rule
 use Rattle.definitions.specs.FormalPlaces
 use Rattle.definitions.specs.Cells
+use Rattle.definitions.specs.LiveCells
 use Rattle.definitions.specs.CellBytes
 use Rattle.definitions.specs.Run
 use Rattle.evaluator.specs.Evaluator
@@ -64,8 +65,10 @@ unfolding
     Cells.newCell Cells.cellOf Cells.entryAt Cells.withEntry Cells.changed Cells.withValue Cells.keeping
     Cells.remembered Cells.recalled Cells.whereOwn Cells.underCell Cells.formalByCells Cells.withCell Rule.whereCell
     Cells.callByCells Cells.byCells Cells.evaluation
+    LiveCells.older LiveCells.keepingLive LiveCells.formalByLiveCells LiveCells.written LiveCells.withLiveCell LiveCells.liveAfter
+    LiveCells.closing LiveCells.closed LiveCells.callByLiveCells LiveCells.byLiveCells LiveCells.liveEvaluation
     CellBytes.entryWords CellBytes.lastWord CellBytes.entriesWords CellBytes.cellWords CellBytes.cellBytes
-    Run.endingOutcome Run.endingNode Run.endingContext Run.reachedAnswer Run.ruleEnd Run.ruleAnswer Run.ruleCells
+    Run.endingOutcome Run.endingNode Run.endingContext Run.answerAt Run.reachedAnswer Run.ruleEnd Run.ruleAnswer Run.ruleCells Run.keptEnd Run.keptAnswer
     Run.refusal Run.runVerdict Run.answerAfter Run.runAnswer Run.cellsOver Run.bytesAfter Run.runCells
     Evaluator.numberDue Evaluator.constructorDue Evaluator.clauseDue Evaluator.closureDue Evaluator.endBy
     Evaluator.endWithin Evaluator.ownWithin

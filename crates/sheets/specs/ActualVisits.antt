@@ -16,7 +16,8 @@ use Rattle.definitions.specs.SheetKinds.{head, function, parameter, call}
 use Rattle.definitions.specs.Translate.{recordWords, translation}
 use Rattle.definitions.specs.Outcomes.{Outcome, numberOutcome, endOutcome}
 use Rattle.actual_visits.specs.Distinct.{Distinct}
-use Rattle.actual_visits.specs.ListedVisits.{ActualVisit, noPosition, listedEvaluation, actualVisits}
+use Rattle.given_back.specs.SerialCells.{ActualVisit}
+use Rattle.given_back.specs.ListedVisits.{noPosition, listedEvaluation, actualVisits}
 use Rattle.sheets.specs.Sheets.{S, headOfOnes}
 use Rattle.sheets.specs.EqualCalls.{num, first, sum, of}
 use Rattle.sheets.specs.Remembering.{fiveTimes, twice, foreignFormal}

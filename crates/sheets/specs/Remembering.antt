@@ -18,7 +18,7 @@ use Rattle.definitions.specs.Outcomes.{Outcome, numberOutcome, endOutcome}
 use Rattle.definitions.specs.Checks.{translationVerdict}
 use Rattle.definitions.specs.Rule.{Reached}
 use Rattle.definitions.specs.PlainCells.{plainEvaluation}
-use Rattle.definitions.specs.Run.{endingOutcome, ruleEnd, runAnswer, runCells}
+use Rattle.definitions.specs.Run.{endingOutcome, keptEnd, runAnswer, runCells}
 use Rattle.definitions.specs.declared.Verdict.the-variants.{Accepted}
 use Rattle.sheets.specs.EqualCalls.{num, first, sum, of}
 use Rattle.sheets.specs.MadeCells.{numbered, cell}
@@ -47,9 +47,9 @@ twice code n =
 
 unfoldable pub remembering : List Trial
 remembering =
-    -- the argument is worked out once, with its ten calls
+    -- the argument is worked out once, with its ten calls, one after the other in cell 2
     trial fiveTimes 1000 100 100
-    (answering (numberOutcome (pos 50)) 39 11) (cell 0 0 1 (numbered 10 0) ++ joined 10 (λ i. cell 0 0 2 [])) (some (numberOutcome (pos 50)))
+    (answering (numberOutcome (pos 50)) 39 2) (cell 0 0 1 (numbered 10 0) ++ cell 0 0 2 []) (some (numberOutcome (pos 50)))
     -- 1 / 0 is no value
     ∷ trial (twice divide 0) 1000 100 100
     (answering (endOutcome zeroDivisor) 6 1) (cell 0 0 1 []) (some (endOutcome zeroDivisor))
@@ -65,7 +65,7 @@ remembering =
     (answering (endOutcome noCell) 16 1) (cell 0 0 1 []) (some (numberOutcome (pos 50)))
     ∷ []
 
--- what an evaluation took, of the rule that remembers and of the one that does not
+-- what an evaluation took that keeps all cells, of the rule that remembers and of the one that does not
 pub record Took : Type 0 where
   pub outcome : Outcome
   pub steps : ℕ
@@ -95,7 +95,7 @@ lent = replicate (cellSize * 3) 170
 pub record Remembering : Type 0 where
   pub hold : (t : Trial) → List·Memᴰ t remembering → Holds t
   -- 39 steps and 11 cells with remembering, 155 and 51 without
-  pub with-memory : took (translation fiveTimes) 1000 (ruleEnd (translation fiveTimes) [] 1000 100 100) ≡ record { outcome = numberOutcome (pos 50); steps = 39; cells = 11 }
+  pub with-memory : took (translation fiveTimes) 1000 (keptEnd (translation fiveTimes) [] 1000 100 100) ≡ record { outcome = numberOutcome (pos 50); steps = 39; cells = 11 }
   pub without : took (translation fiveTimes) 1000 (plainEvaluation (translation fiveTimes) [] 1000 100 100) ≡ record { outcome = numberOutcome (pos 50); steps = 155; cells = 51 }
   -- 30 + 7 + 30: 10 + 20 is worked out twice, and the cell remembers 7
   pub foreignAccepted : translationVerdict foreignFormal ≡ Accepted

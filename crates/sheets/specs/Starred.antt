@@ -19,7 +19,7 @@ use Rattle.sheets.specs.Sheets.{bytesOfS, translationOfS, cellsOfS}
 use Rattle.sheets.specs.MadeCells.{nothing, numbered, built, cell}
 use Rattle.sheets.specs.Trial.{Trial, Holds}
 
--- an outcome with its value after a number of steps, with a number of cells made; it is no constructor
+-- an outcome with its value after a number of steps, with the most cells alive together; it is no constructor
 unfoldable pub answering : Outcome → ℕ → ℕ → Answer
 answering o steps cells =
     record { outcome = o .outcome; value = o .value; steps = steps; node = 0; context = 0; cells = cells }
@@ -43,24 +43,26 @@ trialWith readings sheet steps nesting cells answer made own =
 unfoldable pub trial : List ℕ → ℕ → ℕ → ℕ → Answer → List ℕ → Option Outcome → Trial
 trial = trialWith []
 
--- the starred lines in the document's order, with its words above each, and with the figures of document 02, request 7
+-- the starred lines in the document's order, with its words above each, and with the figures of document 02, requests 7 and 9
 unfoldable pub starred : List Trial
 starred =
-    -- S: 10, 11 steps, 2 cells
+    -- S: 10, 11 steps, 1 cell
     trial S 1000 100 100
-    (answering (numberOutcome (pos 10)) 11 2) cellsOfS (some (numberOutcome (pos 10)))
+    (answering (numberOutcome (pos 10)) 11 1) cellsOfS (some (numberOutcome (pos 10)))
     -- S with 10 steps: 11
     ∷ trial S 10 100 100
-    (answering (endOutcome noStep) 10 2) (cell 0 0 1 (numbered 7 0) ++ cell 1 0 1 (numbered 2 0)) (some (numberOutcome (pos 10)))
+    (answering (endOutcome noStep) 10 1) (cell 1 0 1 (numbered 2 0)) (some (numberOutcome (pos 10)))
     -- S with nesting 4: 12 after 4 steps, 1 cell
     ∷ trial S 1000 4 100
     (answering (endOutcome noNesting) 4 1) (cell 0 0 1 []) (some (numberOutcome (pos 10)))
     -- nesting 5 answers
     ∷ trial S 1000 5 100
-    (answering (numberOutcome (pos 10)) 11 2) (cell 0 0 1 (numbered 7 0) ++ cell 1 0 1 (numbered 2 0)) (some (numberOutcome (pos 10)))
-    -- S with one cell: 13 after 7 steps
+    (answering (numberOutcome (pos 10)) 11 1) (cell 1 0 1 (numbered 2 0)) (some (numberOutcome (pos 10)))
+    -- S with one cell answers; with none: 13 after 2 steps
     ∷ trial S 1000 100 1
-    (answering (endOutcome noCell) 7 1) (cell 0 0 1 (numbered 7 0)) (some (numberOutcome (pos 10)))
+    (answering (numberOutcome (pos 10)) 11 1) (cell 1 0 1 (numbered 2 0)) (some (numberOutcome (pos 10)))
+    ∷ trial S 1000 100 0
+    (answering (endOutcome noCell) 2 0) [] (some (numberOutcome (pos 10)))
     -- k(1, 1/0): 1
     ∷ trial unusedDivision 1000 100 100
     (answering (numberOutcome (pos 1)) 3 1) (cell 0 0 1 (numbered 1 0)) (some (numberOutcome (pos 1)))
@@ -86,7 +88,7 @@ unfoldable pub further : List Trial
 further =
     -- S with 11 steps, which are just enough
     trial S 11 100 100
-    (answering (numberOutcome (pos 10)) 11 2) cellsOfS (some (numberOutcome (pos 10)))
+    (answering (numberOutcome (pos 10)) 11 1) cellsOfS (some (numberOutcome (pos 10)))
     -- loop with nesting 1: 12 after 1 step, 1 cell
     ∷ trial loop 3 1 9
     (answering (endOutcome noNesting) 1 1) (cell 0 0 1 []) none
@@ -97,8 +99,7 @@ further =
     ++ cell 1 2 2 (numbered 2 0 ++ numbered 5 0)) (some (numberOutcome (negsuc 11)))
     -- open(wrap(9)) - open(wrap(4)): 5
     ∷ trial boxes 1000 100 100
-    (answering (numberOutcome (pos 5)) 19 4)
-    (cell 0 0 2 (built 8 2) ++ cell 1 0 1 (numbered 9 0) ++ cell 1 0 2 (built 8 4) ++ cell 0 0 1 (numbered 4 0)) (some (numberOutcome (pos 5)))
+    (answering (numberOutcome (pos 5)) 19 2) (cell 1 0 2 (built 8 2) ++ cell 0 0 1 (numbered 4 0)) (some (numberOutcome (pos 5)))
     -- f(5), f(a) = g(9, a), g(p, q) = q: 5
     ∷ trial callerArgument 1000 100 100
     (answering (numberOutcome (pos 5)) 5 2) (cell 0 0 1 (numbered 5 0) ++ cell 0 1 2 (nothing ++ numbered 5 0)) (some (numberOutcome (pos 5)))
@@ -121,7 +122,7 @@ pub record Starred : Type 0 where
   pub byteCount : length S ≡ 92
   pub translated : translation S ≡ translationOfS
   pub translatedCount : length (translation S) ≡ 100
-  pub cellCount : length cellsOfS ≡ 136
+  pub cellCount : length cellsOfS ≡ 68
   pub formal : fieldsFrom (itemRecord Translation (translation S) 0) 0 ≡ 0 ∷ 2 ∷ []
 
 pub record Further : Type 0 where

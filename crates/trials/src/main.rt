@@ -4,8 +4,8 @@
 // The file `stdin` beside src/ has the trials: files for the two readers; sheets and the translations that they should have, and
 // their runs; translations that no translator writes, and their runs, also on rows and for a hirer; cells and their listings. The
 // file `stdout` has what each should answer by document 01, and by document 02 for rows (request 1), products (2), the length that is
-// asked (3), labels (4), hirers (5) and what cells remember (7). Files and translations are worked out by hand from these and document
-// 002, and so are the readers' answers; the runs with their steps and cells, and of the trials for labels the translations too, were
+// asked (3), labels (4), hirers (5), what cells remember (7) and cells given back (9). Files and translations are worked out by hand from
+// these and document 002, and so are the readers' answers; the runs with their steps and cells, and of the trials for labels the translations too, were
 // worked out by a model written from the documents alone. A record is its length, its kind and its fields; in a change, word 0 of a
 // record is its length, word 1 its kind, and the fields follow. A comment in quotation marks is the sentence that decides the trials
 // below it; above a sheet's records comments say what the sheet is, where the number before a node's record is the node's.
@@ -30,9 +30,9 @@
 //      of the translation, bytes lent for records, changes, and the readings of all rows
 //   h  the translation is run for a hirer, and by the owner's run: the set, whose bit i is reading i, as a number, and then as `u`
 //   l  a context is listed: the cell, bytes of cells, bytes of output
-// A run shows its answer's record of kind 64. As many cells as it made are to be those of `c`, and all bytes past them, and those
+// A run shows its answer's record of kind 64. As many cells as it counts are to be those of `c`, and all bytes past them, and those
 // of the output past the translation, are to be as they were before; where the run is refused, all bytes of both are. Of rows each
-// shows its record. `c` then has the cells as the last row leaves them: as many as any row made are to be those, and all bytes past
+// shows its record. `c` then has the cells as the last row leaves them: as many as any row counts are to be those, and all bytes past
 // them, and those past the last record, are to be as they were before; where the rows are refused, all bytes of both are.
 // Words, cells and readings after `xN` are written N times, and one with `+k` after it grows by k from turn to turn. A reading has a
 // minus before it where it is negative. What follows a comma says what a trial is. Any other line is a comment. `stdin` has less than

@@ -30,8 +30,8 @@ use file_writer::SPACE_BYTES;
 use file_writer::Space;
 use widths::wide32;
 
-// Where a record has the number of cells made.
-const CELLS_MADE: usize = 18;
+// Where a record has the number of cells.
+const CELL_COUNT: usize = 18;
 
 // The records and the cells that were lent.
 struct Lent {
@@ -118,13 +118,13 @@ fn show_written(answer: Written, rows: u32) -> u32 {
     }
 }
 
-// Shows a row's record, and answers how many cells the row made.
+// Shows a row's record, and answers how many cells it counts.
 fn show_row(records: &[u8], row: u32) -> u16 {
     let at = within(ANSWER_BYTES * wide32(row), records.len());
     let record = &records[at..];
     io::write_all(1, b"\n    ");
     show_record(record);
-    word(record, CELLS_MADE)
+    word(record, CELL_COUNT)
 }
 
 // The same with a whole space.
@@ -132,14 +132,14 @@ fn show_row_in(records: &Space, row: u32) -> u16 {
     show_row(records, row)
 }
 
-// Shows the records of rows, and answers how many cells were made by the row that made most.
+// Shows the records of rows, and answers how many cells the one counts that counts most.
 fn show_rows(records: &Space, rows: u32) -> u16 {
     let mut most: u16 = 0;
     let mut row: u32 = 0;
     while row < rows {
-        let made = show_row_in(records, row);
-        if most < made {
-            most = made;
+        let count = show_row_in(records, row);
+        if most < count {
+            most = count;
         }
         row += 1;
     }

@@ -148,10 +148,10 @@ fn output_right(answer: Answer, out: &Space, alone: &Space) -> bool {
     agree(out, alone)
 }
 
-// Whether lent cells start with as many cells of the file of cells as were made, and past them are as they were before.
-pub(crate) fn cells_right(made: u16, cells: &Space, expected: &Space) -> bool {
+// Whether lent cells start with as many cells of the file of cells as the answer counts, and past them are as they were before.
+pub(crate) fn cells_right(count: u16, cells: &Space, expected: &Space) -> bool {
     let mut right = filled();
-    copy(expected, CELL_BYTES * wide(made), &mut right);
+    copy(expected, CELL_BYTES * wide(count), &mut right);
     agree(cells, &right)
 }
 

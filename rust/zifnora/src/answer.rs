@@ -109,7 +109,8 @@ pub enum Answer {
     Refused(Refusal),
 }
 
-/// The end of a run: its answer, the steps taken and the cells made.
+/// The end of a run: its answer, the steps taken and the most cells alive
+/// together.
 #[derive(Clone, Copy, Debug, PartialEq, Eq)]
 pub struct Ended {
     pub answer: Answer,

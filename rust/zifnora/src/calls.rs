@@ -19,9 +19,10 @@ pub fn translated_length(sheet: &[u8], room: u64) -> Result<usize, Refusal> {
 }
 
 /// Runs a translation on readings, in lent cells of `sizes::CELL_BYTES` each,
-/// which remember the values of parameters. `cells` starts with the cells made
-/// and stays as it was past them; what it held before does not count, and a
-/// refusal leaves all of it as it was.
+/// which remember the values of parameters and are given back after calls that
+/// end with a number. `cells` starts with as many cells as were alive together
+/// at most, given back or not, and stays as it was past them; what it held
+/// before does not count, and a refusal leaves all of it as it was.
 pub fn run(
     translation: &[u8],
     readings: &[i32],

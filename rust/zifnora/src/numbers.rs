@@ -31,7 +31,7 @@ pub const CLOSED_READING: u16 = 21;
 pub const NO_STEP: u16 = 11;
 /// Stop: "nesting".
 pub const NO_NESTING: u16 = 12;
-/// Stop: "cells".
+/// Stop: "cells". As many are alive as are allowed.
 pub const NO_CELL: u16 = 13;
 
 /// Run fault: "number wanted". An operand or a condition is a constructor.

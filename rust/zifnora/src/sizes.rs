@@ -18,7 +18,8 @@ pub const MOST_FIELDS: usize = 8;
 /// Of the nesting allowance, which starts at 1.
 pub const MOST_NESTING: u32 = 1024;
 
-/// Of the cell allowance, which starts at 0.
+/// Of the cell allowance, which starts at 0: how many cells may be alive
+/// together.
 pub const MOST_CELLS: u32 = 960;
 
 /// Of the rows of a batch, which start at 0.

@@ -123,10 +123,10 @@ fn each_stop() {
         let ended = ended(&sheet_s(), &[], allowances);
         (ended.answer, ended.steps, ended.cells)
     };
-    assert_eq!(stopped(11, 5, 2), (Answer::Number(10), 11, 2));
-    assert_eq!(stopped(10, 5, 2), (Answer::Stopped(Stop::NoStep), 10, 2));
-    assert_eq!(stopped(11, 4, 2), (Answer::Stopped(Stop::NoNesting), 4, 1));
-    assert_eq!(stopped(11, 5, 1), (Answer::Stopped(Stop::NoCell), 7, 1));
+    assert_eq!(stopped(11, 5, 1), (Answer::Number(10), 11, 1));
+    assert_eq!(stopped(10, 5, 1), (Answer::Stopped(Stop::NoStep), 10, 1));
+    assert_eq!(stopped(11, 4, 1), (Answer::Stopped(Stop::NoNesting), 4, 1));
+    assert_eq!(stopped(11, 5, 0), (Answer::Stopped(Stop::NoCell), 2, 0));
 }
 
 /// The bytes of a cell that remembers a number at some positions.
@@ -148,11 +148,9 @@ fn cells_remember() {
     let file = translated(&sheet_s());
     let mut cells = cells_lent();
     run(&file, &[], AMPLE, &mut cells);
-    let expected = [cell([0, 0, 1], &[(0, 7)]), cell([1, 0, 1], &[(0, 2)])].concat();
-    assert_eq!(cells[..2 * CELL_BYTES], expected);
-    assert!(cells[2 * CELL_BYTES..]
-        .iter()
-        .all(|&byte| byte == UNTOUCHED));
+    // The second call uses the cell again that the first gave back.
+    assert_eq!(cells[..CELL_BYTES], cell([1, 0, 1], &[(0, 2)]));
+    assert!(cells[CELL_BYTES..].iter().all(|&byte| byte == UNTOUCHED));
 }
 
 #[test]
@@ -364,7 +362,7 @@ fn the_raw_calls_give_code_and_record() {
         steps: 11,
         node: 0,
         context: 0,
-        cells: 2,
+        cells: 1,
     };
     assert_eq!(Record::from_bytes(&record), Some(expected));
     let code = raw::run_rows(&out[..100], 1, &[], AMPLE, &mut cells_lent(), &mut record);

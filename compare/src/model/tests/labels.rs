@@ -219,17 +219,14 @@ fn runs_are_those_of_a_label_for_each_call() {
         let file = translation::write(&translate(&Correct, &sheet, labelling));
         let mut cells = [0; 680];
         let answer = run::run(&Correct, &file, &[], allowances, &mut cells);
-        (answer, cells[..204].to_vec())
+        (answer, cells[..68].to_vec())
     });
     assert_eq!(
         (now.0, before.0),
-        (answered(16, 11, 3), answered(16, 11, 3))
+        (answered(16, 11, 1), answered(16, 11, 1))
     );
-    let made = |labels: [u8; 3]| {
-        let cells = labels.into_iter().zip([7, 2, 7]);
-        let cells = cells.map(|(label, n)| cell([label, 0, 1], &[(0, number_entry(n))]));
-        cells.collect::<Vec<_>>().concat()
-    };
-    assert_eq!(now.1, made([0, 1, 0]));
-    assert_eq!(before.1, made([0, 1, 2]));
+    // The last call's, which has the first's label or one of its own.
+    let last = |label: u8| cell([label, 0, 1], &[(0, number_entry(7))]);
+    assert_eq!(now.1, last(0));
+    assert_eq!(before.1, last(2));
 }

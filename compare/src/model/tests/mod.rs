@@ -1,6 +1,7 @@
 //! Document 01's "Sheets to try" and document 002's two examples.
 
 mod batch;
+mod given_back;
 mod hirer;
 mod labels;
 mod refusals;
@@ -133,16 +134,15 @@ fn s_has_its_sizes_and_bytes() {
 fn s_runs_as_stated() {
     let sheet = sheet_s();
     let (answer, cells) = run_cells(&sheet, 1000, 100, 100);
-    assert_eq!(answer, answered(10, 11, 2));
-    let first = cell([0, 0, 1], &[(0, number_entry(7))]);
-    let second = cell([1, 0, 1], &[(0, number_entry(2))]);
-    assert_eq!(cells[..136], [first, second].concat());
-    assert!(cells[136..].iter().all(|&byte| byte == 0xEE));
-    assert_eq!(run(&sheet, 11, 5, 2), answered(10, 11, 2));
-    assert_eq!(run(&sheet, 10, 5, 2), ended(NO_STEP, 10, 2));
-    assert_eq!(run(&sheet, 11, 4, 2), ended(NO_NESTING, 4, 1));
-    assert_eq!(run(&sheet, 11, 5, 1), ended(NO_CELL, 7, 1));
-    assert_eq!(run(&sheet, 4, 4, 2), ended(NO_STEP, 4, 1));
+    assert_eq!(answer, answered(10, 11, 1));
+    // The second call uses the cell again that the first gave back.
+    assert_eq!(cells[..68], cell([1, 0, 1], &[(0, number_entry(2))]));
+    assert!(cells[68..].iter().all(|&byte| byte == 0xEE));
+    assert_eq!(run(&sheet, 11, 5, 1), answered(10, 11, 1));
+    assert_eq!(run(&sheet, 10, 5, 1), ended(NO_STEP, 10, 1));
+    assert_eq!(run(&sheet, 11, 4, 1), ended(NO_NESTING, 4, 1));
+    assert_eq!(run(&sheet, 11, 5, 0), ended(NO_CELL, 2, 0));
+    assert_eq!(run(&sheet, 4, 4, 1), ended(NO_STEP, 4, 1));
     assert_eq!(own(&sheet), Own::Number(10));
 }
 

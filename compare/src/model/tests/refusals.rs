@@ -83,7 +83,7 @@ fn refusals_of_runs() {
     assert_eq!(run(&sheet, 0, 1, 0), ended(NO_STEP, 0, 0));
     assert_eq!(run(&sheet, 9, 0, 0), refused(BAD_ALLOWANCE));
     assert_eq!(run(&sheet, 9, 1025, 0), refused(BAD_ALLOWANCE));
-    assert_eq!(run(&sheet, 13, 1024, 960), answered(10, 11, 2));
+    assert_eq!(run(&sheet, 13, 1024, 960), answered(10, 11, 1));
     assert_eq!(run(&sheet, 13, 1024, 961), refused(BAD_ALLOWANCE));
     let one_each = Allowances {
         steps: 1,

@@ -9,7 +9,7 @@ use Rattle.accepted.proofs.Checks.{translation-shape}
 use Rattle.allowances.proofs.Limits.{fitting}
 use Rattle.run.proofs.Answering.{first-below, end-node, end-in-table, readings-refused, allowance-refused, run-answered}
 use Rattle.run.proofs.Counting.{first-there, first-context, first-visit}
-use Rattle.run.proofs.Packing.{reached-opened}
+use Rattle.run.proofs.Packing.{last-opened}
 use Rattle.run.proofs.ReadingEntries.{nodes-kept, still-readable, readings-held, readings-narrow, equips, readings-room}
 use borrow.Author.Needs.{needs}
 use Rattle.run.proofs.run_table.Statement.{statement}
@@ -127,7 +127,7 @@ answered-requires c κs =
     let first-body = c .before .before .before .before .before .before .before .first-body in
     let visit = c .before .before .visit in
     let fit = fitting (args .nesting) (args .cells-allowed) _ _ (allowed .ensures) (not-false _ (if2 .left)) in
-    let reached = reached-opened _ _ _ _ _ _ (c .opened .ensures)
+    let reached = last-opened _ _ (c .opened .ensures)
     (first-visit _ _ (args .nesting) (args .cells-allowed) _ _ _ _ (fit .nested) (nodes-limit Translation _ (translation-shape _ (pre .accepted))) (first-below _ _ (pre .accepted)
     (first-body .ensures)) (visit .ensures .same _ (readings-held _ (args .readings .now) _ _ (set-readings .ensures) (if1 .left ∙ wide .ensures .0 ∙
     readings .ensures)))) in
@@ -148,7 +148,7 @@ returns-3 c =
     let first-body = c .before .before .before .before .before .before .before .before .first-body in
     let visit = c .before .before .before .visit in
     let fit = fitting (args .nesting) (args .cells-allowed) _ _ (allowed .ensures) (not-false _ (if2 .left)) in
-    let reached = reached-opened _ _ _ _ _ _ (c .before .opened .ensures)
+    let reached = last-opened _ _ (c .before .opened .ensures)
     (first-visit _ _ (args .nesting) (args .cells-allowed) _ _ _ _ (fit .nested) (nodes-limit Translation _ (translation-shape _ (pre .accepted))) (first-below _ _ (pre .accepted)
     (first-body .ensures)) (visit .ensures .same _ (readings-held _ (args .readings .now) _ _ (set-readings .ensures) (if1 .left ∙ wide .ensures .0 ∙ readings .ensures)))) in
     let bytes : Bytes (args .t1 .now) = record { below = λ i. omega (arith, shared-slice-known .given i) } in

@@ -10,11 +10,13 @@ use Rattle.run.proofs.visit.visit.Reads as visit
 use Rattle.run.proofs.visit.visit.Kinds.{ps, r}
 use Rattle.run.proofs.visit.visit_formal.Reads as formal
 use Rattle.cells.proofs.cell.pair_of.Reads as pair-of-reads
+use Rattle.live_counts.proofs.note_constructor.Reads as note-constructor-reads
 use Rattle.run.proofs.look_up.cell_in.Reads as cell-in-reads
 use Rattle.run.proofs.look_up.listed.Reads as listed-reads
 use Rattle.run.proofs.memory.is_own.Reads as is-own-reads
 use Rattle.run.proofs.memory.recall.Reads as recall-reads
 use Rattle.run.proofs.memory.remember.Reads as remember-reads
+use Rattle.run.proofs.node_table.kind_in.Reads as kind-in-reads
 use Rattle.run.proofs.node_table.entry.Reads as entry-reads
 use Rattle.run.proofs.node_table.first_in.Reads as first-in-reads
 use Rattle.run.proofs.node_table.second_in.Reads as second-in-reads
@@ -55,6 +57,10 @@ claims t = (
   visit.Post,
   remember-reads.Asked,
   remember-reads.Learnt,
+  kind-in-reads.Asked,
+  kind-in-reads.Learnt,
+  note-constructor-reads.Asked,
+  note-constructor-reads.Learnt,
 )
 
 module _ (t : ℕ) where
@@ -115,11 +121,17 @@ module _ (t : ℕ) where
       let found = c .before .before .before .before in
       actual-asked (sought (found .before .before)) (found .found .given .1) (c .pair-of .ensures)
 
+  note-constructor-requires : At lts.Need-note-constructor-requires
+  note-constructor-requires c κs = c .before .before .before .before .visit .ensures .size
+
   returns-4 : At lts.Need-returns-4
   returns-4 c =
-      let visit = c .before .before in
+      let kind = c .before in
+      let remember = kind .before .before in
+      let visit = remember .before .before in
       let found = visit .before .before .before .before .before in
-      actual-returned (sought (found .before .before)) (found .found .given .1) (visit .before .pair-of .ensures) (visit .visit .ensures) (c .remember .ensures)
+      actual-returned (sought (found .before .before)) (found .found .given .1) (visit .before .pair-of .ensures) (visit .visit .ensures)
+      (remember .remember .ensures) (kind .kind-in .ensures) (c .note-constructor .ensures)
 
 pub closed : {M : Type 1} (t : ℕ) → lts.Closed (claims t) (kind-at formal.Pre t) formal.Post M
 closed t =
@@ -128,4 +140,5 @@ closed t =
     (λ c. search needs) (λ c κs. search needs) (λ c. search needs) (λ c κs. search needs) (λ c κs. search needs) (returns-2 t) (λ c. search needs)
     (λ c κs. search needs) (λ c. search needs) (λ c κs. search needs) (λ c κs. search needs) (listed-requires t) (λ c. search needs)
     (λ c. search needs) (λ c κs. search needs) (λ c κs. search needs) (returns-3 t) (λ c. search needs) (λ c κs. search needs)
-    (visit-requires t) (λ c. search needs) (λ c κs. search needs) (returns-4 t)
+    (visit-requires t) (λ c. search needs) (λ c κs. search needs)
+    (λ c κs. search needs) (note-constructor-requires t) (returns-4 t)

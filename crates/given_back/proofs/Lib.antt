@@ -1,0 +1,13 @@
+pub mod Forgetting
+pub mod Names
+pub mod CellsAt
+pub mod Twins
+pub mod Worlds
+pub mod Transitions
+pub mod Closing
+pub mod Lockstep
+pub mod Evaluations
+pub mod OnlyAlive
+pub mod KeptWorlds
+pub mod Kept
+pub mod KeptAnswers

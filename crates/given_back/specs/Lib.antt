@@ -1,0 +1,5 @@
+pub mod SerialCells
+pub mod ListedVisits
+pub mod SameEnds
+pub mod KeptEnds
+pub mod OnlyAlive
