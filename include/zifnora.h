@@ -36,6 +36,7 @@ extern "C" {
 #define ZIFNORA_ENTRY_BYTES 8u            /* an entry of a cell */
 #define ZIFNORA_ENTRIES 8u                /* entries of a cell, one for each position of a parameter */
 #define ZIFNORA_RECORD_BYTES 20u          /* the answer record */
+#define ZIFNORA_VIEW_BYTES 6u             /* the driver's view of an answer record */
 
 /* The kinds of records, with document 01's words. */
 enum zifnora_sheet_kind {
@@ -138,7 +139,8 @@ enum zifnora_entry_kind {
 };
 
 /* What a call returns: bits 32 to 47 are a refusal's number, 0 where nothing is refused; the low 32 bits are a length or a count,
- * or the refusal's place (the record's number from 0; the cell's number for a listing; 0 for 2, 8, 9 and 10). */
+ * or the refusal's place (the record's number from 0; the cell's number for a listing; 0 for 2, 8, 9 and 10, and for a driver's
+ * view). */
 #define ZIFNORA_REFUSAL(code) ((uint32_t)((code) >> 32))
 #define ZIFNORA_VALUE(code) ((uint32_t)(code))
 
@@ -153,20 +155,22 @@ struct zifnora_record {
   uint32_t cells;   /* the most cells alive together */
 };
 
-/* The number in two bytes, and in four. */
+/* The number in two bytes, in four, and in four with a sign: the lower half of the range as it stands, the upper half less 2^32. */
 static inline uint32_t zifnora_word(const uint8_t *bytes) { return bytes[0] | (uint32_t)bytes[1] << 8; }
 static inline uint32_t zifnora_double_word(const uint8_t *bytes) { return zifnora_word(bytes) | zifnora_word(bytes + 2) << 16; }
+static inline int32_t zifnora_signed(const uint8_t *bytes) {
+  const uint32_t bits = zifnora_double_word(bytes);
+  return bits <= 0x7fffffffu ? (int32_t)bits : -(int32_t)(0xffffffffu - bits) - 1;
+}
 
 /* Decodes the 20 bytes of an answer record. Returns 1, or 0 where their length or kind is not that of an answer record; then
  * `record` stays as it was. */
 static inline int zifnora_decode_record(const uint8_t *bytes, struct zifnora_record *record) {
-  const uint32_t value = zifnora_double_word(bytes + 6);
   if (zifnora_word(bytes) != ZIFNORA_RECORD_BYTES || zifnora_word(bytes + 2) != ZIFNORA_ANSWER_RECORD) {
     return 0;
   }
   record->outcome = zifnora_word(bytes + 4);
-  /* The lower half of the range as it stands, the upper half less 2^32. */
-  record->value = value <= 0x7fffffffu ? (int32_t)value : -(int32_t)(0xffffffffu - value) - 1;
+  record->value = zifnora_signed(bytes + 6);
   record->steps = zifnora_double_word(bytes + 10);
   record->node = zifnora_word(bytes + 14);
   record->context = zifnora_word(bytes + 16);
@@ -281,6 +285,21 @@ static inline uint64_t zifnora_translate_and_run(const uint8_t *sheet, size_t sh
  * where `out` is too short. A refusal leaves `out` as it was; else it stays as it was past the labels. Bytes of `cells` past the
  * last whole cell are part of no cell. */
 uint64_t zifnora_list_context(const uint8_t *cells, size_t cells_length, uint32_t cell, uint8_t *out, size_t out_length);
+
+/* The first two bytes of a driver's view. */
+enum zifnora_view {
+  ZIFNORA_VIEW_NUMBER = 0, /* the number follows, 4 bytes; zifnora_signed reads it */
+  ZIFNORA_VIEW_EMPTY = 1   /* four zero bytes follow */
+};
+
+/* Writes the driver's view of an answer record, the 6 bytes that the cab shows (document 02, request 10), little-endian: of a
+ * number 0 (2 bytes) and the number (4), of anything else 1 and four zero bytes. So the views of two records are equal exactly if
+ * both are the same number or neither is a number: nothing else of a record reaches the cab. The record may be any bytes of this
+ * form, whoever wrote them; an outcome that is in no table is no number.
+ *
+ * Returns 6; `out` stays as it was past them. 3 where `record_length` is not 20 or the record's length or kind is not that of an
+ * answer record, then 8 where `out` has fewer than 6 bytes, both with place 0. A refusal leaves all of `out` as it was. */
+uint64_t zifnora_driver_view(const uint8_t *record, size_t record_length, uint8_t *out, size_t out_length);
 
 #ifdef __cplusplus
 }

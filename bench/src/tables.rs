@@ -13,6 +13,7 @@ use zifnora::build_sheet::Program;
 use zifnora::numbers;
 use zifnora::sizes::{
     LABEL_BYTES, MOST_CELLS, MOST_NESTING, MOST_NODES, MOST_ROWS, SHEET_BYTES, TRANSLATION_BYTES,
+    VIEW_BYTES,
 };
 
 const MOST_STEPS: u32 = 20_000_000;
@@ -242,6 +243,7 @@ pub fn stack(subject: &dyn Interface) {
         subject.translated_length(&greatest, u64::MAX);
     });
     listing_stack_lines(subject);
+    view_stack_line(subject, &record);
 }
 
 /// Listing a context of one cell, and one of all cells.
@@ -255,6 +257,16 @@ fn listing_stack_lines(subject: &dyn Interface) {
             subject.list_context(&cells, cell, &mut out);
         });
     }
+}
+
+/// The driver's view of a record that a run left.
+fn view_stack_line(subject: &dyn Interface, record: &[u8]) {
+    let mut out = [0; VIEW_BYTES];
+    let written = count(subject.driver_view(record, &mut out));
+    assert_eq!(written, Some(VIEW_BYTES), "viewed");
+    stack_line("driver's view", "(a run's record)", &mut || {
+        subject.driver_view(record, &mut out);
+    });
 }
 
 fn rows_stack_row(subject: &dyn Interface, name: &str, file: &[u8]) {

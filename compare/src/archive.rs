@@ -64,4 +64,8 @@ impl Interface for Archive {
     fn list_context(&self, cells: &[u8], cell: u32, out: &mut [u8]) -> u64 {
         raw::list_context(cells, cell, out)
     }
+
+    fn driver_view(&self, record: &[u8], out: &mut [u8]) -> u64 {
+        raw::driver_view(record, out)
+    }
 }

@@ -55,6 +55,12 @@ pub enum Call {
         cell: u32,
         out: Vec<u8>,
     },
+    /// `other` is the second record of a pair.
+    View {
+        record: Vec<u8>,
+        out: Vec<u8>,
+        other: Vec<u8>,
+    },
 }
 
 /// One run of a call: a batch has one for each row.
@@ -110,13 +116,16 @@ impl Call {
             Call::Rows { .. } => "run_rows",
             Call::Joined { .. } => "translate_and_run",
             Call::List { .. } => "list_context",
+            Call::View { .. } => "driver_view",
         }
     }
 
     /// Performs the call on copies of its buffers.
     pub fn perform(&self, on: &dyn Interface) -> After {
         match self {
-            Call::Translate { sheet, out } => translate(on, sheet, out),
+            Call::Translate { sheet, out } => {
+                written(sheet, out, |sheet, out| on.translate(sheet, out))
+            }
             Call::Length { sheet, room } => translated_length(on, sheet, *room),
             Call::Run { file, input, .. } => run(on, file, input),
             Call::Hirer {
@@ -126,7 +135,12 @@ impl Call {
                 file, rows, input, ..
             } => run_rows(on, file, *rows, input),
             Call::Joined { sheet, out, input } => joined(on, sheet, out, input),
-            Call::List { cells, cell, out } => list(on, cells, *cell, out),
+            Call::List { cells, cell, out } => {
+                written(cells, out, |cells, out| on.list_context(cells, *cell, out))
+            }
+            Call::View { record, out, .. } => {
+                written(record, out, |record, out| on.driver_view(record, out))
+            }
         }
     }
 
@@ -136,7 +150,7 @@ impl Call {
         match self {
             Call::Run { of, .. } | Call::Rows { of, .. } => of.as_deref(),
             Call::Joined { sheet, .. } => Some(sheet),
-            Call::Hirer { .. } => None,
+            Call::Hirer { .. } | Call::View { .. } => None,
             Call::Translate { .. } | Call::Length { .. } | Call::List { .. } => None,
         }
     }
@@ -148,7 +162,8 @@ impl Call {
                 (1, input)
             }
             Call::Rows { rows, input, .. } => (*rows as usize, input),
-            Call::Translate { .. } | Call::Length { .. } | Call::List { .. } => return vec![],
+            Call::Translate { .. } | Call::Length { .. } => return vec![],
+            Call::List { .. } | Call::View { .. } => return vec![],
         };
         if refusal(after.code) != 0 || rows == 0 {
             return vec![];
@@ -166,15 +181,16 @@ impl Call {
     }
 }
 
-fn translate(on: &dyn Interface, sheet: &[u8], out: &[u8]) -> After {
-    let (copy, mut out) = (sheet.to_vec(), guarded(out));
-    let code = on.translate(&copy, lent(&mut out));
+/// A call that reads bytes and writes into an output.
+fn written(input: &[u8], out: &[u8], call: impl FnOnce(&[u8], &mut [u8]) -> u64) -> After {
+    let (copy, mut out) = (input.to_vec(), guarded(out));
+    let code = call(&copy, lent(&mut out));
     After {
         code,
         out,
         cells: vec![],
         record: vec![],
-        input_kept: black_box(copy) == sheet,
+        input_kept: black_box(copy) == input,
     }
 }
 
@@ -267,17 +283,5 @@ fn joined(on: &dyn Interface, sheet: &[u8], out: &[u8], input: &RunInput) -> Aft
         cells,
         record,
         input_kept: black_box(copy) == sheet && black_box(readings) == input.readings,
-    }
-}
-
-fn list(on: &dyn Interface, cells: &[u8], cell: u32, out: &[u8]) -> After {
-    let (copy, mut out) = (cells.to_vec(), guarded(out));
-    let code = on.list_context(&copy, cell, lent(&mut out));
-    After {
-        code,
-        out,
-        cells: vec![],
-        record: vec![],
-        input_kept: black_box(copy) == cells,
     }
 }

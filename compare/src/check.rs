@@ -2,7 +2,8 @@
 //! of a translated sheet's runs with call by name, with those of the rule
 //! without remembering, and with those of the translation with a label for each
 //! call; every run with the same run that keeps all cells; a hirer's run with
-//! the same run on other closed readings, and with the owner's.
+//! the same run on other closed readings, and with the owner's; a driver's view
+//! with that of another record.
 
 use crate::all_kept::{by_kept_rule, Compared};
 use crate::call::{inner, After, Call};
@@ -11,10 +12,11 @@ use crate::interface::{shown, Interface};
 use crate::labelling::{differing_run, unshared};
 use crate::model::answer::{Answer, RECORD};
 use crate::own_answer::{by_name, by_plain_rule};
+use crate::viewed::differing_pair;
 use std::fmt::Display;
 
-/// What a sheet's runs, and a hirer's, are compared with beside the other
-/// side's.
+/// What a sheet's runs, a hirer's, and driver's views are compared with beside
+/// the other side's.
 #[derive(Clone, Copy, Debug, PartialEq, Eq)]
 pub struct Yardsticks {
     pub call_by_name: bool,
@@ -23,6 +25,7 @@ pub struct Yardsticks {
     pub old_labelling: bool,
     pub closed_readings: bool,
     pub owners_run: bool,
+    pub viewed_pairs: bool,
 }
 
 impl Yardsticks {
@@ -33,6 +36,7 @@ impl Yardsticks {
         old_labelling: true,
         closed_readings: true,
         owners_run: true,
+        viewed_pairs: true,
     };
 
     pub const NONE: Yardsticks = Yardsticks {
@@ -42,6 +46,7 @@ impl Yardsticks {
         old_labelling: false,
         closed_readings: false,
         owners_run: false,
+        viewed_pairs: false,
     };
 }
 
@@ -66,7 +71,8 @@ pub struct Agreed {
 
 /// Performs the call on both sides, and where two calls of its sheet share a
 /// label also with a label for each. A hirer's run is done on the subject's
-/// side twice more, on other closed readings and as the owner's.
+/// side twice more, on other closed readings and as the owner's, and a view
+/// once more, of the other record.
 pub fn check(
     call: &Call,
     subject: &dyn Interface,
@@ -94,13 +100,7 @@ pub fn check(
             return Err(difference(format!("a label for each call: {what}")));
         }
     }
-    let closed = by
-        .closed_readings
-        .then(|| differing_with_closed(call, &theirs, subject));
-    let owners = by
-        .owners_run
-        .then(|| differing_with_owner(call, &theirs, subject));
-    if let Some(what) = closed.flatten().or(owners.flatten()) {
+    if let Some(what) = differing_beside(call, &theirs, subject, by) {
         return Err(difference(what));
     }
     Ok(Agreed {
@@ -110,6 +110,26 @@ pub fn check(
         by_kept_rule,
         old_labelling: each.is_some(),
     })
+}
+
+/// Describes how a hirer's run differs from those beside it, or a view from
+/// that of the other record as it must not.
+fn differing_beside(
+    call: &Call,
+    theirs: &After,
+    subject: &dyn Interface,
+    by: Yardsticks,
+) -> Option<String> {
+    let closed = by
+        .closed_readings
+        .then(|| differing_with_closed(call, theirs, subject));
+    let owners = by
+        .owners_run
+        .then(|| differing_with_owner(call, theirs, subject));
+    let pair = by
+        .viewed_pairs
+        .then(|| differing_pair(call, theirs, subject));
+    closed.flatten().or(owners.flatten()).or(pair.flatten())
 }
 
 /// What the subject and the reference left, and how many runs were compared.

@@ -15,6 +15,8 @@ pub struct Examiner<'a> {
     pub reference: &'a dyn Interface,
     pub by: Yardsticks,
     pub tally: &'a mut Tally,
+    /// The answers of the runs so far.
+    pub answers: Vec<Answer>,
 }
 
 /// Readings due, by the head of a sheet or translation; a damaged head asks
@@ -30,6 +32,8 @@ impl Examiner<'_> {
     pub(crate) fn check(&mut self, call: &Call) -> Result<After, Difference> {
         let agreed = check(call, self.subject, self.reference, self.by)?;
         self.tally.add(call, &agreed);
+        let runs = call.runs(&agreed.after);
+        self.answers.extend(runs.iter().map(|run| run.answer));
         Ok(agreed.after)
     }
 
@@ -95,7 +99,7 @@ impl Examiner<'_> {
         let due = readings_due(file);
         self.runs(random, file, of, due)?;
         self.batches(random, file, of, due)?;
-        // The last draws, so that those of the other calls stay the same.
+        // The last draws here, so that those of the other runs stay the same.
         self.hired(random, file, due)
     }
 

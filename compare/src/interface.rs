@@ -52,6 +52,8 @@ pub trait Interface {
     ) -> u64;
 
     fn list_context(&self, cells: &[u8], cell: u32, out: &mut [u8]) -> u64;
+
+    fn driver_view(&self, record: &[u8], out: &mut [u8]) -> u64;
 }
 
 /// The table's number in a code, 0 where nothing is refused.

@@ -82,7 +82,8 @@ pub fn translation_of(call: &Call) -> Option<Translation> {
             let sheet = Correct.read_sheet(sheet).ok()?;
             Some(translate(&Correct, &sheet, Labelling::EqualCalls))
         }
-        Call::Translate { .. } | Call::Length { .. } | Call::List { .. } => None,
+        Call::Translate { .. } | Call::Length { .. } => None,
+        Call::List { .. } | Call::View { .. } => None,
     }
 }
 

@@ -54,6 +54,11 @@ pub fn write(folder: &Path, difference: &Difference, origin: &str) -> Result<()>
             put("out.bin", out)?;
             text += &format!("cell {cell}\n");
         }
+        Call::View { record, out, other } => {
+            put("record.bin", record)?;
+            put("out.bin", out)?;
+            put("other.bin", other)?;
+        }
     }
     if let Call::Rows { rows, .. } = &*difference.call {
         text += &format!("rows {rows}\n");
@@ -155,6 +160,35 @@ pub fn read(folder: &Path) -> Result<Call> {
             cell: number(&words, "cell")?,
             out: get("out.bin")?,
         }),
+        Some("driver_view") => Ok(Call::View {
+            record: get("record.bin")?,
+            out: get("out.bin")?,
+            other: get("other.bin")?,
+        }),
         _ => Err(wrong("call")),
+    }
+}
+
+#[cfg(test)]
+mod tests {
+    use super::*;
+
+    #[test]
+    fn a_view_is_read_back() {
+        let call = Call::View {
+            record: vec![1, 2, 3],
+            out: vec![4, 5],
+            other: vec![6],
+        };
+        let difference = Difference {
+            what: "none".to_string(),
+            call: Box::new(call.clone()),
+        };
+        let folder = format!("compare-replay-{}", std::process::id());
+        let folder = std::env::temp_dir().join(folder);
+        write(&folder, &difference, "test").expect("written");
+        let again = read(&folder).expect("read");
+        fs::remove_dir_all(&folder).expect("removed");
+        assert_eq!(format!("{again:?}"), format!("{call:?}"));
     }
 }

@@ -7,7 +7,8 @@ use crate::faulty::listed::{all, AGAINST_LABELLING, AGAINST_MEANING};
 use crate::faulty::listed_giving::AGAINST_KEPT;
 use crate::faulty::listed_hirer::{AGAINST_CLOSED, AGAINST_OWNER};
 use crate::faulty::listed_remembering::AGAINST_PLAIN;
-use crate::faulty::Faulty;
+use crate::faulty::listed_view::AGAINST_PAIRS;
+use crate::faulty::{fault::Fault, Faulty};
 use crate::generate::case::{damaged, well_formed, Case};
 use crate::generate::random::Random;
 use crate::interface::Interface;
@@ -28,11 +29,14 @@ pub fn examine(
         reference,
         by,
         tally,
+        answers: vec![],
     };
     match case {
-        Case::Sheet(file) => examiner.sheet(&mut random, &file),
-        Case::Translation(file) => examiner.translation(&mut random, &file, None),
+        Case::Sheet(file) => examiner.sheet(&mut random, &file)?,
+        Case::Translation(file) => examiner.translation(&mut random, &file, None)?,
     }
+    // The last draws, so that those of the other calls stay the same.
+    examiner.views(&mut random)
 }
 
 /// Looks for the first case that differs, among `limit` sheets and as many
@@ -57,6 +61,29 @@ fn first_difference(
 /// How far is looked for a fault of both sides.
 const BOTH_WRONG: u64 = 20_000;
 
+/// The yardsticks that find faults with both sides wrong alike: in words, the
+/// one alone, and its faults.
+fn alone() -> [(&'static str, Yardsticks, &'static [Fault]); 7] {
+    let [mut name, mut plain, mut kept, mut labelling] = [Yardsticks::NONE; 4];
+    let [mut closed, mut owner, mut pairs] = [Yardsticks::NONE; 3];
+    name.call_by_name = true;
+    plain.plain_rule = true;
+    kept.kept_rule = true;
+    labelling.old_labelling = true;
+    closed.closed_readings = true;
+    owner.owners_run = true;
+    pairs.viewed_pairs = true;
+    [
+        ("call by name", name, AGAINST_MEANING),
+        ("the rule without remembering", plain, AGAINST_PLAIN),
+        ("the rule that keeps all cells", kept, AGAINST_KEPT),
+        ("the old labelling", labelling, AGAINST_LABELLING),
+        ("other closed readings", closed, AGAINST_CLOSED),
+        ("the owner's run", owner, AGAINST_OWNER),
+        ("pairs of views", pairs, AGAINST_PAIRS),
+    ]
+}
+
 /// Runs the self-test; true when every fault was found.
 pub fn selftest(subject: &dyn Interface, seed: u64) -> bool {
     let (mut tried, mut missed) = (0, 0);
@@ -79,39 +106,7 @@ pub fn selftest(subject: &dyn Interface, seed: u64) -> bool {
         let found = first_difference(subject, &Model(Faulty(fault)), Yardsticks::ALL, seed, limit);
         report(words, limit, found);
     }
-    let call_by_name = Yardsticks {
-        call_by_name: true,
-        ..Yardsticks::NONE
-    };
-    let plain_rule = Yardsticks {
-        plain_rule: true,
-        ..Yardsticks::NONE
-    };
-    let kept_rule = Yardsticks {
-        kept_rule: true,
-        ..Yardsticks::NONE
-    };
-    let old_labelling = Yardsticks {
-        old_labelling: true,
-        ..Yardsticks::NONE
-    };
-    let closed_readings = Yardsticks {
-        closed_readings: true,
-        ..Yardsticks::NONE
-    };
-    let owners_run = Yardsticks {
-        owners_run: true,
-        ..Yardsticks::NONE
-    };
-    let alone = [
-        ("call by name", call_by_name, AGAINST_MEANING),
-        ("the rule without remembering", plain_rule, AGAINST_PLAIN),
-        ("the rule that keeps all cells", kept_rule, AGAINST_KEPT),
-        ("the old labelling", old_labelling, AGAINST_LABELLING),
-        ("other closed readings", closed_readings, AGAINST_CLOSED),
-        ("the owner's run", owners_run, AGAINST_OWNER),
-    ];
-    for (title, by, faults) in alone {
+    for (title, by, faults) in alone() {
         println!("With both sides wrong alike, by {title}:");
         for &fault in faults {
             let wrong = Model(Faulty(fault));

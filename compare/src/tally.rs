@@ -5,9 +5,10 @@ use crate::call::Call;
 use crate::check::Agreed;
 use crate::hired::{is_closed, is_pair};
 use crate::interface::refusal;
+use crate::viewed::{self, in_table};
 use zifnora::numbers::SHORT_OUTPUT;
 
-const KINDS: [&str; 7] = [
+const KINDS: [&str; 8] = [
     "translate",
     "translated_length",
     "run",
@@ -15,13 +16,20 @@ const KINDS: [&str; 7] = [
     "run_rows",
     "translate_and_run",
     "list_context",
+    "driver_view",
 ];
+
+/// How many numbers are counted one by one, and those above together.
+const COUNTED: usize = 128;
+const OTHERS: usize = COUNTED - 1;
 
 pub struct Tally {
     /// By kind of call and number (outcome for the three single runs).
-    counts: [[u64; 128]; KINDS.len()],
+    counts: [[u64; COUNTED]; KINDS.len()],
     /// Rows of batches by outcome.
-    rows: [u64; 128],
+    rows: [u64; COUNTED],
+    /// Views by the outcome of their record, `OTHERS` for those that no table has.
+    views: [u64; COUNTED],
     pub steps: u64,
     /// Answers of sheets, those of them that were also compared with call by
     /// name, and with the rule without remembering.
@@ -37,13 +45,17 @@ pub struct Tally {
     /// Hirer's runs that were also compared with those on other closed
     /// readings: by whether they were not closed, or were.
     pub pairs: [u64; 2],
+    /// Pairs of records whose views were also compared with each other: by
+    /// `viewed::Pair`.
+    pub viewed_pairs: [u64; 3],
 }
 
 impl Default for Tally {
     fn default() -> Tally {
         Tally {
-            counts: [[0; 128]; KINDS.len()],
-            rows: [0; 128],
+            counts: [[0; COUNTED]; KINDS.len()],
+            rows: [0; COUNTED],
+            views: [0; COUNTED],
             steps: 0,
             own: 0,
             by_name: 0,
@@ -52,6 +64,7 @@ impl Default for Tally {
             by_labelling: 0,
             by_owner: 0,
             pairs: [0; 2],
+            viewed_pairs: [0; 3],
         }
     }
 }
@@ -67,11 +80,19 @@ impl Tally {
             Call::Rows { .. } => 4,
             Call::Joined { .. } => 5,
             Call::List { .. } => 6,
+            Call::View { .. } => 7,
         };
         if let Call::Hirer { .. } = call {
             let closed = is_closed(after);
             self.by_owner += !closed as u64;
             self.pairs[closed as usize] += is_pair(call, after) as u64;
+        }
+        if let Some(outcome) = viewed::outcome(call) {
+            let listed = in_table(outcome).then_some(outcome as usize);
+            self.views[listed.unwrap_or(OTHERS)] += 1;
+        }
+        if let Some(pair) = viewed::pair(call) {
+            self.viewed_pairs[pair as usize] += 1;
         }
         self.by_name += agreed.by_name;
         self.by_plain_rule += agreed.by_plain_rule;
@@ -80,7 +101,7 @@ impl Tally {
         for run in call.runs(after) {
             let outcome = run.answer.outcome as usize;
             match call {
-                Call::Rows { .. } => self.rows[outcome.min(127)] += 1,
+                Call::Rows { .. } => self.rows[outcome.min(OTHERS)] += 1,
                 _ => number = outcome,
             }
             self.steps += run.answer.steps as u64;
@@ -89,24 +110,30 @@ impl Tally {
             let fits = run.answer.outcome != SHORT_OUTPUT;
             self.by_labelling += (agreed.old_labelling && fits) as u64;
         }
-        self.counts[kind][number.min(127)] += 1;
+        self.counts[kind][number.min(OTHERS)] += 1;
     }
 
     pub fn calls(&self) -> u64 {
         self.counts.iter().flatten().sum()
     }
 
-    /// One line per kind of call, and one of rows: number of the table and
-    /// how often.
+    /// One line per kind of call, one of rows and one of views: number of the
+    /// table and how often. Then what was compared besides.
     pub fn print(&self) {
-        let rows = [("rows of run_rows", &self.rows)];
+        let outcomes = [
+            ("rows of run_rows", &self.rows),
+            ("views by outcome", &self.views),
+        ];
         let kinds = KINDS.into_iter().zip(&self.counts);
-        for (name, counts) in kinds.chain(rows) {
+        for (name, counts) in kinds.chain(outcomes) {
             let seen: Vec<String> = counts
                 .iter()
                 .enumerate()
                 .filter(|(_, &count)| count > 0)
-                .map(|(number, count)| format!("{number}: {count}"))
+                .map(|(number, count)| match number {
+                    OTHERS => format!("others: {count}"),
+                    _ => format!("{number}: {count}"),
+                })
                 .collect();
             println!("  {name:<18} {}", seen.join("  "));
         }
@@ -115,6 +142,10 @@ impl Tally {
             self.calls(),
             self.steps
         );
+        self.print_compared();
+    }
+
+    fn print_compared(&self) {
         println!(
             "  answers of sheets {}, compared with call by name {}, with the rule without remembering {}",
             self.own, self.by_name, self.by_plain_rule
@@ -134,6 +165,11 @@ impl Tally {
         println!(
             "  pairs of reading lists that differ in closed readings only {}, {closed} of them refused with 21",
             open + closed
+        );
+        let [different, number, none] = self.viewed_pairs;
+        println!(
+            "  pairs of answer records whose views were compared {}, {number} of them the same number, {none} without a number",
+            different + number + none
         );
     }
 }

@@ -1,4 +1,5 @@
-/* Runs a sheet with two readings and prints the answer record; status 1 where the run has no answer.
+/* Runs a sheet with two readings and prints what the cab shows of the answer, and the answer record; status 1 where the run has no
+ * answer.
  *
  *   result = cold(r0, r1)
  *   cold(p, t) = if t < 20 then p else p - (t - 20) * 2
@@ -62,6 +63,18 @@ static int show(const struct zifnora_record *answer) {
   return 0;
 }
 
+/* Prints the driver's view of an answer record. */
+static void show_cab(const uint8_t *record) {
+  uint8_t view[ZIFNORA_VIEW_BYTES];
+  const uint64_t code = zifnora_driver_view(record, ZIFNORA_RECORD_BYTES, view, sizeof view);
+
+  if (ZIFNORA_REFUSAL(code) == 0 && zifnora_word(view) == ZIFNORA_VIEW_NUMBER) {
+    printf("cab %d\n", zifnora_signed(view + 2));
+  } else {
+    printf("cab shows no number\n");
+  }
+}
+
 int main(int count, char **arguments) {
   int32_t readings[ZIFNORA_READINGS] = {845, 31};
   size_t readings_count = 2;
@@ -84,5 +97,6 @@ int main(int count, char **arguments) {
     printf("no answer record\n");
     return 1;
   }
+  show_cab(record);
   return show(&answer);
 }

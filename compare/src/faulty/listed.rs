@@ -1,11 +1,13 @@
 //! The deliberate faults, each with its description; those in what cells
 //! remember are in `listed_remembering.rs`, those in giving cells back in
-//! `listed_giving.rs`, those in the run for a hirer in `listed_hirer.rs`.
+//! `listed_giving.rs`, those in the run for a hirer in `listed_hirer.rs`, those
+//! in the driver's view in `listed_view.rs`.
 
 use super::fault::Fault;
 use super::listed_giving::GIVING;
 use super::listed_hirer::HIRER;
 use super::listed_remembering::REMEMBERING;
+use super::listed_view::VIEW;
 
 /// Faults that the runs with a label for each call alone have to find, with
 /// both sides wrong alike.
@@ -56,7 +58,7 @@ pub type Listed = (Fault, &'static str, u64);
 
 pub fn all() -> impl Iterator<Item = Listed> {
     let runs = OWNER.iter().chain(REMEMBERING).chain(GIVING);
-    runs.chain(HIRER).copied()
+    runs.chain(HIRER).chain(VIEW).copied()
 }
 
 const OWNER: &[Listed] = &[

@@ -3,6 +3,7 @@
 //! the model: a step of the model is exchanged, or what it gives is changed.
 
 mod batch;
+mod driver_view;
 pub mod fault;
 mod giving;
 mod hirer;
@@ -10,6 +11,7 @@ pub mod listed;
 pub mod listed_giving;
 pub mod listed_hirer;
 pub mod listed_remembering;
+pub mod listed_view;
 mod reading;
 mod remembering;
 mod running;

@@ -1,5 +1,7 @@
-//! Random input: sheets, translations, damage, allowances and buffers.
+//! Random input: sheets, translations, damage, allowances, buffers and answer
+//! records.
 
+pub mod answer_record;
 pub mod case;
 pub mod ceiling;
 pub mod damage;

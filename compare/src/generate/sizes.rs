@@ -3,6 +3,7 @@
 use super::random::Random;
 use crate::interface::Allowances;
 use crate::model::answer::RECORD;
+use crate::model::driver_view::VIEW;
 use zifnora::sizes::{CELL_BYTES, MOST_CELLS, MOST_NESTING, MOST_ROWS};
 
 /// Bytes are lent for no more cells than these, whatever is allowed.
@@ -81,6 +82,17 @@ pub fn record(random: &mut Random) -> usize {
         1 => random.below(RECORD),
         2..=4 => random.between(RECORD + 1, 2 * RECORD),
         _ => RECORD,
+    }
+}
+
+/// Size of the output for a driver's view: mostly just enough, sometimes fewer,
+/// a little more, or so many that fewer are left on 8 or on 16 bits.
+pub fn view(random: &mut Random) -> usize {
+    match random.below(24) {
+        room @ 0..=8 => room,
+        9 => random.between(VIEW + 3, 40),
+        10 if random.chance(5) => (1 << random.pick(&[8, 16])) + random.below(VIEW),
+        _ => VIEW,
     }
 }
 

@@ -2,12 +2,13 @@
 
 use super::case::{well_formed, Case};
 use super::random::Random;
-use super::{ceiling, foreign, given_back, regroup, sheet, template, translation};
+use super::{answer_record, ceiling, foreign, given_back, regroup, sheet, template, translation};
 use crate::interface::Allowances;
+use crate::model::driver_view::viewed_answer;
 use crate::model::translate::{translate, Labelling};
 use crate::model::translation as read_translation;
 use crate::model::{kept, Behaviour, Correct};
-use zifnora::numbers::{BAD_TREE, NO_CELL};
+use zifnora::numbers::{BAD_TREE, NO_CELL, NUMBER};
 use zifnora::sizes::{SHEET_BYTES, TRANSLATION_BYTES};
 
 #[test]
@@ -116,4 +117,24 @@ fn runs_give_cells_back_and_keep_some() {
     assert!(fewer >= 150 && further >= 10, "{fewer} {further}");
     let (fewer, further) = counts(given_back::lists);
     assert!(fewer >= 100 && further >= 5, "{fewer} {further}");
+}
+
+#[test]
+fn near_misses_and_damaged_records() {
+    let mut random = Random::new(5);
+    let [mut numbers, mut value, mut outcome, mut both] = [0; 4];
+    for _ in 0..2000 {
+        let answer = answer_record::any(&mut random);
+        let near = answer_record::near(&mut random, &answer);
+        let same = (near.outcome == answer.outcome, near.value == answer.value);
+        numbers += (answer.outcome == NUMBER) as u32;
+        outcome += (same == (true, false)) as u32;
+        value += (same == (false, true)) as u32;
+        both += (same == (true, true) && near != answer) as u32;
+        assert_eq!(viewed_answer(&near.record()), Some(near));
+        let damaged = answer_record::damaged(&mut random, &answer);
+        assert_eq!(viewed_answer(&damaged), None);
+    }
+    let least = numbers.min(value).min(outcome).min(both);
+    assert!(least >= 300, "{numbers} {value} {outcome} {both}");
 }

@@ -5,6 +5,7 @@ use super::answer::Answer;
 use super::batch::{self, Rows};
 use super::cell_behaviour::CellBehaviour;
 use super::cells::Value;
+use super::driver_view::{self, VIEW};
 use super::hirer::{self, Hire};
 use super::records::{Record, Records};
 use super::run::Run;
@@ -246,6 +247,32 @@ pub trait HirerBehaviour: Behaviour {
     }
 }
 
+/// The steps of the driver's view.
+pub trait ViewBehaviour {
+    fn driver_view(&self, record: &[u8], out: &mut [u8]) -> Result<usize, Refusal>
+    where
+        Self: Sized,
+    {
+        driver_view::driver_view(self, record, out)
+    }
+
+    fn viewed_answer(&self, record: &[u8]) -> Option<Answer> {
+        driver_view::viewed_answer(record)
+    }
+
+    fn view_fits(&self, room: usize) -> bool {
+        driver_view::view_fits(room)
+    }
+
+    fn view(&self, answer: &Answer) -> [u8; VIEW] {
+        driver_view::view(answer)
+    }
+
+    fn write_view(&self, view: [u8; VIEW], out: &mut [u8]) {
+        driver_view::write_view(view, out)
+    }
+}
+
 /// The model as the papers have it.
 pub struct Correct;
 
@@ -256,3 +283,5 @@ impl CellBehaviour for Correct {}
 impl BatchBehaviour for Correct {}
 
 impl HirerBehaviour for Correct {}
+
+impl ViewBehaviour for Correct {}

@@ -1,13 +1,14 @@
 //! The independent implementation of document 01. Each of its steps stands in
 //! one of these files as the papers have it; `Behaviour`, `CellBehaviour`,
-//! `BatchBehaviour` and `HirerBehaviour` name the steps that a deliberately
-//! faulty model (`crate::faulty`) does otherwise.
+//! `BatchBehaviour`, `HirerBehaviour` and `ViewBehaviour` name the steps that a
+//! deliberately faulty model (`crate::faulty`) does otherwise.
 
 pub mod answer;
 pub mod batch;
 pub mod behaviour;
 pub mod cell_behaviour;
 pub mod cells;
+pub mod driver_view;
 pub mod hirer;
 pub mod joined;
 pub mod kept;
@@ -29,7 +30,7 @@ pub mod trees;
 mod tests;
 
 use crate::interface::Interface;
-pub use behaviour::{BatchBehaviour, Behaviour, Correct, HirerBehaviour};
+pub use behaviour::{BatchBehaviour, Behaviour, Correct, HirerBehaviour, ViewBehaviour};
 pub use cell_behaviour::CellBehaviour;
 pub use zifnora::Refusal;
 

@@ -3,7 +3,7 @@
 use super::answer::RECORD;
 use super::batch::Rows;
 use super::hirer::Hire;
-use super::{run, BatchBehaviour, HirerBehaviour, Model, Refusal};
+use super::{run, BatchBehaviour, HirerBehaviour, Model, Refusal, ViewBehaviour};
 use crate::interface::{Allowances, Interface};
 use zifnora::numbers::SHORT_OUTPUT;
 
@@ -19,7 +19,7 @@ fn code(result: Result<usize, Refusal>) -> u64 {
     }
 }
 
-impl<B: BatchBehaviour + HirerBehaviour> Interface for Model<B> {
+impl<B: BatchBehaviour + HirerBehaviour + ViewBehaviour> Interface for Model<B> {
     fn translate(&self, sheet: &[u8], out: &mut [u8]) -> u64 {
         code(self.0.translate_into(sheet, out))
     }
@@ -107,5 +107,9 @@ impl<B: BatchBehaviour + HirerBehaviour> Interface for Model<B> {
             Ok(count) => count as u64,
             Err(refusal) => packed(refusal),
         }
+    }
+
+    fn driver_view(&self, record: &[u8], out: &mut [u8]) -> u64 {
+        code(self.0.driver_view(record, out))
     }
 }

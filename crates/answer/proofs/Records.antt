@@ -17,7 +17,7 @@ use Rattle.definitions.specs.Operators.{residue}
 use Rattle.definitions.specs.Run as Run
 use Rattle.definitions.specs.Run.{refusal}
 use Rattle.definitions.specs.Verdicts.{require}
-use Rattle.definitions.specs.AnswerRecord.{answerWords, answerBytes}
+use Rattle.definitions.specs.AnswerRecord.{answerKind, answerWords, answerBytes}
 use Rattle.definitions.specs.declared.Verdict.the-variants.{Accepted, Refused}
 use Rattle.answer.specs.declared.Answer.{Answer}
 use Rattle.answer.specs.declared.Outcome.{Outcome}
@@ -53,7 +53,7 @@ record-short a out h = record { verdict = rw (lt-leb answerSize (length out) h) 
 
 module _ (a : Answer) (l m n o p q r s t : List ℕ) (outcome value node context : ℕ) where
   pub record-bytes : outcome ≡ outcomeOf (a .outcome) → value ≡ residue w32 (valueOf (a .outcome)) → node ≡ nodeOf (a .outcome) → context ≡ contextOf (a .outcome)
-      → m ≡ sets l 0 (wordBytes answerSize) → n ≡ sets m 2 (wordBytes 64) → o ≡ sets n 4 (wordBytes outcome) → p ≡ sets o 6 (bytesOf (words32 value))
+      → m ≡ sets l 0 (wordBytes answerSize) → n ≡ sets m 2 (wordBytes answerKind) → o ≡ sets n 4 (wordBytes outcome) → p ≡ sets o 6 (bytesOf (words32 value))
       → q ≡ sets p 10 (bytesOf (words32 (a .steps))) → r ≡ sets q 14 (wordBytes node) → s ≡ sets r 16 (wordBytes context) → t ≡ sets s 18 (wordBytes (a .cells))
       → t ≡ sets l 0 (answerBytes (answerOf a))
   unfolding wordBytes words32 bytesOf answerWords answerBytes answerOf

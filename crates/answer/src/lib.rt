@@ -5,16 +5,12 @@ ghost use Rattle.definitions.specs.Operators.{residue};
 ghost use Rattle.definitions.specs.Run.{refusal};
 ghost use Rattle.answer.specs.Answers.{outcomeOf, valueOf, nodeOf, contextOf, answerOf, Writes};
 use definitions::Verdict;
+use definitions::answer_record;
 use definitions::numbers;
 use definitions::sizes::ANSWER_BYTES;
 use file_fields::writing::put_word;
 use file_fields::writing::put_word32;
 use operators::bits::bits_of;
-
-// "Record kind 64, 20 bytes".
-const RECORD_LENGTH: u16 = ANSWER_BYTES as u16;
-
-const RECORD_KIND: u16 = 64;
 
 // How a run ends: a number, a constructor with node and context, a stop or a fault, or a refusal.
 pub enum Outcome {
@@ -123,13 +119,13 @@ pub fn write_answer(a: Answer, out: &mut [u8]) -> Verdict
         };
     }
     let o = a.outcome;
-    put_word(out, 0, RECORD_LENGTH);
-    put_word(out, 2, RECORD_KIND);
-    put_word(out, 4, outcome_of(o));
-    put_word32(out, 6, value_bits(o));
-    put_word32(out, 10, a.steps);
-    put_word(out, 14, node_of(o));
-    put_word(out, 16, context_of(o));
-    put_word(out, 18, a.cells);
+    put_word(out, answer_record::LENGTH_PLACE, answer_record::LENGTH);
+    put_word(out, answer_record::KIND_PLACE, answer_record::KIND);
+    put_word(out, answer_record::OUTCOME_PLACE, outcome_of(o));
+    put_word32(out, answer_record::VALUE_PLACE, value_bits(o));
+    put_word32(out, answer_record::STEPS_PLACE, a.steps);
+    put_word(out, answer_record::NODE_PLACE, node_of(o));
+    put_word(out, answer_record::CONTEXT_PLACE, context_of(o));
+    put_word(out, answer_record::CELLS_PLACE, a.cells);
     Verdict::Accepted
 }

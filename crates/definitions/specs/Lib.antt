@@ -30,6 +30,7 @@ pub mod LiveCells
 pub mod CellBytes
 pub mod Run
 pub mod AnswerRecord
+pub mod DriverView
 pub mod RunsInTurn
 pub mod Hirer
 pub mod Listing

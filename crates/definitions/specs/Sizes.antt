@@ -57,6 +57,10 @@ entrySize = 8
 abbrev pub answerSize : ℕ
 answerSize = 20
 
+-- document 02, request 10: "The cab shows 6 bytes"
+abbrev pub viewSize : ℕ
+viewSize = 6
+
 -- document 02, request 1: "0 to 16 reading rows"
 abbrev pub mostRows : ℕ
 mostRows = 16

@@ -1,4 +1,5 @@
 // What the definitions in specs/ and the code share: types, numbers, kinds, operator codes and sizes. The definitions are in specs/.
+pub mod answer_record;
 pub mod numbers;
 pub mod operator_codes;
 pub mod sheet_kinds;

@@ -36,6 +36,9 @@ pub const ENTRY_BYTES: usize = 8;
 // "Record kind 64, 20 bytes".
 pub const ANSWER_BYTES: usize = 20;
 
+// Document 02, request 10: "The cab shows 6 bytes".
+pub const VIEW_BYTES: usize = 6;
+
 // Document 02, request 1: "0 to 16 reading rows".
 pub const MOST_ROWS: u32 = 16;
 

@@ -21,6 +21,7 @@ use Rattle.definitions.specs.Labels.{labelOf}
 use Rattle.definitions.specs.Translate.{translation}
 use Rattle.agreement.specs.Meaning.{OwnAnswer}
 use Rattle.definitions.specs.Run.{ruleAnswer, allowancesFit, runVerdict, answerAfter}
+use Rattle.definitions.specs.AnswerRecord.{recorded}
 use Rattle.definitions.specs.declared.Verdict.the-variants.{Accepted}
 use Rattle.shared_runs.specs.Reads.{EqualArguments}
 use Rattle.shared_runs.proofs.OneLabel.{one-label}
@@ -35,7 +36,6 @@ use Rattle.evaluator.proofs.Own.{own-unique}
 use Rattle.agreement.proofs.Demand3.{rule-gives-exactly-own, rule-gives-from-there}
 use Rattle.join.specs.Promise.{Joins}
 use Rattle.zifnora_c.specs.Codes.{codeNumber, codeValue}
-use Rattle.zifnora_c.specs.Records.{recorded}
 use Rattle.zifnora_c.specs.Promise.{TranslatesC, RunsC, JoinsC}
 use Rattle.demands.specs.Demands.{Handed, TranslatingMet, Met, StoppedOrRefused, RunExact}
 use Rattle.demands.specs.InC.{SignedReadings, TranslatingMetInC, MetInC, StoppedOrRefusedInC}

@@ -12,7 +12,7 @@ use Rattle.definitions.specs.Layouts.{readings, firstNode}
 use Rattle.definitions.specs.Checks.{translationVerdict}
 use Rattle.definitions.specs.Outcomes.{Outcome}
 use Rattle.definitions.specs.Run.{ruleAnswer, ruleCells, refusal, answerAfter, bytesAfter}
-use Rattle.definitions.specs.AnswerRecord.{answerBytes}
+use Rattle.definitions.specs.AnswerRecord.{answerBytes, recorded}
 use Rattle.definitions.specs.Hirer.{readingAllowed, hirerAnswer, hirerCells}
 use Rattle.definitions.specs.declared.Verdict.the-variants.{Accepted}
 use Rattle.definitions.specs.declared.Written.the-variants.{Length}
@@ -24,7 +24,6 @@ use Rattle.answer.specs.Answers.{answerOf}
 use Rattle.run.specs.Promise.{Runs}
 use Rattle.hirer.specs.Promise.{RunsForHirer}
 use Rattle.zifnora_c.specs.Codes.{codeNumber, codeValue}
-use Rattle.zifnora_c.specs.Records.{recorded}
 use Rattle.zifnora_c.specs.Promise.{TranslatesC, RunsForHirerC}
 use Rattle.demands.specs.Demands.{Met, StoppedOrRefused}
 use Rattle.demands.specs.InC.{SignedReadings, MetInC, StoppedOrRefusedInC}

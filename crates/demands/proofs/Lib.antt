@@ -14,6 +14,8 @@ pub mod MeetingRows
 pub mod OwnRows
 pub mod SingleRuns
 pub mod EndedRuns
+pub mod Viewed
+pub mod Viewing
 pub mod Demands
 pub mod Requests
 pub mod SharedLabels
@@ -21,3 +23,4 @@ pub mod HiredTrailers
 pub mod RememberedValues
 pub mod VisitedOnce
 pub mod GivenBack
+pub mod DriverView

@@ -12,14 +12,13 @@ use Rattle.definitions.specs.Outcomes.{Outcome}
 use Rattle.definitions.specs.Trees.{equalTrees}
 use Rattle.definitions.specs.Translate.{translationWords, translationBy, translation}
 use Rattle.definitions.specs.Run.{answerAfter, ruleAnswer, runAnswer}
-use Rattle.definitions.specs.AnswerRecord.{answerBytes}
+use Rattle.definitions.specs.AnswerRecord.{answerBytes, recorded}
 use Rattle.definitions.specs.declared.Verdict.{Verdict}
 use Rattle.definitions.specs.declared.Verdict.the-variants.{Accepted}
 use Rattle.laws.proofs.ByteFiles.{Bytes, bytes-below}
 use Rattle.agreement.specs.Meaning.{OwnAnswer}
 use Rattle.join.specs.Promise.{joinAnswer}
 use Rattle.zifnora_c.specs.Codes.{codeNumber, codeValue}
-use Rattle.zifnora_c.specs.Records.{recorded}
 use Rattle.zifnora_c.specs.Promise.{TranslatesC, RunsInto, RunsC, RunsForHirerC, JoinsC}
 use Rattle.zifnora_c.proofs.Coding.{fits}
 use Rattle.demands.specs.Demands.{Handed, Met}
@@ -32,7 +31,7 @@ use Rattle.demands.proofs.Values.{after-fits}
 use Rattle.demands.proofs.HandingInC.{handed-in-C}
 use Rattle.demands.proofs.RunningInC.{outcome-is, answer-is, recorded-unanswered, record-where-fits, run-met-where-fits, join-met-where-fits}
 
-translation-bytes : (sheet : List ℕ) → Bytes (translation sheet)
+pub translation-bytes : (sheet : List ℕ) → Bytes (translation sheet)
 unfolding translation translationBy
 translation-bytes sheet = bytes-below (translationWords (equalTrees sheet) sheet)
 

@@ -17,11 +17,11 @@ use Rattle.definitions.specs.Trees.{equalTrees}
 use Rattle.definitions.specs.Translate.{translation}
 use Rattle.definitions.specs.Run.{answerAfter}
 use Rattle.definitions.specs.RunsInTurn.{rowOf}
+use Rattle.definitions.specs.AnswerRecord.{recorded}
 use Rattle.definitions.specs.declared.Verdict.the-variants.{Accepted}
 use Rattle.readback.proofs.Records.{translation-readings}
 use Rattle.agreement.specs.Meaning.{OwnAnswer}
 use Rattle.batch.specs.Promise.{rowsVerdict, rowsRecords}
-use Rattle.zifnora_c.specs.Records.{recorded}
 use Rattle.demands.specs.InC as InC
 use Rattle.demands.specs.InC.{SignedReadings, StoppedOrRefusedInC}
 use Rattle.demands.specs.Rows.{rowRecorded}
@@ -37,7 +37,7 @@ taken-fits (suc n) [] h i = h i
 taken-fits (suc n) (z ∷ rs) h zero = h zero
 taken-fits (suc n) (z ∷ rs) h (suc i) = taken-fits n rs (λ j. h (suc j)) i
 
-row-signed : (b : List ℕ) (rs : List ℤ) (i : ℕ) → SignedReadings rs → SignedReadings (rowOf b rs i)
+pub row-signed : (b : List ℕ) (rs : List ℤ) (i : ℕ) → SignedReadings rs → SignedReadings (rowOf b rs i)
 unfolding rowOf
 row-signed b rs i signed =
     record { fit = taken-fits (readings b) (drop (i * readings b) rs) (λ j. rw (getD-drop (i * readings b) rs j (pos 0)) (signed .fit (i * readings b + j))) }

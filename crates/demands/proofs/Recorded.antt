@@ -9,11 +9,10 @@ use Rattle.definitions.specs.Bytes.{word, word32, signed, wordBytes, words32, b
 use Rattle.definitions.specs.Operators.{residue, reduced}
 use Rattle.definitions.specs.Outcomes.{Outcome}
 use Rattle.definitions.specs.Run.{Answer}
-use Rattle.definitions.specs.AnswerRecord.{answerWords, answerBytes}
+use Rattle.definitions.specs.AnswerRecord.{answerWords, answerBytes, recorded}
 use Rattle.operators.proofs.Residues.{residue-below, reduced-held}
 use Rattle.agreement.specs.Answers.{answerOutcome}
 use Rattle.zifnora_c.specs.Codes.{code, codeNumber, codeValue}
-use Rattle.zifnora_c.specs.Records.{recorded}
 
 pub number-of-code : (n v : ℕ) → codeNumber (code n v) ≡ n
 unfolding codeNumber code
@@ -31,7 +30,7 @@ value-bits : (a : Answer) (rest : List ℕ) → word32 (answerBytes a ++ rest) 6
 unfolding answerBytes answerWords bytesOf wordBytes words32 word word32
 value-bits a rest = let h = residue-below w32 (a .value) in omega arith
 
-value-read : (a : Answer) (rest : List ℕ) → SFits w32 (a .value) → recorded (answerBytes a ++ rest) .value ≡ a .value
+pub value-read : (a : Answer) (rest : List ℕ) → SFits w32 (a .value) → recorded (answerBytes a ++ rest) .value ≡ a .value
 unfolding recorded signed reduced
 value-read a rest h = ap (toZ w32) (value-bits a rest) ∙ reduced-held w32 (a .value) h
 

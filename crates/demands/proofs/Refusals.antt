@@ -20,6 +20,7 @@ use Rattle.definitions.specs.declared.Verdict.the-variants.{Accepted, Refused}
 use Rattle.definitions.specs.Hirer.{closedAt, closedVerdict}
 use Rattle.batch.specs.Promise.{rowsChecks, rowsVerdict}
 use Rattle.join.specs.Promise.{joinVerdict}
+use Rattle.definitions.specs.DriverView.{viewVerdict}
 use Rattle.demands.specs.Hirer.{hirerRefusals}
 
 abbrev pub NumberedIn : Verdict → Type 0
@@ -95,3 +96,7 @@ unfolding closedVerdict closedAt isRefusal within
 hiring-numbered b set rs nesting cellsAllowed lent =
     either _ _ (either _ _ (either _ _ (translation-numbered b) (each (nodes b) _ (λ k. required _ closedReading _ refl))) (required _ badReadings 0 refl))
     (required _ badAllowance 0 refl)
+
+pub viewing-numbered : (b : List ℕ) (room : ℕ) → NumberedIn (viewVerdict b room)
+unfolding viewVerdict isRefusal within
+viewing-numbered b room = either _ _ (required _ badRecord 0 refl) (required _ shortOutput 0 refl)

@@ -1,6 +1,6 @@
 -- The requests of document 02, each in its words, over what the public calls promise: `RunsRows` of `batch::run_rows`, `Translates` of
 -- `translator::translate`, `translationAnswer` of `translation_length::translated_length`, `Runs` of `run::run`, and for callers in C
--- `RunsRowsC`, `TranslatesC`, `translationCode` and `RunsC`. Requests 4 and 5 are on the pages beside it, `SharedLabels` and `HiredTrailers`.
+-- `RunsRowsC`, `TranslatesC`, `translationCode` and `RunsC`. Requests 4, 5 and 7 to 10 have pages of their own beside it.
 use mathlib.Core.Path.{_≡_, refl, sym, ap, _∙_}
 use mathlib.Core.Logic.{_↔_}
 use Prim.Native.Nat.{ℕ, suc, _*_, _≤_, _<_}
@@ -23,7 +23,7 @@ use Rattle.definitions.specs.Checks.{sheetVerdict, translationVerdict}
 use Rattle.definitions.specs.Translate.{translation, translationRefusal, translationAnswer}
 use Rattle.definitions.specs.Outcomes.{Outcome, endOutcome}
 use Rattle.definitions.specs.Run.{allowancesFit}
-use Rattle.definitions.specs.AnswerRecord.{answerBytes}
+use Rattle.definitions.specs.AnswerRecord.{answerBytes, recorded}
 use Rattle.definitions.specs.RunsInTurn.{rowOf}
 use Rattle.definitions.specs.declared.Verdict.the-variants as verdicts
 use Rattle.definitions.specs.declared.Verdict.the-variants.{Accepted}
@@ -40,7 +40,6 @@ use Rattle.answer.specs.Answers.{answerOf}
 use Rattle.run.specs.Promise.{Runs}
 use Rattle.batch.specs.Promise.{RunsRows}
 use Rattle.zifnora_c.specs.Codes.{codeNumber, codeValue}
-use Rattle.zifnora_c.specs.Records.{recorded}
 use Rattle.zifnora_c.specs.Promise.{translationCode, TranslatesC, RunsC, RunsRowsC}
 use Rattle.demands.specs.Demands.{TranslatingMet}
 use Rattle.demands.specs.InC.{SignedReadings}

@@ -13,12 +13,11 @@ use Rattle.definitions.specs.Sizes.{answerSize}
 use Rattle.definitions.specs.Numbers.{shortOutput, isConstructor}
 use Rattle.definitions.specs.Verdicts.{require}
 use Rattle.definitions.specs.Run.{Answer, refusal}
-use Rattle.definitions.specs.AnswerRecord.{answerBytes}
+use Rattle.definitions.specs.AnswerRecord.{answerBytes, recorded}
 use Rattle.laws.proofs.Classes.{answer-limit, stop-limit, refusal-range}
 use Rattle.agreement.specs.Answers.{answerOutcome}
 use Rattle.join.specs.Promise.{joinAnswer, joinOutput, joinCells}
 use Rattle.zifnora_c.specs.Codes.{code, codeOf, codeNumber}
-use Rattle.zifnora_c.specs.Records.{recorded}
 use Rattle.zifnora_c.specs.Promise.{recordVerdict, whereFits, recordOver, RunsInto, RunsC, RunsForHirerC, JoinsC}
 use Rattle.demands.specs.Demands as Demands
 use Rattle.demands.specs.Demands.{Met, StoppedOrRefused}
@@ -29,7 +28,7 @@ use Rattle.demands.proofs.HirerRuns.{hirer-met}
 use Rattle.demands.proofs.Recorded.{number-of-code, outcome-read, answer-read}
 
 -- an answer that is met has a number that the record holds
-met-limit : {a : Answer} {untouched : Type 0} → Met a untouched → a .outcome ≤ isConstructor
+pub met-limit : {a : Answer} {untouched : Type 0} → Met a untouched → a .outcome ≤ isConstructor
 unfolding refusal
 met-limit (Demands.Met.answers h) = answer-limit _ h
 met-limit (Demands.Met.stops h) = stop-limit _ h

@@ -8,8 +8,8 @@ use lib.ListN.{getD, take, drop}
 use mir.Syntax.{w32}
 use mir.Val.{SFits}
 use Rattle.definitions.specs.Numbers.{shortOutput, isRefusal, isStop, isAnswer}
+use Rattle.definitions.specs.AnswerRecord.{recorded}
 use Rattle.zifnora_c.specs.Codes.{codeNumber, codeValue}
-use Rattle.zifnora_c.specs.Records.{recorded}
 use Rattle.demands.specs.Demands.{Handed}
 
 -- "Readings are signed 32-bit numbers."

@@ -2,3 +2,4 @@ pub mod Demands
 pub mod InC
 pub mod Rows
 pub mod Hirer
+pub mod DriverView

@@ -9,12 +9,11 @@ use Rattle.definitions.specs.Sizes.{answerSize}
 use Rattle.definitions.specs.Numbers.{isAnswer, isStop, isRefusal}
 use Rattle.definitions.specs.Outcomes.{Outcome}
 use Rattle.definitions.specs.Run.{ruleAnswer, ruleCells}
-use Rattle.definitions.specs.AnswerRecord.{answerBytes}
+use Rattle.definitions.specs.AnswerRecord.{answerBytes, recorded}
 use Rattle.definitions.specs.RunsInTurn.{rowOf, cellsInTurn}
 use Rattle.definitions.specs.declared.Written.{Written}
 use Rattle.definitions.specs.declared.Written.the-variants.{Length, Refused}
 use Rattle.zifnora_c.specs.Codes.{codeNumber, codeValue}
-use Rattle.zifnora_c.specs.Records.{recorded}
 
 -- what a caller reads of row i
 abbrev pub rowRecorded : List ℕ → ℕ → Outcome

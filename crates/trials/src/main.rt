@@ -1,10 +1,10 @@
-// The readers, the translator, the length that is asked, the run, the run on rows, the hirer's run and the context listing on the
-// files that standard input lists.
+// The readers, the translator, the length that is asked, the run, the run on rows, the hirer's run, the driver's view and the
+// context listing on the files that standard input lists.
 //
 // The file `stdin` beside src/ has the trials: files for the two readers; sheets and the translations that they should have, and
-// their runs; translations that no translator writes, and their runs, also on rows and for a hirer; cells and their listings. The
+// their runs; translations that no translator writes, and their runs, also on rows and for a hirer; answer records and their views; cells and their listings. The
 // file `stdout` has what each should answer by document 01, and by document 02 for rows (request 1), products (2), the length that is
-// asked (3), labels (4), hirers (5), what cells remember (7) and cells given back (9). Files and translations are worked out by hand from
+// asked (3), labels (4), hirers (5), what cells remember (7), cells given back (9) and the driver's view (10). Files and translations are worked out by hand from
 // these and document 002, and so are the readers' answers; the runs with their steps and cells, and of the trials for labels the translations too, were
 // worked out by a model written from the documents alone. A record is its length, its kind and its fields; in a change, word 0 of a
 // record is its length, word 1 its kind, and the fields follow. A comment in quotation marks is the sentence that decides the trials
@@ -13,7 +13,7 @@
 //   =  a new trial, or trials of one file, and its name; no word is written yet
 //   -  a heading
 //   s  words of the sheet's file, two bytes each
-//   t  words of the translation's file
+//   t  words of the translation's file, or of the answer record that is viewed
 //   S  the sheet's file is read: how many bytes of it, and the words that are changed for this trial, as `r.j=w`
 //   T  the same with the translation's file
 //   c  a cell that runs should make, or that is listed: its callee, its label, the cell before, and the words of its entries, as
@@ -30,13 +30,14 @@
 //      of the translation, bytes lent for records, changes, and the readings of all rows
 //   h  the translation is run for a hirer, and by the owner's run: the set, whose bit i is reading i, as a number, and then as `u`
 //   l  a context is listed: the cell, bytes of cells, bytes of output
+//   v  an answer record is viewed: bytes of it, bytes of output, changes
 // A run shows its answer's record of kind 64. As many cells as it counts are to be those of `c`, and all bytes past them, and those
 // of the output past the translation, are to be as they were before; where the run is refused, all bytes of both are. Of rows each
 // shows its record. `c` then has the cells as the last row leaves them: as many as any row counts are to be those, and all bytes past
 // them, and those past the last record, are to be as they were before; where the rows are refused, all bytes of both are.
 // Words, cells and readings after `xN` are written N times, and one with `+k` after it grows by k from turn to turn. A reading has a
 // minus before it where it is negative. What follows a comma says what a trial is. Any other line is a comment. `stdin` has less than
-// 65,536 bytes. What does not fit its space, a number too large or a file too long, is shown as `DOES NOT FIT`, which `stdout` never
+// 131,072 bytes. What does not fit its space, a number too large or a file too long, is shown as `DOES NOT FIT`, which `stdout` never
 // has.
 // The interpreter with which `rt try` begins ends at its limit of steps, and the compiled runs go through.
 mod files;
@@ -49,6 +50,7 @@ mod run_trial;
 mod shown;
 mod text;
 mod translator_trial;
+mod view_trial;
 
 use crate::files::fill;
 use crate::files::put_entry;
@@ -64,9 +66,13 @@ use crate::shown::show_named;
 use crate::text::line_starts;
 use crate::text::numbered;
 use crate::translator_trial::try_translator;
+use crate::view_trial::try_view;
 use definitions::Layout;
 use file_writer::SPACE_BYTES;
 use file_writer::Space;
+
+// More bytes than the text of the trials has.
+const TEXT_BYTES: usize = 131072;
 
 // How many bytes are written of the sheet, of the translation and of the cells.
 struct Sizes {
@@ -165,6 +171,9 @@ fn tried(
     if letter == b'l' {
         try_listing(text, from, cells);
     }
+    if letter == b'v' {
+        try_view(text, from, translation);
+    }
 }
 
 // Carries out the entry at a place, whose words start two bytes on.
@@ -189,7 +198,7 @@ fn entry(
 }
 
 fn main() {
-    let mut text = io::large_buffer();
+    let mut text = [0u8; TEXT_BYTES];
     let size = io::read_full(0, &mut text);
     if size == text.len() {
         show_misfit();

@@ -1,7 +1,7 @@
 // What the trials write: parts of their text, numbers between words, and refusals.
 ghost use Prim.Native.Nat.{_≤_};
 use crate::text::entry_end;
-use definitions::sizes::ANSWER_BYTES;
+use definitions::answer_record;
 use file_fields::bytes::word;
 use file_fields::bytes::word32;
 use widths::wide;
@@ -50,11 +50,8 @@ pub(crate) fn show_whether(holds: bool, good: &[u8], bad: &[u8]) {
     }
 }
 
-// "Record kind 64, 20 bytes".
-const RECORD_KIND: u16 = 64;
-
 // A signed number by its bits.
-fn show_value(bits: usize)
+pub(crate) fn show_value(bits: usize)
     requires { ⌜ bits ≤ 4294967295 ⌝ }
 {
     if bits < 0x8000_0000 {
@@ -64,14 +61,25 @@ fn show_value(bits: usize)
     }
 }
 
+// A field of two bytes after a word.
+fn show_word(before: &[u8], record: &[u8], at: usize) {
+    show_number(before, wide(word(record, at)), b"");
+}
+
 // The fields of an answer's record. Its length and its kind are not shown where they are right.
 pub(crate) fn show_record(record: &[u8]) {
-    show_whether(wide(word(record, 0)) == ANSWER_BYTES, b"", b"WRONG LENGTH ");
-    show_whether(word(record, 2) == RECORD_KIND, b"", b"WRONG KIND ");
-    show_number(b"outcome ", wide(word(record, 4)), b"");
-    show_value(wide32(word32(record, 6)));
-    show_number(b" steps ", wide32(word32(record, 10)), b"");
-    show_number(b" node ", wide(word(record, 14)), b"");
-    show_number(b" context ", wide(word(record, 16)), b"");
-    show_number(b" cells ", wide(word(record, 18)), b"");
+    let length = word(record, answer_record::LENGTH_PLACE);
+    show_whether(length == answer_record::LENGTH, b"", b"WRONG LENGTH ");
+    let kind = word(record, answer_record::KIND_PLACE);
+    show_whether(kind == answer_record::KIND, b"", b"WRONG KIND ");
+    show_word(b"outcome ", record, answer_record::OUTCOME_PLACE);
+    show_value(wide32(word32(record, answer_record::VALUE_PLACE)));
+    show_number(
+        b" steps ",
+        wide32(word32(record, answer_record::STEPS_PLACE)),
+        b"",
+    );
+    show_word(b" node ", record, answer_record::NODE_PLACE);
+    show_word(b" context ", record, answer_record::CONTEXT_PLACE);
+    show_word(b" cells ", record, answer_record::CELLS_PLACE);
 }

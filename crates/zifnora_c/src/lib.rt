@@ -1,7 +1,7 @@
 // The calls for programs in C and Rust: numbers, slices of numbers, and a reference to a slice of cells, which stays the same
 // slice. include/zifnora.h says the same for C.
 ghost use mathlib.Core.Path.{_≡_};
-ghost use Rattle.zifnora_c.specs.Promise.{translationCode, TranslatesC, RunsC, RunsForHirerC, RunsRowsC, JoinsC, ListsC};
+ghost use Rattle.zifnora_c.specs.Promise.{translationCode, TranslatesC, RunsC, RunsForHirerC, RunsRowsC, JoinsC, ListsC, WritesViewC};
 
 mod codes;
 
@@ -11,6 +11,7 @@ use crate::codes::written_code;
 use answer::write_answer;
 use batch::run_rows;
 use cells::listing::list_context;
+use driver_view::write_view;
 use hirer::run_for_hirer;
 use join::translate_and_run;
 use run::run;
@@ -141,4 +142,12 @@ pub extern "C" fn zifnora_list_context(cells: &[u8], cell: u32, out: &mut [u8]) 
     ensures { λ r. ⌜ ListsC (now (cells .entry)) cell (now (out .entry)) r (now (out .exit)) ⌝ }
 {
     listed_code(list_context(cells, cell as usize, out))
+}
+
+// Writes the driver's view of an answer record.
+#[no_mangle]
+pub extern "C" fn zifnora_driver_view(rec: &[u8], out: &mut [u8]) -> u64
+    ensures { λ r. ⌜ WritesViewC (now (rec .entry)) (now (out .entry)) r (now (out .exit)) ⌝ }
+{
+    written_code(write_view(rec, out))
 }

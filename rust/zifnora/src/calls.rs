@@ -2,8 +2,9 @@
 
 use crate::allowed::Allowed;
 use crate::answer::{Allowances, Answer, Ended, Record, Refusal};
+use crate::kinds::view;
 use crate::raw;
-use crate::sizes::{ANSWER_BYTES, CELL_BYTES, LABEL_BYTES, MOST_ROWS};
+use crate::sizes::{ANSWER_BYTES, CELL_BYTES, LABEL_BYTES, MOST_ROWS, VIEW_BYTES};
 
 /// Translates a sheet; the translation's length. `out` starts with the
 /// translation and stays as it was past it; a refusal leaves all of it as it
@@ -97,6 +98,17 @@ pub fn list_context(cells: &[u8], cell: u32) -> Result<Vec<u16>, Refusal> {
 /// was past them; a refusal leaves all of it as it was.
 pub fn list_context_into(cells: &[u8], cell: u32, out: &mut [u8]) -> Result<usize, Refusal> {
     raw::result(raw::list_context(cells, cell, out))
+}
+
+/// What the cab shows of the bytes of an answer record: the number, or nothing
+/// for every other outcome. `numbers::BAD_RECORD` where they are not
+/// `sizes::ANSWER_BYTES`, or their length or kind is not that of an answer.
+pub fn driver_view(record: &[u8]) -> Result<Option<i32>, Refusal> {
+    let mut out = [0; VIEW_BYTES];
+    raw::result(raw::driver_view(record, &mut out))?;
+    let [low, high, number @ ..] = out;
+    let shown = u16::from_le_bytes([low, high]) == view::NUMBER;
+    Ok(shown.then_some(i32::from_le_bytes(number)))
 }
 
 /// The end of a run, by its code and its record.

@@ -1,4 +1,5 @@
-//! Document 01's kinds of records, and its codes of operators.
+//! Document 01's kinds of records, its codes of operators, and document 02's
+//! two kinds of a driver's view.
 
 /// Records of a sheet.
 pub mod sheet {
@@ -52,6 +53,13 @@ pub mod translation {
 
 /// The record of an answer.
 pub const ANSWER: u16 = 64;
+
+/// The first two bytes of a driver's view: a number is shown in the four bytes
+/// after them, or nothing, and these are 0.
+pub mod view {
+    pub const NUMBER: u16 = 0;
+    pub const EMPTY: u16 = 1;
+}
 
 /// Codes of operators.
 pub mod operators {

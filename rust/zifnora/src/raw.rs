@@ -95,9 +95,16 @@ extern "C" {
         out: *mut u8,
         out_length: usize,
     ) -> u64;
+
+    fn zifnora_driver_view(
+        record: *const u8,
+        record_length: usize,
+        out: *mut u8,
+        out_length: usize,
+    ) -> u64;
 }
 
-// Safety of the seven calls: every pointer comes from a live slice of the
+// Safety of the eight calls: every pointer comes from a live slice of the
 // stated length; slices that are written are borrowed mutably, so that they
 // overlap no other; the pair of the cells is a local variable.
 
@@ -247,6 +254,12 @@ pub fn list_context(cells: &[u8], cell: u32, out: &mut [u8]) -> u64 {
             out.len(),
         )
     }
+}
+
+/// Writes the driver's view of an answer record into `out`.
+#[inline]
+pub fn driver_view(record: &[u8], out: &mut [u8]) -> u64 {
+    unsafe { zifnora_driver_view(record.as_ptr(), record.len(), out.as_mut_ptr(), out.len()) }
 }
 
 /// Opens what a call returned: a length or a count, or the refusal.

@@ -39,3 +39,6 @@ pub const LABEL_BYTES: usize = 2;
 
 /// The answer record.
 pub const ANSWER_BYTES: usize = 20;
+
+/// The driver's view of an answer record.
+pub const VIEW_BYTES: usize = 6;

@@ -10,9 +10,6 @@ Inv-loop text size sheet₀ translation₀ cells₀ sizes₀ at₀ sheet transla
 abbrev μ-loop : tie.MeasureT-loop
 μ-loop text size sheet₀ translation₀ cells₀ sizes₀ at₀ sheet translation cells sizes at = size - at
 
-large-buffer-requires : tie.Need-large-buffer-requires Inv-loop μ-loop
-large-buffer-requires c κs = search needs
-
 slice-aggregate-read-full : tie.Need-slice-aggregate-read-full Inv-loop μ-loop
 slice-aggregate-read-full c = search needs
 
@@ -55,7 +52,6 @@ main-spec =
     (tie.spec
     Inv-loop
     μ-loop
-    large-buffer-requires
     slice-aggregate-read-full
     read-full-requires
     show-misfit-requires
