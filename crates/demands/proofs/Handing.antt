@@ -39,6 +39,12 @@ use Rattle.demands.proofs.Own.{after-own, unanswered}
 pub refused-length : {n p m : ℕ} → _≡_ {A = Written} (Refused n p) (Length m) → ⊥
 refused-length e = let z : _≡_ {A = ℕ} 0 1 = cc in omega arith
 
+-- a call that wrote was not refused
+pub not-refused-by : (v : Verdict) (n : ℕ) {m : ℕ} → Length m ≡ writtenOf v n → v ≡ Accepted
+unfolding writtenOf
+not-refused-by Accepted n e = refl
+not-refused-by (verdicts.Refused k p) n e = absurd (refused-length (sym e))
+
 -- what was written where nothing is refused
 pub written-handed : (sheet out : List ℕ) (n : ℕ) (out′ : List ℕ) → translationRefusal sheet (length out) ≡ Accepted → n ≡ length (translation sheet)
     → out′ ≡ outputOf (translationRefusal sheet (length out)) (translation sheet) out → Handed sheet n out′
@@ -47,15 +53,12 @@ written-handed sheet out n out′ e m w =
     let s : out′ ≡ outputOf Accepted (translation sheet) out = w ∙ rw e refl in
     record { accepted = both-accepted _ _ e .0; is = rw (m, s) (take-append-seam (translation sheet) (drop (length (translation sheet)) out)) }
 
-handed-by : (sheet out : List ℕ) (n : ℕ) (out′ : List ℕ) (v : Verdict) → translationRefusal sheet (length out) ≡ v → Translates sheet out (Length n) out′ → Handed sheet n out′
+pub handed : (sheet out : List ℕ) (n : ℕ) (out′ : List ℕ) → Translates sheet out (Length n) out′ → Handed sheet n out′
 unfolding translationAnswer writtenOf
-handed-by sheet out n out′ (verdicts.Refused m p) e t = absurd (refused-length {n = m} {p = p} (sym (t .answer ∙ rw e refl)))
-handed-by sheet out n out′ Accepted e t =
+handed sheet out n out′ t =
+    let e = not-refused-by (translationRefusal sheet (length out)) (length (translation sheet)) (t .answer) in
     let s : _≡_ {A = Written} (Length n) (Length (length (translation sheet))) = t .answer ∙ rw e refl in
     written-handed sheet out n out′ e (cc s) (t .output)
-
-pub handed : (sheet out : List ℕ) (n : ℕ) (out′ : List ℕ) → Translates sheet out (Length n) out′ → Handed sheet n out′
-handed sheet out n out′ t = handed-by sheet out n out′ (translationRefusal sheet (length out)) refl t
 
 -- of an accepted sheet only 8 withholds the translation
 withheld : (t : Bool) (n p m : ℕ) → writtenOf (require t shortOutput 0) m ≡ Refused n p → n ≡ shortOutput

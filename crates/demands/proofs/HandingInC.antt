@@ -1,6 +1,6 @@
 -- Translating for a caller in C: the code says whether the bytes were handed over, and how many.
-use mathlib.Core.Path.{_≡_, refl, _∙_}
-use Prim.Native.Nat.{ℕ}
+use mathlib.Core.Path.{_≡_, refl, sym, _∙_}
+use Prim.Native.Nat.{ℕ, _<_}
 use mathlib.Core.List.{List}
 use mathlib.Core.Bool.{true}
 use native.Mathlib.Omega.{arith}
@@ -18,7 +18,7 @@ use Rattle.zifnora_c.specs.Codes.{code, codeOf, codeNumber, codeValue}
 use Rattle.zifnora_c.specs.Promise.{TranslatesC}
 use Rattle.demands.specs.Demands.{Handed}
 use Rattle.demands.specs.InC as InC
-use Rattle.demands.specs.InC.{TranslatingMetInC}
+use Rattle.demands.specs.InC.{TranslatingMetInC, WritingMetInC}
 use Rattle.demands.proofs.Refusals.{NumberedIn, translating-numbered}
 use Rattle.demands.proofs.Handing.{written-handed}
 use Rattle.demands.proofs.Recorded.{number-of-code, value-of-code}
@@ -26,36 +26,33 @@ use Rattle.demands.proofs.Recorded.{number-of-code, value-of-code}
 pub refusal-not-zero : (n : ℕ) → isRefusal n ≡ true → n ≡ 0 → ⊥
 refusal-not-zero n h e = omega (arith, e, refusal-range n h .0)
 
+-- a call that wrote was not refused
+pub not-refused-in-C : (v : Verdict) (n : ℕ) {c : ℕ} → NumberedIn v → c ≡ codeOf v n → codeNumber c ≡ 0 → v ≡ Accepted
+unfolding codeOf
+not-refused-in-C Accepted n k e z = refl
+not-refused-in-C (Refused m p) n k e z = absurd (refusal-not-zero m k (sym (number-of-code m p) ∙ rw (← e) z))
+
+-- a call that writes, by its verdict
+pub writing-met-in-C : (v : Verdict) {n c : ℕ} {done untouched : Type 0} → NumberedIn v → c ≡ codeOf v n → (v ≡ Accepted → n < 4294967296) → (v ≡ Accepted → done)
+    → ((m p : ℕ) → v ≡ Refused m p → untouched) → WritingMetInC c n done untouched
+unfolding codeOf
+writing-met-in-C Accepted {n} k e small d u = InC.WritingMetInC.writes (rw e (number-of-code 0 n)) (rw e (value-of-code 0 n (small refl))) (d refl)
+writing-met-in-C (Refused m p) k e small d u = InC.WritingMetInC.refuses (rw (e, number-of-code m p) k) (u m p refl)
+
 module _ (sheet out : List ℕ) (r : ℕ) (out′ : List ℕ) (t : TranslatesC sheet out r out′) where
-  module _ (e : translationRefusal sheet (length out) ≡ Accepted) where
-    length-coded : r ≡ code 0 (length (translation sheet))
-    unfolding codeOf
-    length-coded = t .answer ∙ rw e refl
+  length-small : translationRefusal sheet (length out) ≡ Accepted → length (translation sheet) < 4294967296
+  unfolding translationRefusal translation
+  length-small e = omega (arith, translation-limit (equalTrees sheet) sheet (both-accepted _ _ e .0))
 
-    translated-number : codeNumber r ≡ 0
-    translated-number = rw length-coded (number-of-code 0 (length (translation sheet)))
-
-    translated-handed : Handed sheet (codeValue r) out′
-    unfolding translationRefusal translation
-    translated-handed =
-        let l = translation-limit (equalTrees sheet) sheet (both-accepted _ _ e .0) in
-        written-handed sheet out (codeValue r) out′ e (rw length-coded (value-of-code 0 (length (translation sheet)) (omega (arith, l)))) (t .output)
-
-  refused-number : {n p : ℕ} → translationRefusal sheet (length out) ≡ Refused n p → codeNumber r ≡ n
+  translated-handed : translationRefusal sheet (length out) ≡ Accepted → Handed sheet (codeValue r) out′
   unfolding codeOf
-  refused-number {n} {p} e = let c : r ≡ code n p = t .answer ∙ rw e refl in rw c (number-of-code n p)
-
-  met-by : (v : Verdict) → NumberedIn v → translationRefusal sheet (length out) ≡ v → TranslatingMetInC sheet out r out′
-  unfolding outputOf
-  met-by Accepted k e = InC.TranslatingMetInC.translates (translated-number e) (translated-handed e)
-  met-by (Refused n p) k e = InC.TranslatingMetInC.refuses (rw (refused-number e) k) (t .output ∙ rw e refl)
+  translated-handed e =
+      let coded : r ≡ code 0 (length (translation sheet)) = t .answer ∙ rw e refl in
+      written-handed sheet out (codeValue r) out′ e (rw coded (value-of-code 0 (length (translation sheet)) (length-small e))) (t .output)
 
   pub translating-met-in-C : TranslatingMetInC sheet out r out′
-  translating-met-in-C = met-by _ (translating-numbered sheet (length out)) refl
-
-  handed-by : TranslatingMetInC sheet out r out′ → codeNumber r ≡ 0 → Handed sheet (codeValue r) out′
-  handed-by (InC.TranslatingMetInC.translates z h) e = h
-  handed-by (InC.TranslatingMetInC.refuses k u) e = absurd (refusal-not-zero (codeNumber r) k e)
+  unfolding outputOf
+  translating-met-in-C = writing-met-in-C _ (translating-numbered sheet (length out)) (t .answer) length-small translated-handed (λ n p e. t .output ∙ rw e refl)
 
   pub handed-in-C : codeNumber r ≡ 0 → Handed sheet (codeValue r) out′
-  handed-in-C = handed-by translating-met-in-C
+  handed-in-C z = translated-handed (not-refused-in-C _ _ (translating-numbered sheet (length out)) (t .answer) z)

@@ -6,12 +6,14 @@ use mathlib.Core.Bool.{Bool, true, false, _||_, true≢false}
 use lib.IntN.{ℤ}
 use lib.ListN.{length}
 use Rattle.definitions.specs.Output.{writtenOf, outputOf}
+use Rattle.definitions.specs.Checks.{sheetVerdict}
 use Rattle.definitions.specs.Translate.{translation, translationRefusal, translationAnswer}
 use Rattle.definitions.specs.Run as Run
 use Rattle.definitions.specs.Run.{runVerdict, answerAfter, bytesAfter, ruleAnswer, runAnswer, runCells}
 use Rattle.definitions.specs.declared.Verdict.{Verdict}
 use Rattle.definitions.specs.declared.Verdict.the-variants as verdicts
 use Rattle.definitions.specs.declared.Verdict.the-variants.{Accepted}
+use Rattle.laws.proofs.Verdicts.{both-accepted}
 use Rattle.translator.specs.Promise.{Translates}
 use Rattle.definitions.specs.declared.Written.{Written}
 use Rattle.run.specs.Promise.{Runs}
@@ -20,25 +22,30 @@ use Rattle.answer.specs.Answers.{answerOf}
 use Rattle.definitions.specs.Numbers.{isAnswer, isStop}
 use Rattle.join.specs.Promise.{joinAnswer, joinOutput, joinCells, Joins}
 use Rattle.demands.specs.Demands as Demands
-use Rattle.demands.specs.Demands.{TranslatingMet, Met, RunExact}
+use Rattle.demands.specs.Demands.{TranslatingMet, WritingMet, Met, RunExact}
 use Rattle.demands.proofs.Refusals.{NumberedIn, translating-numbered, running-numbered, joining-numbered}
 use Rattle.agreement.proofs.KnownEnds.{rule-known}
 
--- the answer of translating into an output of `room` bytes, where a refusal leaves the output as it was
-translating-by : (sheet out : List ℕ) (room : ℕ) (r : Written) (out′ : List ℕ) (v : Verdict) → NumberedIn v → translationRefusal sheet room ≡ v
-    → r ≡ translationAnswer sheet room → ((n p : ℕ) → v ≡ verdicts.Refused n p → out′ ≡ out) → TranslatingMet sheet out r out′
-unfolding translationAnswer writtenOf
-translating-by sheet out room r out′ Accepted k e a u = Demands.TranslatingMet.translates (a ∙ rw e refl)
-translating-by sheet out room r out′ (verdicts.Refused n p) k e a u = Demands.TranslatingMet.refuses n p (a ∙ rw e refl) k (u n p refl)
+-- a call that writes, by its verdict
+pub writing-met : (v : Verdict) {n : ℕ} {r : Written} {done untouched : Type 0} → NumberedIn v → r ≡ writtenOf v n → (v ≡ Accepted → done)
+    → ((m p : ℕ) → v ≡ verdicts.Refused m p → untouched) → WritingMet r n done untouched
+unfolding writtenOf
+writing-met Accepted k a d u = Demands.WritingMet.writes a (d refl)
+writing-met (verdicts.Refused m p) k a d u = Demands.WritingMet.refuses m p a k (u m p refl)
+
+-- translating into an output of `room` bytes, and asking for its answer with no output lent
+sheet-accepted : (sheet : List ℕ) (room : ℕ) → translationRefusal sheet room ≡ Accepted → sheetVerdict sheet ≡ Accepted
+unfolding translationRefusal
+sheet-accepted sheet room e = both-accepted _ _ e .0
 
 pub translating-met : (sheet out : List ℕ) (r : Written) (out′ : List ℕ) → Translates sheet out r out′ → TranslatingMet sheet out r out′
-unfolding outputOf
+unfolding translationAnswer outputOf
 translating-met sheet out r out′ t =
-    translating-by sheet out (length out) r out′ _ (translating-numbered sheet (length out)) refl (t .answer) (λ n p e. t .output ∙ rw e refl)
+    writing-met _ (translating-numbered sheet (length out)) (t .answer) (sheet-accepted sheet (length out)) (λ n p e. t .output ∙ rw e refl)
 
--- and with no output lent
 pub length-met : (sheet : List ℕ) (room : ℕ) (r : Written) → r ≡ translationAnswer sheet room → TranslatingMet sheet [] r []
-length-met sheet room r e = translating-by sheet [] room r [] _ (translating-numbered sheet room) refl e (λ n p f. refl)
+unfolding translationAnswer
+length-met sheet room r e = writing-met _ (translating-numbered sheet room) e (sheet-accepted sheet room) (λ n p f. refl)
 
 -- the rule's answer is an answer or a stop
 rule-met : (a : Run.Answer) (untouched : Type 0) (x y : Bool) → isAnswer (a .outcome) ≡ x → isStop (a .outcome) ≡ y → (x || y) ≡ true → Met a untouched

@@ -1,6 +1,6 @@
 -- How a batch is met: every row ends with an answer or a stop, or the batch is refused with a number and leaves both buffers.
-use mathlib.Core.Path.{_≡_, refl, sym, _∙_}
-use Prim.Native.Nat.{ℕ, _*_}
+use mathlib.Core.Path.{_≡_, refl, _∙_}
+use Prim.Native.Nat.{ℕ, _*_, _<_}
 use mathlib.Core.List.{List, []}
 use mathlib.Core.Bool.{true}
 use native.Mathlib.Omega.{arith}
@@ -20,19 +20,16 @@ use Rattle.definitions.specs.declared.Verdict.{Verdict}
 use Rattle.definitions.specs.declared.Verdict.the-variants as verdicts
 use Rattle.definitions.specs.declared.Verdict.the-variants.{Accepted}
 use Rattle.definitions.specs.declared.Written.{Written}
-use Rattle.definitions.specs.declared.Written.the-variants.{Length, Refused}
+use Rattle.definitions.specs.declared.Written.the-variants.{Length}
 use Rattle.agreement.proofs.KnownEnds.{rule-known}
 use Rattle.batch.specs.Promise.{rowsChecks, rowsVerdict, rowsCells, rowsRecords, RunsRows}
-use Rattle.zifnora_c.specs.Codes.{code, codeOf, codeNumber}
+use Rattle.zifnora_c.specs.Codes.{codeOf}
 use Rattle.zifnora_c.specs.Promise.{RunsRowsC}
 use Rattle.demands.specs.Demands.{Met}
-use Rattle.demands.specs.Rows as Rows
 use Rattle.demands.specs.Rows.{AllEnded, RowsMet, RowsMetInC}
 use Rattle.demands.proofs.Refusals.{NumberedIn, batch-numbered}
-use Rattle.demands.proofs.Meeting.{after-met}
-use Rattle.demands.proofs.Handing.{refused-length}
-use Rattle.demands.proofs.HandingInC.{refusal-not-zero}
-use Rattle.demands.proofs.Recorded.{number-of-code, value-of-code}
+use Rattle.demands.proofs.Meeting.{writing-met, after-met}
+use Rattle.demands.proofs.HandingInC.{writing-met-in-C}
 use Rattle.demands.proofs.RunningInC.{outcome-is}
 use Rattle.demands.proofs.RunningRows.{checks, in-place}
 
@@ -58,46 +55,30 @@ module _ (b : List ℕ) (rows : ℕ) (rs : List ℤ) (steps nesting cellsAllowed
             (rule-known b (rowOf b rs i) cellsAllowed steps nesting);
       }
 
-  untouched : {n p : ℕ} → verdict ≡ verdicts.Refused n p → (after ≡ before) × (room′ ≡ room)
+  untouched : (n p : ℕ) → verdict ≡ verdicts.Refused n p → (after ≡ before) × (room′ ≡ room)
   unfolding rowsCells rowsRecords bytesAfter outputOf
-  untouched e = (cells ∙ rw e refl, records ∙ rw e refl)
+  untouched n p e = (cells ∙ rw e refl, records ∙ rw e refl)
 
-  met-by : (v : Verdict) → NumberedIn v → verdict ≡ v → (r : Written) → r ≡ writtenOf verdict (rows * answerSize) → RowsMet rows r room′ ((after ≡ before) × (room′ ≡ room))
-  unfolding writtenOf
-  met-by Accepted k e r a = Rows.RowsMet.runs (a ∙ rw e refl) (all-ended e)
-  met-by (verdicts.Refused n p) k e r a = Rows.RowsMet.refuses n p (a ∙ rw e refl) k (untouched e)
+  length-small : verdict ≡ Accepted → rows * answerSize < 4294967296
+  length-small e = omega (arith, checks b rows rs steps nesting cellsAllowed before room e .rows-within)
 
-  met-in-C-by : (v : Verdict) → NumberedIn v → verdict ≡ v → (c : ℕ) → c ≡ codeOf verdict (rows * answerSize) → RowsMetInC rows c room′ ((after ≡ before) × (room′ ≡ room))
-  unfolding codeOf
-  met-in-C-by Accepted k e c a =
-      let coded : c ≡ code 0 (rows * answerSize) = a ∙ rw e refl in
-      let small = checks b rows rs steps nesting cellsAllowed before room e .rows-within in
-      Rows.RowsMetInC.runs (rw coded (number-of-code 0 (rows * answerSize))) (rw coded (value-of-code 0 (rows * answerSize) (omega (arith, small)))) (all-ended e)
-  met-in-C-by (verdicts.Refused n p) k e c a =
-      let coded : c ≡ code n p = a ∙ rw e refl in
-      Rows.RowsMetInC.refuses (rw (coded, number-of-code n p) k) (untouched e)
+  numbered : NumberedIn verdict
+  numbered = batch-numbered b rows rs nesting cellsAllowed (length before) (length room)
+
+  met : (r : Written) → r ≡ writtenOf verdict (rows * answerSize) → RowsMet rows r room′ ((after ≡ before) × (room′ ≡ room))
+  met r a = writing-met verdict numbered a all-ended untouched
+
+  met-in-C : (c : ℕ) → c ≡ codeOf verdict (rows * answerSize) → RowsMetInC rows c room′ ((after ≡ before) × (room′ ≡ room))
+  met-in-C c a = writing-met-in-C verdict numbered a length-small all-ended untouched
 
 pub batch-met : (b : List ℕ) (rows : ℕ) (rs : List ℤ) (steps nesting cellsAllowed : ℕ) (before room : List ℕ) (r : Written) (after room′ : List ℕ)
     → RunsRows b rows rs steps nesting cellsAllowed before room r after room′ → RowsMet rows r room′ ((after ≡ before) × (room′ ≡ room))
-batch-met b rows rs steps nesting cellsAllowed before room r after room′ t =
-    met-by b rows rs steps nesting cellsAllowed before room after room′ (t .cells) (t .records) _ (batch-numbered b rows rs nesting cellsAllowed (length before) (length room)) refl r (t .answer)
+batch-met b rows rs steps nesting cellsAllowed before room r after room′ t = met b rows rs steps nesting cellsAllowed before room after room′ (t .cells) (t .records) r (t .answer)
 
 pub batch-met-in-C : (b : List ℕ) (rows : ℕ) (rs : List ℤ) (steps nesting cellsAllowed : ℕ) (before room : List ℕ) (code : ℕ) (after room′ : List ℕ)
     → RunsRowsC b rows rs steps nesting cellsAllowed before room code after room′ → RowsMetInC rows code room′ ((after ≡ before) × (room′ ≡ room))
 batch-met-in-C b rows rs steps nesting cellsAllowed before room code after room′ t =
-    met-in-C-by b rows rs steps nesting cellsAllowed before room after room′ (t .cells) (t .records) _ (batch-numbered b rows rs nesting cellsAllowed (length before) (length room)) refl code
-    (t .answer)
-
--- a batch that wrote its records was not refused
-pub not-refused-by : (v : Verdict) (n : ℕ) {m : ℕ} → Length m ≡ writtenOf v n → v ≡ Accepted
-unfolding writtenOf
-not-refused-by Accepted n e = refl
-not-refused-by (verdicts.Refused k p) n e = absurd (refused-length (sym e))
-
-pub not-refused-in-C : (v : Verdict) (n : ℕ) {c : ℕ} → NumberedIn v → c ≡ codeOf v n → codeNumber c ≡ 0 → v ≡ Accepted
-unfolding codeOf
-not-refused-in-C Accepted n k e z = refl
-not-refused-in-C (verdicts.Refused m p) n k e z = absurd (refusal-not-zero m k (sym (number-of-code m p) ∙ rw (← e) z))
+    met-in-C b rows rs steps nesting cellsAllowed before room after room′ (t .cells) (t .records) code (t .answer)
 
 -- no rows
 module _ (b : List ℕ) (steps nesting cellsAllowed : ℕ) (before room : List ℕ) (accepted : translationVerdict b ≡ Accepted)

@@ -46,10 +46,10 @@ use Rattle.demands.specs.InC.{SignedReadings}
 use Rattle.demands.specs.Rows.{rowRecorded, RowsMet, RowsMetInC, RowExact}
 use Rattle.demands.proofs.Refusals.{batch-numbered}
 use Rattle.demands.proofs.Meeting.{length-met}
-use Rattle.demands.proofs.Handing.{handed}
-use Rattle.demands.proofs.HandingInC.{handed-in-C}
+use Rattle.demands.proofs.Handing.{handed, not-refused-by}
+use Rattle.demands.proofs.HandingInC.{handed-in-C, not-refused-in-C}
 use Rattle.demands.proofs.RunningRows.{row-exact}
-use Rattle.demands.proofs.MeetingRows.{batch-met, batch-met-in-C, no-rows, not-refused-by, not-refused-in-C}
+use Rattle.demands.proofs.MeetingRows.{batch-met, batch-met-in-C, no-rows}
 use Rattle.demands.proofs.OwnRows.{FaithfulRow, row-faithful}
 use Rattle.demands.proofs.SingleRuns.{cells-of-runs, records-of-runs}
 use Rattle.demands.proofs.Demands.{demand-3-own, demand-3-exactly, demand-3-own-in-C}

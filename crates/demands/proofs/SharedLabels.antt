@@ -43,16 +43,16 @@ use Rattle.zifnora_c.specs.Codes.{codeNumber, codeValue}
 use Rattle.zifnora_c.specs.Promise.{TranslatesC, RunsC}
 use Rattle.zifnora_c.proofs.Coding.{fits}
 use Rattle.demands.specs.Demands as Demands
-use Rattle.demands.specs.Demands.{TranslatingMet, Handed}
+use Rattle.demands.specs.Demands.{WritingMet, Handed}
 use Rattle.demands.specs.InC.{SameRecords}
 use Rattle.demands.proofs.Meeting.{translating-met}
 use Rattle.demands.proofs.Handing.{refused-length, handed}
 use Rattle.demands.proofs.HandingInC.{handed-in-C}
 use Rattle.demands.proofs.RunningInC.{record-where-fits}
 
-length-by : {sheet out out′ : List ℕ} {n : ℕ} → TranslatingMet sheet out (Length n) out′ → n ≡ length (translation sheet)
-length-by (Demands.TranslatingMet.translates e) = cc e
-length-by (Demands.TranslatingMet.refuses m p e k u) = absurd (refused-length (sym e))
+length-by : {n m : ℕ} {done untouched : Type 0} → WritingMet (Length n) m done untouched → n ≡ m
+length-by (Demands.WritingMet.writes e d) = cc e
+length-by (Demands.WritingMet.refuses m p e k u) = absurd (refused-length (sym e))
 
 -- "the old labelling" is document 01's: "Calls of one function are labelled 0, 1, .. in node order over the whole sheet"
 pub request-4-old : (sheet : List ℕ) (f k : ℕ) → labelOf neverShared sheet f k ≡ countOf k (calls sheet f)

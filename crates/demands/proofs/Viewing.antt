@@ -27,17 +27,16 @@ use Rattle.laws.proofs.ByteFiles.{Bytes}
 use Rattle.answer.proofs.Records.{answer-length}
 use Rattle.driver_view.specs.Promise.{WritesView}
 use Rattle.driver_view.proofs.Views.{view-length}
-use Rattle.zifnora_c.specs.Codes.{code, codeOf, codeNumber}
+use Rattle.zifnora_c.specs.Codes.{codeOf, codeNumber}
 use Rattle.zifnora_c.specs.Promise.{WritesViewC}
 use Rattle.demands.specs.InC.{SignedReadings}
-use Rattle.demands.specs.DriverView as Views
 use Rattle.demands.specs.DriverView.{RecordLent, Shown, Recordable, ViewMet, ViewMetInC}
 use Rattle.demands.proofs.Refusals.{NumberedIn, viewing-numbered}
-use Rattle.demands.proofs.Meeting.{after-met}
+use Rattle.demands.proofs.Meeting.{writing-met, after-met}
 use Rattle.demands.proofs.Values.{after-fits}
-use Rattle.demands.proofs.Recorded.{number-of-code, value-of-code}
+use Rattle.demands.proofs.Handing.{not-refused-by}
+use Rattle.demands.proofs.HandingInC.{not-refused-in-C, writing-met-in-C}
 use Rattle.demands.proofs.RunningInC.{met-limit}
-use Rattle.demands.proofs.MeetingRows.{not-refused-by, not-refused-in-C}
 
 -- the output at exit, by the verdict
 module _ (b out out′ : List ℕ) (output : out′ ≡ outputOf (viewVerdict b (length out)) (viewBytes b) out) where
@@ -45,29 +44,24 @@ module _ (b out out′ : List ℕ) (output : out′ ≡ outputOf (viewVerdict b 
   unfolding outputOf
   shown-where e = record { is = output ∙ rw (e, view-length b) refl }
 
-  left-where : {n p : ℕ} → viewVerdict b (length out) ≡ verdicts.Refused n p → out′ ≡ out
+  left-where : (n p : ℕ) → viewVerdict b (length out) ≡ verdicts.Refused n p → out′ ≡ out
   unfolding outputOf
-  left-where e = output ∙ rw e refl
+  left-where n p e = output ∙ rw e refl
 
-  met-by : (v : Verdict) → NumberedIn v → viewVerdict b (length out) ≡ v → (r : Written) → r ≡ writtenOf (viewVerdict b (length out)) viewSize → ViewMet b out r out′
-  unfolding writtenOf
-  met-by Accepted k e r a = Views.ViewMet.shows (a ∙ rw e refl) (shown-where e)
-  met-by (verdicts.Refused n p) k e r a = Views.ViewMet.refuses n p (a ∙ rw e refl) k (left-where e)
+  numbered : NumberedIn (viewVerdict b (length out))
+  numbered = viewing-numbered b (length out)
 
-  met-in-C-by : (v : Verdict) → NumberedIn v → viewVerdict b (length out) ≡ v → (c : ℕ) → c ≡ codeOf (viewVerdict b (length out)) viewSize → ViewMetInC b out c out′
-  unfolding codeOf
-  met-in-C-by Accepted k e c a =
-      let coded : c ≡ code 0 viewSize = a ∙ rw e refl in
-      Views.ViewMetInC.shows (rw coded (number-of-code 0 viewSize)) (rw coded (value-of-code 0 viewSize (omega arith))) (shown-where e)
-  met-in-C-by (verdicts.Refused n p) k e c a =
-      let coded : c ≡ code n p = a ∙ rw e refl in
-      Views.ViewMetInC.refuses (rw (coded, number-of-code n p) k) (left-where e)
+  met : {r : Written} → r ≡ writtenOf (viewVerdict b (length out)) viewSize → ViewMet b out r out′
+  met a = writing-met (viewVerdict b (length out)) numbered a shown-where left-where
+
+  met-in-C : {c : ℕ} → c ≡ codeOf (viewVerdict b (length out)) viewSize → ViewMetInC b out c out′
+  met-in-C a = writing-met-in-C (viewVerdict b (length out)) numbered a (λ e. omega arith) shown-where left-where
 
 pub view-met : {b out : List ℕ} {r : Written} {out′ : List ℕ} → WritesView b out r out′ → ViewMet b out r out′
-view-met {b} {out} {r} {out′} t = met-by b out out′ (t .output) _ (viewing-numbered b (length out)) refl r (t .answer)
+view-met {b} {out} {out′ = out′} t = met b out out′ (t .output) (t .answer)
 
 pub view-met-in-C : {b out : List ℕ} {c : ℕ} {out′ : List ℕ} → WritesViewC b out c out′ → ViewMetInC b out c out′
-view-met-in-C {b} {out} {c} {out′} t = met-in-C-by b out out′ (t .output) _ (viewing-numbered b (length out)) refl c (t .answer)
+view-met-in-C {b} {out} {out′ = out′} t = met-in-C b out out′ (t .output) (t .answer)
 
 pub shown-by : {b out : List ℕ} {n : ℕ} {out′ : List ℕ} → WritesView b out (Length n) out′ → Shown b out out′
 shown-by {b} {out} {out′ = out′} t = shown-where b out out′ (t .output) (not-refused-by _ _ (t .answer))
@@ -109,7 +103,7 @@ not-record b h = from (isAnswerRecord b) refl
 module _ {b out : List ℕ} {r : Written} {out′ : List ℕ} (t : WritesView b out r out′) where
   refused-at : {n p : ℕ} → viewVerdict b (length out) ≡ verdicts.Refused n p → (r ≡ Refused n p) × (out′ ≡ out)
   unfolding writtenOf
-  refused-at e = (t .answer ∙ rw e refl, left-where b out out′ (t .output) e)
+  refused-at {n} {p} e = (t .answer ∙ rw e refl, left-where b out out′ (t .output) n p e)
 
   pub no-record-refused : ¬ RecordLent b → (r ≡ Refused badRecord 0) × (out′ ≡ out)
   unfolding viewVerdict require _andThen_

@@ -18,10 +18,15 @@ pub record Handed (sheet : List ℕ) (n : ℕ) (out′ : List ℕ) : Type 0 wher
   pub accepted : sheetVerdict sheet ≡ Accepted
   pub is : take n out′ ≡ translation sheet
 
--- translating ends with the translation's length, or with a numbered refusal that leaves the output as it was
-pub data TranslatingMet (sheet out : List ℕ) (r : Written) (out′ : List ℕ) : Type 0 where
-  translates : r ≡ Length (length (translation sheet)) → TranslatingMet sheet out r out′
-  refuses : (n p : ℕ) → r ≡ Refused n p → isRefusal n ≡ true → out′ ≡ out → TranslatingMet sheet out r out′
+-- a call that writes ends with the length of what it wrote, or with a numbered refusal and its place, and then the lent buffers are
+-- untouched; `done` is what holds where it wrote
+pub data WritingMet (r : Written) (length : ℕ) (done untouched : Type 0) : Type 0 where
+  writes : r ≡ Length length → done → WritingMet r length done untouched
+  refuses : (n p : ℕ) → r ≡ Refused n p → isRefusal n ≡ true → untouched → WritingMet r length done untouched
+
+-- translating ends with the length of an accepted sheet's translation, or with a numbered refusal that leaves the output as it was
+abbrev pub TranslatingMet : List ℕ → List ℕ → Written → List ℕ → Type 0
+TranslatingMet sheet out r out′ = WritingMet r (length (translation sheet)) (sheetVerdict sheet ≡ Accepted) (out′ ≡ out)
 
 -- a run ends with an answer (a number, a constructor or a run fault), with a stop, or with a numbered refusal and its place, and
 -- then the lent buffers are untouched

@@ -2,21 +2,20 @@
 use mathlib.Core.Path.{_≡_}
 use Prim.Native.Nat.{ℕ, _<_}
 use mathlib.Core.List.{List, _++_}
-use mathlib.Core.Bool.{true}
 use lib.IntN.{ℤ}
 use lib.ListN.{length, drop}
 use mir.Syntax.{w32}
 use mir.Val.{SFits}
 use Rattle.definitions.specs.Bytes.{word, signed}
 use Rattle.definitions.specs.Sizes.{answerSize, viewSize}
-use Rattle.definitions.specs.Numbers.{isNumber, isRefusal}
+use Rattle.definitions.specs.Numbers.{isNumber}
 use Rattle.definitions.specs.Outcomes.{Outcome}
 use Rattle.definitions.specs.Run.{Answer}
 use Rattle.definitions.specs.AnswerRecord.{answerKind}
 use Rattle.definitions.specs.DriverView.{numberView, viewBytes}
 use Rattle.definitions.specs.declared.Written.{Written}
-use Rattle.definitions.specs.declared.Written.the-variants.{Length, Refused}
-use Rattle.zifnora_c.specs.Codes.{codeNumber, codeValue}
+use Rattle.demands.specs.Demands.{WritingMet}
+use Rattle.demands.specs.InC.{WritingMetInC}
 
 -- "both are the same number or neither is a number", of two outcomes with their values
 pub data SameToDriver (x y : Outcome) : Type 0 where
@@ -44,11 +43,9 @@ pub record Recordable (a : Answer) : Type 0 where
   pub number : a .outcome ≡ isNumber → SFits w32 (a .value)
 
 -- the call ends with the view's length, or with a numbered refusal that leaves the output as it was
-pub data ViewMet (b out : List ℕ) (r : Written) (out′ : List ℕ) : Type 0 where
-  shows : r ≡ Length viewSize → Shown b out out′ → ViewMet b out r out′
-  refuses : (n p : ℕ) → r ≡ Refused n p → isRefusal n ≡ true → out′ ≡ out → ViewMet b out r out′
+abbrev pub ViewMet : List ℕ → List ℕ → Written → List ℕ → Type 0
+ViewMet b out r out′ = WritingMet r viewSize (Shown b out out′) (out′ ≡ out)
 
 -- the same for a caller in C
-pub data ViewMetInC (b out : List ℕ) (code : ℕ) (out′ : List ℕ) : Type 0 where
-  shows : codeNumber code ≡ 0 → codeValue code ≡ viewSize → Shown b out out′ → ViewMetInC b out code out′
-  refuses : isRefusal (codeNumber code) ≡ true → out′ ≡ out → ViewMetInC b out code out′
+abbrev pub ViewMetInC : List ℕ → List ℕ → ℕ → List ℕ → Type 0
+ViewMetInC b out code out′ = WritingMetInC code viewSize (Shown b out out′) (out′ ≡ out)

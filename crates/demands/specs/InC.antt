@@ -4,10 +4,11 @@ use Prim.Native.Nat.{ℕ}
 use mathlib.Core.List.{List}
 use mathlib.Core.Bool.{true}
 use lib.IntN.{ℤ, pos}
-use lib.ListN.{getD, take, drop}
+use lib.ListN.{length, getD, take, drop}
 use mir.Syntax.{w32}
 use mir.Val.{SFits}
 use Rattle.definitions.specs.Numbers.{shortOutput, isRefusal, isStop, isAnswer}
+use Rattle.definitions.specs.Translate.{translation}
 use Rattle.definitions.specs.AnswerRecord.{recorded}
 use Rattle.zifnora_c.specs.Codes.{codeNumber, codeValue}
 use Rattle.demands.specs.Demands.{Handed}
@@ -21,10 +22,14 @@ pub record SameRecords (room room′ : List ℕ) : Type 0 where
   pub front : take 14 room ≡ take 14 room′
   pub cells : take 2 (drop 18 room) ≡ take 2 (drop 18 room′)
 
--- translating ends with number 0 and the translation's length, or with the number of a refusal that leaves the output as it was
-pub data TranslatingMetInC (sheet out : List ℕ) (code : ℕ) (out′ : List ℕ) : Type 0 where
-  translates : codeNumber code ≡ 0 → Handed sheet (codeValue code) out′ → TranslatingMetInC sheet out code out′
-  refuses : isRefusal (codeNumber code) ≡ true → out′ ≡ out → TranslatingMetInC sheet out code out′
+-- a call that writes, other than a run's record, ends with number 0 and the length of what it wrote, or with the number of a refusal
+pub data WritingMetInC (code length : ℕ) (done untouched : Type 0) : Type 0 where
+  writes : codeNumber code ≡ 0 → codeValue code ≡ length → done → WritingMetInC code length done untouched
+  refuses : isRefusal (codeNumber code) ≡ true → untouched → WritingMetInC code length done untouched
+
+-- translating ends with the translation's length and the translation, or with a refusal that leaves the output as it was
+abbrev pub TranslatingMetInC : List ℕ → List ℕ → ℕ → List ℕ → Type 0
+TranslatingMetInC sheet out code out′ = WritingMetInC code (length (translation sheet)) (Handed sheet (codeValue code) out′) (out′ ≡ out)
 
 -- a run ends with code 0 and a record, of an answer, a stop or a refusal that leaves the lent buffers untouched; or with 8 where the
 -- record has no room, and then nothing is written

@@ -6,14 +6,14 @@ use mathlib.Core.Bool.{true, _||_}
 use lib.IntN.{ℤ}
 use lib.ListN.{take, drop}
 use Rattle.definitions.specs.Sizes.{answerSize}
-use Rattle.definitions.specs.Numbers.{isAnswer, isStop, isRefusal}
+use Rattle.definitions.specs.Numbers.{isAnswer, isStop}
 use Rattle.definitions.specs.Outcomes.{Outcome}
 use Rattle.definitions.specs.Run.{ruleAnswer, ruleCells}
 use Rattle.definitions.specs.AnswerRecord.{answerBytes, recorded}
 use Rattle.definitions.specs.RunsInTurn.{rowOf, cellsInTurn}
 use Rattle.definitions.specs.declared.Written.{Written}
-use Rattle.definitions.specs.declared.Written.the-variants.{Length, Refused}
-use Rattle.zifnora_c.specs.Codes.{codeNumber, codeValue}
+use Rattle.demands.specs.Demands.{WritingMet}
+use Rattle.demands.specs.InC.{WritingMetInC}
 
 -- what a caller reads of row i
 abbrev pub rowRecorded : List ℕ → ℕ → Outcome
@@ -24,14 +24,12 @@ pub record AllEnded (rows : ℕ) (room′ : List ℕ) : Type 0 where
   pub ends : (i : ℕ) → i < rows → (isAnswer (rowRecorded room′ i .outcome) || isStop (rowRecorded room′ i .outcome)) ≡ true
 
 -- a batch ends with the length of all records, or with a numbered refusal, and then the lent buffers are untouched
-pub data RowsMet (rows : ℕ) (r : Written) (room′ : List ℕ) (untouched : Type 0) : Type 0 where
-  runs : r ≡ Length (rows * answerSize) → AllEnded rows room′ → RowsMet rows r room′ untouched
-  refuses : (n p : ℕ) → r ≡ Refused n p → isRefusal n ≡ true → untouched → RowsMet rows r room′ untouched
+abbrev pub RowsMet : ℕ → Written → List ℕ → Type 0 → Type 0
+RowsMet rows r room′ untouched = WritingMet r (rows * answerSize) (AllEnded rows room′) untouched
 
 -- the same for a caller in C
-pub data RowsMetInC (rows code : ℕ) (room′ : List ℕ) (untouched : Type 0) : Type 0 where
-  runs : codeNumber code ≡ 0 → codeValue code ≡ rows * answerSize → AllEnded rows room′ → RowsMetInC rows code room′ untouched
-  refuses : isRefusal (codeNumber code) ≡ true → untouched → RowsMetInC rows code room′ untouched
+abbrev pub RowsMetInC : ℕ → ℕ → List ℕ → Type 0 → Type 0
+RowsMetInC rows code room′ untouched = WritingMetInC code (rows * answerSize) (AllEnded rows room′) untouched
 
 -- row i is exactly the rule: its record is that of the rule's answer (outcome, value, steps, node, context, number of cells), and the cells that it
 -- leaves are the rule's over those that the rows before it left
