@@ -1,7 +1,7 @@
--- Request 10 of document 02, in its words, over what the public calls promise: `WritesView` of `driver_view::write_view`, `Runs` of `run::run`,
--- `RunsForHirer` of `hirer::run_for_hirer` and `Joins` of `join::translate_and_run`, and for callers in C `WritesViewC`, `TranslatesC` and `RunsC`. No
--- call has a `requires`. "The cab shows 6 bytes": these are the first `viewSize` bytes of the output.
-use mathlib.Core.Path.{_≡_, refl, sym, _∙_}
+-- Request 10 of document 02, in its words, over what the public calls promise: `WritesView` of `driver_view::write_view`, `Translates` of
+-- `translator::translate`, `Runs` of `run::run`, `RunsForHirer` of `hirer::run_for_hirer` and `Joins` of `join::translate_and_run`, and for callers in C
+-- `WritesViewC`, `TranslatesC` and `RunsC`. No call has a `requires`. "The cab shows 6 bytes": these are the first `viewSize` bytes of the output.
+use mathlib.Core.Path.{_≡_, refl, sym, ap, _∙_}
 use mathlib.Core.Logic.{_↔_}
 use Prim.Native.Nat.{ℕ, _≤_, _<_}
 use mathlib.Core.List.{List, [], _∷_}
@@ -9,7 +9,7 @@ use lib.IntN.{ℤ}
 use lib.ListN.{length, take, drop}
 use Rattle.definitions.specs.Sizes.{answerSize, viewSize}
 use Rattle.definitions.specs.Numbers.{badRecord, shortOutput, isNumber, isAnswer}
-use Rattle.definitions.specs.Outcomes.{numberOutcome}
+use Rattle.definitions.specs.Outcomes.{Outcome, numberOutcome}
 use Rattle.definitions.specs.Run as Run
 use Rattle.definitions.specs.Run.{ruleAnswer, answerAfter, runAnswer}
 use Rattle.definitions.specs.RunsInTurn.{rowOf}
@@ -21,6 +21,7 @@ use Rattle.definitions.specs.declared.Written.the-variants.{Length, Refused}
 use Rattle.laws.proofs.ByteFiles.{Bytes}
 use Rattle.agreement.specs.Meaning.{OwnAnswer}
 use Rattle.agreement.specs.Answers.{answerOutcome}
+use Rattle.translator.specs.Promise.{Translates}
 use Rattle.answer.specs.declared.Answer.{Answer}
 use Rattle.answer.specs.Answers.{answerOf}
 use Rattle.driver_view.specs.Promise.{WritesView}
@@ -33,9 +34,10 @@ use Rattle.demands.specs.InC.{SignedReadings}
 use Rattle.demands.specs.DriverView.{SameToDriver, RecordLent, Shown, ShowsNumber, Recordable, ViewMet, ViewMetInC}
 use Rattle.demands.proofs.Refusals.{running-numbered, hiring-numbered, joining-numbered}
 use Rattle.demands.proofs.HirerRuns.{answer-in-order}
+use Rattle.demands.proofs.Handing.{handed, handed-own}
 use Rattle.demands.proofs.OwnInC.{translation-bytes}
 use Rattle.demands.proofs.OwnRows.{row-signed}
-use Rattle.demands.proofs.Viewed.{nothing-shown, records-exactly, answers-exactly, answers-alike, shows-exactly, recorded-front}
+use Rattle.demands.proofs.Viewed.{nothing-shown, records-exactly, answers-exactly, number-recorded, answers-alike, shows-exactly, recorded-front}
 use Rattle.demands.proofs.Viewing.{view-met, view-met-in-C, shown-by, shown-in-C, view-taken, rest-kept}
 use Rattle.demands.proofs.Viewing.{no-record-refused, short-refused, record-shown, answer-lent, run-recordable}
 use Rattle.demands.proofs.Demands.{demand-3-own-in-C}
@@ -121,6 +123,24 @@ unfolding answerAfter
 request-10-row b bytes rs signed steps nesting cellsAllowed i =
     run-recordable b (rowOf b rs i) bytes (row-signed b rs i signed) steps nesting cellsAllowed Accepted tt _ refl
 
+-- demand 3 for the cab: anyone who hands the bytes that the translator wrote, unchanged, to the run, and the record of its answer to this
+-- call: a number that the cab shows is the sheet's own
+module _ (sheet out : List ℕ) (n : ℕ) (out′ : List ℕ) (translated : Translates sheet out (Length n) out′)
+    (rs : List ℤ) (signed : SignedReadings rs) (steps nesting cellsAllowed : ℕ) (before : List ℕ) (r : Answer) (after : List ℕ)
+    (run : Runs (take n out′) rs steps nesting cellsAllowed before r after)
+    (cab : List ℕ) (m : ℕ) (cab′ : List ℕ) (view : WritesView (answerBytes (answerOf r)) cab (Length m) cab′) where
+  held : Recordable (answerOf r)
+  held = request-10-run rs signed steps nesting cellsAllowed before r after (take n out′) (rw (handed sheet out n out′ translated .is) (translation-bytes sheet)) run
+
+  pub request-10-own : (z : ℤ) → ShowsNumber cab′ z → OwnAnswer sheet rs (numberOutcome z)
+  unfolding isAnswer numberOutcome answerOutcome
+  request-10-own z s =
+      let is = request-10-number (answerBytes (answerOf r)) cab cab′ (shown-by view) z .0 s in
+      let whole = number-recorded (answerOf r) held (is .0) in
+      let number : answerOf r .outcome ≡ isNumber = sym (ap (λ (o : Outcome). o .outcome) whole) ∙ is .0 in
+      rw (← (is .0), ← (is .1))
+      (rw whole (handed-own sheet out n out′ translated rs steps nesting cellsAllowed before r after run (rw number refl)))
+
 -- for a caller in C
 pub request-10-met-in-C : (b out : List ℕ) (code : ℕ) (out′ : List ℕ) → WritesViewC b out code out′ → ViewMetInC b out code out′
 request-10-met-in-C b out code out′ = view-met-in-C
@@ -130,8 +150,7 @@ pub request-10-exactly-in-C : (b c out room : List ℕ) (code code′ : ℕ) (ou
     → (take viewSize out′ ≡ take viewSize room′) ↔ SameToDriver (recorded b) (recorded c)
 request-10-exactly-in-C b c out room code code′ out′ room′ view e view′ e′ = cab-bytes (shown-in-C view e) (shown-in-C view′ e′)
 
--- demand 3 for the cab: anyone who hands the bytes that the translator wrote, unchanged, to the run, and the record that it wrote to this
--- call: a number that the cab shows is the sheet's own
+-- demand 3 for the cab in C, with the record that the run wrote
 module _ (sheet out : List ℕ) (code : ℕ) (out′ : List ℕ) (translated : TranslatesC sheet out code out′) (not-refused : codeNumber code ≡ 0)
     (rs : List ℤ) (signed : SignedReadings rs) (steps nesting cellsAllowed : ℕ) (before room : List ℕ) (code′ : ℕ) (after room′ : List ℕ)
     (run : RunsC (take (codeValue code) out′) rs steps nesting cellsAllowed before room code′ after room′) (recording : code′ ≡ 0)
@@ -139,7 +158,6 @@ module _ (sheet out : List ℕ) (code : ℕ) (out′ : List ℕ) (translated : T
   pub request-10-own-in-C : (z : ℤ) → ShowsNumber cab′ z → OwnAnswer sheet rs (numberOutcome z)
   unfolding isAnswer numberOutcome
   request-10-own-in-C z s =
-      let shown = shown-in-C view viewing in
-      let is = rw (recorded-front room′) at (shows-exactly (take answerSize room′) (drop viewSize cab) cab′ (shown .is) z .0 s) in
+      let is = rw (recorded-front room′) at (request-10-number (take answerSize room′) cab cab′ (shown-in-C view viewing) z .0 s) in
       rw (← (is .0), ← (is .1))
       (demand-3-own-in-C sheet out code out′ translated not-refused rs steps nesting cellsAllowed before room code′ after room′ run recording signed (rw (is .0) refl))

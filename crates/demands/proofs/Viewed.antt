@@ -25,7 +25,7 @@ use Rattle.operators.proofs.Residues.{residue-below, reduced-held, read-held}
 use Rattle.agreement.specs.Answers.{answerOutcome}
 use Rattle.demands.specs.DriverView as Views
 use Rattle.demands.specs.DriverView.{SameToDriver, ShowsNumber, Recordable}
-use Rattle.demands.proofs.Recorded.{outcome-read, value-read}
+use Rattle.demands.proofs.Recorded.{outcome-read, value-read, answer-read}
 
 -- the bytes of a view, by whether there is a number
 abbrev numberBytes : ℤ → List ℕ
@@ -126,7 +126,13 @@ pub answers-exactly : (a c : Answer) → Recordable a → Recordable c → (view
 unfolding answerOutcome
 answers-exactly a c h k = rw (answer-view a h, answer-view c k) (views-exactly (answerOutcome a) (answerOutcome c) (h .number) (k .number))
 
--- and it goes by outcome and value alone
+-- a number is read from its record as it is
+pub number-recorded : (a : Answer) → Recordable a → recorded (answerBytes a) .outcome ≡ isNumber → recorded (answerBytes a) ≡ answerOutcome a
+number-recorded a h n =
+    let outcome = rw append-nil at (outcome-read a [] (h .outcome)) in
+    rw append-nil at (answer-read a [] (h .outcome) (h .number (sym outcome ∙ n)))
+
+-- and the view goes by outcome and value alone
 pub answers-alike : (a c : Answer) → a .outcome ≡ c .outcome → a .value ≡ c .value → viewBytes (answerBytes a) ≡ viewBytes (answerBytes c)
 unfolding viewBytes recorded answerBytes answerWords bytesOf wordBytes words32 word word32 signed
 answers-alike a c e f = rw (e, f) refl

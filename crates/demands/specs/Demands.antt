@@ -1,4 +1,4 @@
--- What the demands say of a translation that is handed over, and of an answer.
+-- What the demands say of a translation that is handed over, of a call that writes, and of an answer.
 use mathlib.Core.Path.{_≡_}
 use Prim.Native.Nat.{ℕ}
 use mathlib.Core.List.{List}
@@ -18,11 +18,11 @@ pub record Handed (sheet : List ℕ) (n : ℕ) (out′ : List ℕ) : Type 0 wher
   pub accepted : sheetVerdict sheet ≡ Accepted
   pub is : take n out′ ≡ translation sheet
 
--- a call that writes ends with the length of what it wrote, or with a numbered refusal and its place, and then the lent buffers are
--- untouched; `done` is what holds where it wrote
-pub data WritingMet (r : Written) (length : ℕ) (done untouched : Type 0) : Type 0 where
-  writes : r ≡ Length length → done → WritingMet r length done untouched
-  refuses : (n p : ℕ) → r ≡ Refused n p → isRefusal n ≡ true → untouched → WritingMet r length done untouched
+-- a call that writes ends with the length of what it wrote, here n, or with a numbered refusal and its place, and then the lent buffers
+-- are untouched; `done` is what holds where it wrote
+pub data WritingMet (r : Written) (n : ℕ) (done untouched : Type 0) : Type 0 where
+  writes : r ≡ Length n → done → WritingMet r n done untouched
+  refuses : (m p : ℕ) → r ≡ Refused m p → isRefusal m ≡ true → untouched → WritingMet r n done untouched
 
 -- translating ends with the length of an accepted sheet's translation, or with a numbered refusal that leaves the output as it was
 abbrev pub TranslatingMet : List ℕ → List ℕ → Written → List ℕ → Type 0

@@ -22,10 +22,10 @@ pub record SameRecords (room room′ : List ℕ) : Type 0 where
   pub front : take 14 room ≡ take 14 room′
   pub cells : take 2 (drop 18 room) ≡ take 2 (drop 18 room′)
 
--- a call that writes, other than a run's record, ends with number 0 and the length of what it wrote, or with the number of a refusal
-pub data WritingMetInC (code length : ℕ) (done untouched : Type 0) : Type 0 where
-  writes : codeNumber code ≡ 0 → codeValue code ≡ length → done → WritingMetInC code length done untouched
-  refuses : isRefusal (codeNumber code) ≡ true → untouched → WritingMetInC code length done untouched
+-- a call that writes, other than a run's record, ends with number 0 and the length of what it wrote, here n, or with the number of a refusal
+pub data WritingMetInC (code n : ℕ) (done untouched : Type 0) : Type 0 where
+  writes : codeNumber code ≡ 0 → codeValue code ≡ n → done → WritingMetInC code n done untouched
+  refuses : isRefusal (codeNumber code) ≡ true → untouched → WritingMetInC code n done untouched
 
 -- translating ends with the translation's length and the translation, or with a refusal that leaves the output as it was
 abbrev pub TranslatingMetInC : List ℕ → List ℕ → ℕ → List ℕ → Type 0
