@@ -31,8 +31,10 @@ pub enum Call {
         file: Vec<u8>,
         input: RunInput,
     },
-    /// `other` agrees with the readings of the input on the set.
+    /// `of` as in a run, but for more readings that `file` may ask for; `other`
+    /// agrees with the readings of the input on the set.
     Hirer {
+        of: Option<Vec<u8>>,
         file: Vec<u8>,
         set: u32,
         input: RunInput,
@@ -144,14 +146,22 @@ impl Call {
         }
     }
 
+    /// The sheet that is run.
+    pub fn source(&self) -> Option<&[u8]> {
+        match self {
+            Call::Run { of, .. } | Call::Rows { of, .. } | Call::Hirer { of, .. } => of.as_deref(),
+            Call::Joined { sheet, .. } => Some(sheet),
+            Call::Translate { .. } | Call::Length { .. } => None,
+            Call::List { .. } | Call::View { .. } => None,
+        }
+    }
+
     /// The sheet that is run and whose runs are compared with its meaning; a
     /// hirer's run is compared with the owner's instead.
     pub fn sheet(&self) -> Option<&[u8]> {
         match self {
-            Call::Run { of, .. } | Call::Rows { of, .. } => of.as_deref(),
-            Call::Joined { sheet, .. } => Some(sheet),
-            Call::Hirer { .. } | Call::View { .. } => None,
-            Call::Translate { .. } | Call::Length { .. } | Call::List { .. } => None,
+            Call::Hirer { .. } => None,
+            _ => self.source(),
         }
     }
 

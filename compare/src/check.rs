@@ -3,7 +3,8 @@
 //! without remembering, and with those of the translation with a label for each
 //! call; every run with the same run that keeps all cells; a hirer's run with
 //! the same run on other closed readings, and with the owner's; a driver's view
-//! with that of another record.
+//! with that of another record; the calls of a typed sheet with those of the
+//! sheet with its types removed.
 
 use crate::all_kept::{by_kept_rule, Compared};
 use crate::call::{inner, After, Call};
@@ -12,11 +13,12 @@ use crate::interface::{shown, Interface};
 use crate::labelling::{differing_run, unshared};
 use crate::model::answer::{Answer, RECORD};
 use crate::own_answer::{by_name, by_plain_rule};
+use crate::typed::{differing_untyped, typed_runs, TypedRuns};
 use crate::viewed::differing_pair;
 use std::fmt::Display;
 
-/// What a sheet's runs, a hirer's, and driver's views are compared with beside
-/// the other side's.
+/// What a sheet's calls, a hirer's runs, and driver's views are compared with
+/// beside the other side's.
 #[derive(Clone, Copy, Debug, PartialEq, Eq)]
 pub struct Yardsticks {
     pub call_by_name: bool,
@@ -26,6 +28,9 @@ pub struct Yardsticks {
     pub closed_readings: bool,
     pub owners_run: bool,
     pub viewed_pairs: bool,
+    pub types_removed: bool,
+    /// No run of a typed sheet ends with 14 or 15.
+    pub typed_runs: bool,
 }
 
 impl Yardsticks {
@@ -37,6 +42,8 @@ impl Yardsticks {
         closed_readings: true,
         owners_run: true,
         viewed_pairs: true,
+        types_removed: true,
+        typed_runs: true,
     };
 
     pub const NONE: Yardsticks = Yardsticks {
@@ -47,6 +54,8 @@ impl Yardsticks {
         closed_readings: false,
         owners_run: false,
         viewed_pairs: false,
+        types_removed: false,
+        typed_runs: false,
     };
 }
 
@@ -67,12 +76,14 @@ pub struct Agreed {
     pub by_kept_rule: Compared,
     /// Whether the call was compared with one of the old labelling.
     pub old_labelling: bool,
+    pub typed_runs: TypedRuns,
 }
 
 /// Performs the call on both sides, and where two calls of its sheet share a
 /// label also with a label for each. A hirer's run is done on the subject's
-/// side twice more, on other closed readings and as the owner's, and a view
-/// once more, of the other record.
+/// side twice more, on other closed readings and as the owner's, a view once
+/// more, of the other record, and a call that translates a typed sheet once
+/// more, with its types removed.
 pub fn check(
     call: &Call,
     subject: &dyn Interface,
@@ -89,6 +100,7 @@ pub fn check(
         by_name,
         by_plain_rule,
         by_kept_rule,
+        typed_runs,
     } = both(call, subject, reference, by).map_err(difference)?;
     let each = by.old_labelling.then(|| unshared(call)).flatten();
     if let Some(each) = &each {
@@ -109,11 +121,13 @@ pub fn check(
         by_plain_rule,
         by_kept_rule,
         old_labelling: each.is_some(),
+        typed_runs,
     })
 }
 
-/// Describes how a hirer's run differs from those beside it, or a view from
-/// that of the other record as it must not.
+/// Describes how a hirer's run differs from those beside it, a view from that
+/// of the other record as it must not, or a call of a typed sheet from that
+/// without its types.
 fn differing_beside(
     call: &Call,
     theirs: &After,
@@ -129,7 +143,11 @@ fn differing_beside(
     let pair = by
         .viewed_pairs
         .then(|| differing_pair(call, theirs, subject));
-    closed.flatten().or(owners.flatten()).or(pair.flatten())
+    let untyped = by
+        .types_removed
+        .then(|| differing_untyped(call, theirs, subject));
+    let beside = [closed, owners, pair, untyped];
+    beside.into_iter().flatten().flatten().next()
 }
 
 /// What the subject and the reference left, and how many runs were compared.
@@ -139,11 +157,12 @@ struct Both {
     by_name: u64,
     by_plain_rule: u64,
     by_kept_rule: Compared,
+    typed_runs: TypedRuns,
 }
 
 /// What both sides left, if they agree with each other, with call by name, with
-/// the rule without remembering and with the rule that keeps all cells; else
-/// what differs.
+/// the rule without remembering, with the rule that keeps all cells and with the
+/// types of the sheet; else what differs.
 fn both(
     call: &Call,
     subject: &dyn Interface,
@@ -158,10 +177,12 @@ fn both(
     let by_name = by.call_by_name.then(|| by_name(call, &theirs));
     let by_plain_rule = by.plain_rule.then(|| by_plain_rule(call, &theirs));
     let by_kept_rule = by.kept_rule.then(|| by_kept_rule(call, &theirs));
+    let typed_runs = by.typed_runs.then(|| typed_runs(call, &theirs));
     Ok(Both {
         by_name: by_name.unwrap_or(Ok(0))?,
         by_plain_rule: by_plain_rule.unwrap_or(Ok(0))?,
         by_kept_rule: by_kept_rule.unwrap_or(Ok(Compared::default()))?,
+        typed_runs: typed_runs.unwrap_or(Ok(TypedRuns::default()))?,
         theirs,
         ours,
     })

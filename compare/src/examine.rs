@@ -100,7 +100,7 @@ impl Examiner<'_> {
         self.runs(random, file, of, due)?;
         self.batches(random, file, of, due)?;
         // The last draws here, so that those of the other runs stay the same.
-        self.hired(random, file, due)
+        self.hired(random, file, of, due)
     }
 
     fn runs(

@@ -18,27 +18,29 @@ impl Examiner<'_> {
         &mut self,
         random: &mut Random,
         file: &[u8],
+        of: Option<&[u8]>,
         due: usize,
     ) -> Result<(), Difference> {
         let used = used(file);
         let (set, input) = (any_set(random, used, due), run_input(random, due));
-        self.hirer(random, file.to_vec(), set, input)?;
+        self.hirer(random, (file.to_vec(), of), set, input)?;
         let (set, input) = (any_set(random, used, due), right_input(random, due));
-        self.hirer(random, file.to_vec(), set, input)?;
+        self.hirer(random, (file.to_vec(), of), set, input)?;
         let (file, due) = asking(random, file, due);
         let (set, input) = (covering(random, used, due), right_input(random, due));
-        self.hirer(random, file, set, input)
+        self.hirer(random, (file, of), set, input)
     }
 
     fn hirer(
         &mut self,
         random: &mut Random,
-        file: Vec<u8>,
+        (file, of): (Vec<u8>, Option<&[u8]>),
         set: u32,
         input: RunInput,
     ) -> Result<(), Difference> {
         let other = others(random, set, &input.readings);
         self.check(&Call::Hirer {
+            of: of.map(<[u8]>::to_vec),
             file,
             set,
             input,

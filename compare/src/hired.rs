@@ -25,6 +25,7 @@ pub fn differing_with_owner(call: &Call, after: &After, on: &dyn Interface) -> O
 /// A hirer's run on its other readings, where these are not the same.
 fn other_readings(call: &Call) -> Option<Call> {
     let Call::Hirer {
+        of,
         file,
         set,
         input,
@@ -35,6 +36,7 @@ fn other_readings(call: &Call) -> Option<Call> {
     };
     let differ = *other != input.readings;
     differ.then(|| Call::Hirer {
+        of: of.clone(),
         file: file.clone(),
         set: *set,
         input: RunInput {

@@ -23,4 +23,5 @@ mod own_answer;
 pub mod replay;
 pub mod selftest;
 pub mod tally;
+mod typed;
 mod viewed;

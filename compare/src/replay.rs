@@ -34,6 +34,7 @@ pub fn write(folder: &Path, difference: &Difference, origin: &str) -> Result<()>
             }
         }
         Call::Hirer {
+            of,
             file,
             set,
             input,
@@ -43,6 +44,9 @@ pub fn write(folder: &Path, difference: &Difference, origin: &str) -> Result<()>
             text += &format!("set {set}\n");
             put("translation.bin", file)?;
             put("other.bin", &bytes_of(other))?;
+            if let Some(sheet) = of {
+                put("sheet.bin", sheet)?;
+            }
         }
         Call::Joined { sheet, out, input } => {
             text += &write_input(folder, input)?;
@@ -139,6 +143,7 @@ pub fn read(folder: &Path) -> Result<Call> {
             input: read_input(folder, &words)?,
         }),
         Some("run_for_hirer") => Ok(Call::Hirer {
+            of: get("sheet.bin").ok(),
             file: get("translation.bin")?,
             set: number(&words, "set")?,
             input: read_input(folder, &words)?,
@@ -173,22 +178,46 @@ pub fn read(folder: &Path) -> Result<Call> {
 mod tests {
     use super::*;
 
-    #[test]
-    fn a_view_is_read_back() {
-        let call = Call::View {
-            record: vec![1, 2, 3],
-            out: vec![4, 5],
-            other: vec![6],
-        };
+    fn is_read_back(call: Call) {
         let difference = Difference {
             what: "none".to_string(),
             call: Box::new(call.clone()),
         };
-        let folder = format!("compare-replay-{}", std::process::id());
+        let folder = format!("compare-replay-{}-{}", call.name(), std::process::id());
         let folder = std::env::temp_dir().join(folder);
         write(&folder, &difference, "test").expect("written");
         let again = read(&folder).expect("read");
         fs::remove_dir_all(&folder).expect("removed");
         assert_eq!(format!("{again:?}"), format!("{call:?}"));
+    }
+
+    #[test]
+    fn a_view_is_read_back() {
+        is_read_back(Call::View {
+            record: vec![1, 2, 3],
+            out: vec![4, 5],
+            other: vec![6],
+        });
+    }
+
+    #[test]
+    fn a_hirers_run_is_read_back() {
+        let input = RunInput {
+            readings: vec![-1, 2],
+            allowances: Allowances {
+                steps: 3,
+                nesting: 4,
+                cells: 5,
+            },
+            cells: vec![6, 7],
+            record: vec![8],
+        };
+        is_read_back(Call::Hirer {
+            of: Some(vec![9]),
+            file: vec![10],
+            set: 11,
+            input,
+            other: vec![-12, 2],
+        });
     }
 }

@@ -7,6 +7,7 @@ use crate::faulty::listed::{all, AGAINST_LABELLING, AGAINST_MEANING};
 use crate::faulty::listed_giving::AGAINST_KEPT;
 use crate::faulty::listed_hirer::{AGAINST_CLOSED, AGAINST_OWNER};
 use crate::faulty::listed_remembering::AGAINST_PLAIN;
+use crate::faulty::listed_typing::{AGAINST_TYPED_RUNS, AGAINST_TYPES_REMOVED};
 use crate::faulty::listed_view::AGAINST_PAIRS;
 use crate::faulty::{fault::Fault, Faulty};
 use crate::generate::case::{damaged, well_formed, Case};
@@ -63,9 +64,10 @@ const BOTH_WRONG: u64 = 20_000;
 
 /// The yardsticks that find faults with both sides wrong alike: in words, the
 /// one alone, and its faults.
-fn alone() -> [(&'static str, Yardsticks, &'static [Fault]); 7] {
+fn alone() -> [(&'static str, Yardsticks, &'static [Fault]); 9] {
     let [mut name, mut plain, mut kept, mut labelling] = [Yardsticks::NONE; 4];
     let [mut closed, mut owner, mut pairs] = [Yardsticks::NONE; 3];
+    let [mut removed, mut typed] = [Yardsticks::NONE; 2];
     name.call_by_name = true;
     plain.plain_rule = true;
     kept.kept_rule = true;
@@ -73,6 +75,8 @@ fn alone() -> [(&'static str, Yardsticks, &'static [Fault]); 7] {
     closed.closed_readings = true;
     owner.owners_run = true;
     pairs.viewed_pairs = true;
+    removed.types_removed = true;
+    typed.typed_runs = true;
     [
         ("call by name", name, AGAINST_MEANING),
         ("the rule without remembering", plain, AGAINST_PLAIN),
@@ -81,6 +85,12 @@ fn alone() -> [(&'static str, Yardsticks, &'static [Fault]); 7] {
         ("other closed readings", closed, AGAINST_CLOSED),
         ("the owner's run", owner, AGAINST_OWNER),
         ("pairs of views", pairs, AGAINST_PAIRS),
+        (
+            "sheets with their types removed",
+            removed,
+            AGAINST_TYPES_REMOVED,
+        ),
+        ("the runs of typed sheets", typed, AGAINST_TYPED_RUNS),
     ]
 }
 

@@ -5,6 +5,7 @@ use crate::call::Call;
 use crate::check::Agreed;
 use crate::hired::{is_closed, is_pair};
 use crate::interface::refusal;
+use crate::typed::{has_types_to_remove, TypedRuns};
 use crate::viewed::{self, in_table};
 use zifnora::numbers::SHORT_OUTPUT;
 
@@ -48,6 +49,10 @@ pub struct Tally {
     /// Pairs of records whose views were also compared with each other: by
     /// `viewed::Pair`.
     pub viewed_pairs: [u64; 3],
+    /// Calls of typed sheets that were also compared with those of the sheets
+    /// with their types removed.
+    pub types_removed: u64,
+    pub typed_runs: TypedRuns,
 }
 
 impl Default for Tally {
@@ -65,6 +70,8 @@ impl Default for Tally {
             by_owner: 0,
             pairs: [0; 2],
             viewed_pairs: [0; 3],
+            types_removed: 0,
+            typed_runs: TypedRuns::default(),
         }
     }
 }
@@ -97,6 +104,8 @@ impl Tally {
         self.by_name += agreed.by_name;
         self.by_plain_rule += agreed.by_plain_rule;
         self.by_kept_rule.add(agreed.by_kept_rule);
+        self.types_removed += has_types_to_remove(call, after) as u64;
+        self.typed_runs.add(agreed.typed_runs);
         let mut number = refusal(after.code) as usize;
         for run in call.runs(after) {
             let outcome = run.answer.outcome as usize;
@@ -171,5 +180,11 @@ impl Tally {
             "  pairs of answer records whose views were compared {}, {number} of them the same number, {none} without a number",
             different + number + none
         );
+        println!(
+            "  calls of typed sheets compared with those of the sheets with their types removed {}",
+            self.types_removed
+        );
+        let TypedRuns { runs, values } = self.typed_runs;
+        println!("  runs of typed sheets {runs}, {values} of them with a number or a constructor, none with 14 or 15");
     }
 }

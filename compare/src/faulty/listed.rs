@@ -1,12 +1,14 @@
 //! The deliberate faults, each with its description; those in what cells
 //! remember are in `listed_remembering.rs`, those in giving cells back in
 //! `listed_giving.rs`, those in the run for a hirer in `listed_hirer.rs`, those
-//! in the driver's view in `listed_view.rs`.
+//! in the driver's view in `listed_view.rs`, those in typed sheets in
+//! `listed_typing.rs`.
 
 use super::fault::Fault;
 use super::listed_giving::GIVING;
 use super::listed_hirer::HIRER;
 use super::listed_remembering::REMEMBERING;
+use super::listed_typing::TYPING;
 use super::listed_view::VIEW;
 
 /// Faults that the runs with a label for each call alone have to find, with
@@ -58,7 +60,7 @@ pub type Listed = (Fault, &'static str, u64);
 
 pub fn all() -> impl Iterator<Item = Listed> {
     let runs = OWNER.iter().chain(REMEMBERING).chain(GIVING);
-    runs.chain(HIRER).chain(VIEW).copied()
+    runs.chain(HIRER).chain(VIEW).chain(TYPING).copied()
 }
 
 const OWNER: &[Listed] = &[
@@ -164,7 +166,7 @@ const OWNER: &[Listed] = &[
         500,
     ),
     (Fault::FirstClause, "first clause taken", 500),
-    (Fault::LastClause, "last clause with the tag taken", 5000),
+    (Fault::LastClause, "last clause with the tag taken", 10000),
     (
         Fault::TruncatedBeforeKind,
         "1 for a record cut short before 3 for its kind and length",

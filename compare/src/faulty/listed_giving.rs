@@ -41,7 +41,7 @@ pub const GIVING: &[Listed] = &[
     (
         Fault::InnerForgotten,
         "a constructor of an inner call forgotten when that ends",
-        500,
+        2000,
     ),
     (
         Fault::OwnCellKeeps,

@@ -57,12 +57,12 @@ pub const REMEMBERING: &[Listed] = &[
     (
         Fault::CalleeOverwritten,
         "the callee overwritten when the eighth entry remembers",
-        2000,
+        10000,
     ),
     (
         Fault::CalleeCleared,
         "zero bytes at the end of an eighth entry that remembers",
-        2000,
+        10000,
     ),
     (
         Fault::CalleeMissing,
@@ -90,7 +90,7 @@ pub const REMEMBERING: &[Listed] = &[
         "the step of a remembered formal not counted",
         500,
     ),
-    (Fault::FaultRemembered, "a fault remembered", 500),
+    (Fault::FaultRemembered, "a fault remembered", 2000),
     (Fault::StopRemembered, "a stop remembered", 500),
     (
         Fault::ConstructorForgotten,

@@ -11,12 +11,15 @@ pub mod listed;
 pub mod listed_giving;
 pub mod listed_hirer;
 pub mod listed_remembering;
+pub mod listed_typing;
 pub mod listed_view;
 mod reading;
 mod remembering;
 mod running;
 mod sharing;
 mod translating;
+mod typed_reading;
+mod typing;
 
 use crate::interface::Allowances;
 use crate::model::answer::Answer;
@@ -27,7 +30,8 @@ use crate::model::sheet::{self, Sheet};
 use crate::model::translate::Labelling;
 use crate::model::translation::{self, Translation};
 use crate::model::trees::Tree;
-use crate::model::{joined, listing, operator, rules, translate, Behaviour, Refusal};
+use crate::model::{joined, listing, operator, rules, translate};
+use crate::model::{Behaviour, Refusal, TypeBehaviour};
 use fault::Fault;
 use zifnora::sizes::CELL_BYTES;
 
@@ -39,7 +43,7 @@ impl Behaviour for Faulty {
     fn read_sheet(&self, file: &[u8]) -> Result<Sheet, Refusal> {
         match self.0 {
             Fault::SizeLimit => reading::below_size(file).and_then(|()| sheet::read(self, file)),
-            _ => sheet::read(self, file),
+            _ => typed_reading::read(self, file),
         }
     }
 
@@ -82,6 +86,7 @@ impl Behaviour for Faulty {
         let result = rules::check_references(sheet);
         match self.0 {
             Fault::ArgumentsFirst => reading::arguments_first(sheet, result),
+            Fault::TypedResultParameters => reading::typed_result_parameters(sheet, result),
             Fault::PlaceOffByOne => reading::next_place(sheet, result),
             _ => result,
         }
@@ -92,6 +97,7 @@ impl Behaviour for Faulty {
         match self.0 {
             Fault::ClauseOrderLate => result.and_then(|()| reading::clause_order(sheet)),
             Fault::PlaceOffByOne => reading::next_place(sheet, result),
+            Fault::TypesBeforeTree => reading::types_before_tree(self, sheet, result),
             _ => result,
         }
     }
@@ -115,6 +121,7 @@ impl Behaviour for Faulty {
         let result = rules::check_patterns(self, sheet);
         match self.0 {
             Fault::PlaceOffByOne => reading::next_place(sheet, result),
+            Fault::TypesBeforePatterns => self.check_types(sheet).and(result),
             _ => result,
         }
     }
@@ -136,6 +143,7 @@ impl Behaviour for Faulty {
     fn translate(&self, sheet: &Sheet) -> Translation {
         let labelling = match self.0 {
             Fault::LabelForEachCall => Labelling::EachCall,
+            Fault::TypedCallsApart if sheet.types.is_some() => Labelling::EachCall,
             _ => Labelling::EqualCalls,
         };
         let translation = translate::translate(self, sheet, labelling);
@@ -145,6 +153,9 @@ impl Behaviour for Faulty {
             Fault::LastCallListed => sharing::list_last_calls(sheet, translation),
             Fault::IndexNotRaised => translating::lower_indices(translation),
             Fault::ParametersNotWritten => remembering::without_parameters(translation),
+            Fault::ResultTypeAsParameters => {
+                translating::result_types_as_parameters(sheet, translation)
+            }
             _ => translation,
         }
     }
@@ -158,6 +169,9 @@ impl Behaviour for Faulty {
         match self.0 {
             Fault::PastLength => translating::clear_past(result, out),
             Fault::RefusedStillWrites => translating::write_what_fits(self, file, result, out),
+            Fault::TypesAfterRoom => {
+                translating::types_after_room(self, file, out.len() as u64, result)
+            }
             _ => result,
         }
     }
@@ -168,6 +182,8 @@ impl Behaviour for Faulty {
         match self.0 {
             Fault::LengthPlaceLost => translating::at_zero(result),
             Fault::LengthShortFirst => translating::short_first(result, room),
+            Fault::TypesAfterRoom => translating::types_after_room(self, file, room, result),
+            Fault::TypedLengthLonger => translating::counting_types(file, result),
             _ => result,
         }
     }

@@ -1,9 +1,10 @@
 //! Faults in reading and checking a sheet.
 
+use super::Faulty;
 use crate::model::records::{two_bytes, Records};
 use crate::model::rules;
 use crate::model::sheet::{Node, Sheet};
-use crate::model::Refusal;
+use crate::model::{Refusal, TypeBehaviour};
 use zifnora::numbers::{BAD_ARGUMENTS, BAD_TREE, OUT_OF_RANGE, OVERSIZE, TRUNCATED};
 use zifnora::sizes::SHEET_BYTES;
 
@@ -41,6 +42,16 @@ pub fn arguments_first(sheet: &Sheet, result: Result<(), Refusal>) -> Result<(),
             false => refusal,
         }
     })
+}
+
+/// 5 and 7 of a typed sheet, but not 7 for the parameters of `result`.
+pub fn typed_result_parameters(sheet: &Sheet, result: Result<(), Refusal>) -> Result<(), Refusal> {
+    let mut without = sheet.clone();
+    without.parameters[0] = 0;
+    match sheet.types {
+        Some(_) => rules::check_references(&without),
+        None => result,
+    }
 }
 
 /// The record after that of a node which is refused.
@@ -82,4 +93,22 @@ pub fn any_clause_around(sheet: &Sheet, parents: &[Option<usize>], node: usize) 
         let around = rules::case_around(sheet, parents, node)?;
         around.clauses.first().map(|clause| clause.0)
     })
+}
+
+/// 22 of a node before the first that is misgrown.
+pub fn types_before_tree(
+    faulty: &Faulty,
+    sheet: &Sheet,
+    result: Result<(), Refusal>,
+) -> Result<(), Refusal> {
+    let Err(refusal) = result else {
+        return result;
+    };
+    let misgrown = (refusal.place - sheet.record_of(0)) as usize;
+    let mut first = sheet.clone();
+    first.nodes[misgrown..].fill(Node::Number(0));
+    match faulty.check_types(&first) {
+        Err(ill_typed) if ill_typed.place < refusal.place => Err(ill_typed),
+        _ => result,
+    }
 }

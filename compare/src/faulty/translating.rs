@@ -6,9 +6,10 @@ use super::Faulty;
 use crate::model::answer::Answer;
 use crate::model::cells::FIRST_ENTRY;
 use crate::model::records::two_bytes;
+use crate::model::sheet::Sheet;
 use crate::model::translation::{Node, Translation};
-use crate::model::{joined, listing, Behaviour, Refusal};
-use zifnora::numbers::{is_refusal, BAD_READINGS, SHORT_OUTPUT};
+use crate::model::{joined, listing, types, Behaviour, Refusal};
+use zifnora::numbers::{is_refusal, BAD_READINGS, ILL_TYPED, SHORT_OUTPUT};
 use zifnora::sizes::{CELL_BYTES, LABEL_BYTES, TRANSLATION_BYTES};
 
 /// Select's index is the position.
@@ -64,6 +65,37 @@ pub fn short_first(result: Result<usize, Refusal>, room: u64) -> Result<usize, R
         0 => Err(Refusal::new(SHORT_OUTPUT, 0)),
         _ => result,
     }
+}
+
+/// 8 in place of 22 for a buffer that is shorter than the translation would be.
+pub fn types_after_room(
+    faulty: &Faulty,
+    file: &[u8],
+    room: u64,
+    result: Result<usize, Refusal>,
+) -> Result<usize, Refusal> {
+    let is = |result: Result<usize, Refusal>, number: u16| {
+        result.is_err_and(|refusal| refusal.number == number)
+    };
+    let untyped = joined::translated_length(faulty, &types::removed(file), room);
+    match is(result, ILL_TYPED) && is(untyped, SHORT_OUTPUT) {
+        true => untyped,
+        false => result,
+    }
+}
+
+/// The length with the bytes of the types.
+pub fn counting_types(file: &[u8], result: Result<usize, Refusal>) -> Result<usize, Refusal> {
+    result.map(|length| length + file.len() - types::removed(file).len())
+}
+
+/// The result types of a typed sheet's functions as their parameter counts.
+pub fn result_types_as_parameters(sheet: &Sheet, mut translation: Translation) -> Translation {
+    if let Some(types) = &sheet.types {
+        let results = types.functions.iter().map(|function| function.result);
+        translation.parameters = results.collect();
+    }
+    translation
 }
 
 /// Writes the translation of a sheet whose run is refused.

@@ -2,9 +2,11 @@
 //! odd files. A case depends on the seed and its number only.
 
 use super::random::Random;
+use super::sheet::encoded;
 use super::{
     ceiling, damage, foreign, given_back, regroup, sheet, targeted, template, translation,
 };
+use super::{typed, typed_ceiling, typed_damage};
 use crate::model::{Behaviour, Correct};
 use zifnora::sizes::{SHEET_BYTES, TRANSLATION_BYTES};
 
@@ -16,13 +18,15 @@ pub enum Case {
 /// Well-formed sheet number `number`, and the generator to go on with.
 pub fn well_formed(seed: u64, number: u64) -> (Case, Random) {
     let mut random = Random::of_case(seed, 1, number);
-    let file = match random.below(200) {
+    let file = match random.below(300) {
         0 => ceiling::greatest(&mut random),
-        1 | 2 => sheet::counting(&mut random),
-        3..=22 => template::template(&mut random),
-        23..=32 => given_back::numbers(&mut random),
-        33..=48 => given_back::lists(&mut random),
-        _ => sheet::sheet(&mut random),
+        1 | 2 => encoded(&mut random, |_| sheet::counting()),
+        3..=22 => encoded(&mut random, template::template),
+        23..=32 => encoded(&mut random, given_back::numbers),
+        33..=48 => encoded(&mut random, given_back::lists),
+        49..=199 => encoded(&mut random, sheet::sheet),
+        200 => typed_ceiling::greatest(&mut random),
+        _ => typed::well_typed(&mut random),
     };
     (Case::Sheet(file), random)
 }
@@ -30,7 +34,7 @@ pub fn well_formed(seed: u64, number: u64) -> (Case, Random) {
 /// Damaged or odd file number `number`, and the generator to go on with.
 pub fn damaged(seed: u64, number: u64) -> (Case, Random) {
     let mut random = Random::of_case(seed, 2, number);
-    let case = match random.below(200) {
+    let case = match random.below(300) {
         0 => {
             let file = ceiling::greatest(&mut random);
             Case::Sheet(changed(&mut random, file, damage::damage))
@@ -39,7 +43,7 @@ pub fn damaged(seed: u64, number: u64) -> (Case, Random) {
         2 => Case::Translation(long_translation(&mut random)),
         3 => Case::Sheet(few_bytes(&mut random)),
         4 => {
-            let file = sheet::sheet(&mut random);
+            let file = encoded(&mut random, sheet::sheet);
             Case::Sheet(resized(&mut random, file, SHEET_BYTES))
         }
         5 => {
@@ -47,30 +51,53 @@ pub fn damaged(seed: u64, number: u64) -> (Case, Random) {
             Case::Translation(resized(&mut random, file, TRANSLATION_BYTES))
         }
         6..=59 => {
-            let file = sheet::sheet(&mut random);
+            let file = encoded(&mut random, sheet::sheet);
             Case::Sheet(changed(&mut random, file, damage::damage))
         }
         60..=119 => {
-            let file = sheet::sheet(&mut random);
+            let file = encoded(&mut random, sheet::sheet);
             Case::Sheet(changed(&mut random, file, targeted::break_rules))
         }
         120..=129 => {
-            let file = translated(&sheet::sheet(&mut random));
+            let file = translated(&encoded(&mut random, sheet::sheet));
             Case::Translation(changed(&mut random, file, either))
         }
         130..=139 => Case::Translation(foreign::foreign(&mut random)),
         140..=149 => {
-            let mut file = translated(&sheet::sheet(&mut random));
+            let mut file = translated(&encoded(&mut random, sheet::sheet));
             regroup::regroup(&mut random, &mut file);
             Case::Translation(file)
         }
         150..=179 => Case::Translation(translation::translation(&mut random)),
-        _ => {
+        180..=199 => {
             let file = translation::translation(&mut random);
             Case::Translation(changed(&mut random, file, either))
         }
+        _ => Case::Sheet(damaged_typed(&mut random)),
     };
     (case, random)
+}
+
+/// A sheet that is typed, or was to be.
+fn damaged_typed(random: &mut Random) -> Vec<u8> {
+    let way = random.below(100);
+    let mut file = match way {
+        0 | 1 => typed_ceiling::greatest(random),
+        2 | 3 => encoded(random, sheet::sheet),
+        4..=7 => return typed::guessed(random),
+        8..=14 => return typed::nearly(random),
+        15..=44 => return typed::broken(random),
+        45..=54 => typed::broken(random),
+        _ => typed::well_typed(random),
+    };
+    match way {
+        0 | 55..=71 => typed_damage::change_type(random, &mut file),
+        2 | 3 | 72..=76 => typed_damage::mix(random, &mut file),
+        77..=84 => typed_damage::relength(random, &mut file),
+        85..=90 => damage::damage(random, &mut file),
+        _ => targeted::break_rules(random, &mut file),
+    }
+    file
 }
 
 fn changed(random: &mut Random, file: Vec<u8>, change: fn(&mut Random, &mut Vec<u8>)) -> Vec<u8> {

@@ -19,7 +19,7 @@ pub fn greatest(random: &mut Random) -> Vec<u8> {
         parameters: (MOST_FIELDS, MOST_FIELDS),
         arity: (0, MOST_FIELDS),
     };
-    let plan = plan(random, &limits);
+    let plan = plan(random, &limits, false);
     let arities: Vec<u16> = plan
         .constructors
         .iter()

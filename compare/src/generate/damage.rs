@@ -87,9 +87,10 @@ fn damage_record(
         16 => swap_fields(random, file, chosen),
         17 => field(random, file, records[0]),
         18 => {
-            // The neighbouring kind, by its lowest bit.
+            // The neighbouring kind, by its lowest bit, or by the bit that a
+            // typed record's kind has more.
             let kind = get(file, at + 2);
-            set(file, at + 2, kind ^ 1);
+            set(file, at + 2, kind ^ random.pick(&[1, 4]));
         }
         _ => field(random, file, chosen),
     }
@@ -104,11 +105,11 @@ fn pick_record(random: &mut Random, count: usize) -> usize {
     }
 }
 
-fn get(file: &[u8], at: usize) -> u16 {
+pub(super) fn get(file: &[u8], at: usize) -> u16 {
     u16::from_le_bytes([file[at], file[at + 1]])
 }
 
-fn set(file: &mut [u8], at: usize, value: u16) {
+pub(super) fn set(file: &mut [u8], at: usize, value: u16) {
     file[at..at + 2].copy_from_slice(&value.to_le_bytes());
 }
 
@@ -198,16 +199,17 @@ fn lengthen(random: &mut Random, file: &mut Vec<u8>, record: (usize, usize)) {
 /// Adds a number as the last node, with the counts kept consistent.
 fn add_node(file: &mut Vec<u8>, records: &[(usize, usize)]) {
     let kind = get(file, records[0].0 + 2);
-    // A sheet's function has its node count last, a translation's first.
-    let (function, number, field) = if kind == sheet::HEAD {
-        (sheet::FUNCTION, sheet::NUMBER, 6)
+    // A sheet's function has its node count second, a translation's first.
+    let (functions, number, field) = if kind == sheet::HEAD {
+        let functions = [sheet::FUNCTION, sheet::TYPED_FUNCTION];
+        (functions, sheet::NUMBER, 6)
     } else {
-        (translation::FUNCTION, translation::NUMBER, 4)
+        ([translation::FUNCTION; 2], translation::NUMBER, 4)
     };
     let last = records
         .iter()
         .rev()
-        .find(|record| get(file, record.0 + 2) == function);
+        .find(|record| functions.contains(&get(file, record.0 + 2)));
     let (Some(last), HEAD_BYTES) = (last, records[0].1) else {
         return;
     };

@@ -1,11 +1,9 @@
 //! Random expressions over a plan.
 
-use super::plan::Plan;
+use super::plan::{first_of, Plan};
 use super::random::Random;
 use super::repeat::{Earlier, Site};
-use zifnora::build_sheet::{
-    build, call, case, if_else, number, operator, parameter, pattern, Expr,
-};
+use zifnora::build_sheet::{build, call, case, if_else, number, operator, parameter, Expr};
 use zifnora::build_sheet::{ADD, DIVIDE, LESS, MULTIPLY, SUBTRACT};
 
 /// Grows the expressions of one function.
@@ -18,7 +16,7 @@ pub struct Grow<'a> {
     /// Nodes still to be spent.
     pub left: i32,
     /// Constructor of the clause around, if any.
-    clause: Option<usize>,
+    pub(super) clause: Option<usize>,
     calls: bool,
     /// Only functions after the own one are called (so that calls end).
     upwards: bool,
@@ -90,11 +88,15 @@ impl<'a> Grow<'a> {
         let chosen: Vec<usize> = (0..plan.constructors.len())
             .filter(|&number| {
                 let belongs = plan.constructors[number].own == of;
-                self.random.chance(if belongs { percent } else { 2 })
+                let foreign = if plan.strict { 0 } else { 2 };
+                self.random.chance(if belongs { percent } else { foreign })
             })
             .take(64)
             .collect();
-        let chosen = if chosen.is_empty() { vec![0] } else { chosen };
+        let chosen = match chosen.len() {
+            0 => vec![first_of(of)],
+            _ => chosen,
+        };
         let mut clauses = Vec::new();
         for &constructor in &chosen {
             self.clause = Some(constructor);
@@ -170,7 +172,7 @@ impl<'a> Grow<'a> {
 
     /// An expression of a type, now and then of another one.
     pub fn expr(&mut self, of: u16, depth: u32) -> Expr {
-        let of = if self.random.chance(2) {
+        let of = if !self.plan.strict && self.random.chance(2) {
             self.random.between(0, self.plan.types as usize) as u16
         } else {
             of
@@ -217,7 +219,7 @@ impl<'a> Grow<'a> {
         }
     }
 
-    fn build(&mut self, constructor: usize, depth: u32) -> Expr {
+    pub(super) fn build(&mut self, constructor: usize, depth: u32) -> Expr {
         let plan = self.plan;
         let fields = &plan.constructors[constructor].fields;
         let arguments = fields
@@ -227,7 +229,7 @@ impl<'a> Grow<'a> {
         build(constructor as u16, arguments)
     }
 
-    fn constructor(&mut self, of: u16, greatest_arity: usize) -> Option<usize> {
+    pub(super) fn constructor(&mut self, of: u16, greatest_arity: usize) -> Option<usize> {
         let all: Vec<usize> = (0..self.plan.constructors.len())
             .filter(|&number| {
                 let constructor = &self.plan.constructors[number];
@@ -281,42 +283,6 @@ impl<'a> Grow<'a> {
             0 => operator(ADD, number(-1), parameter(0)),
             1 => number(self.random.below(3) as i32),
             _ => operator(SUBTRACT, parameter(0), number(1)),
-        }
-    }
-
-    /// An expression with few nodes.
-    fn leaf(&mut self, of: u16, depth: u32) -> Expr {
-        let plan = self.plan;
-        let positions = |types: &[u16]| -> Vec<u16> {
-            (0..types.len() as u16)
-                .filter(|&at| types[at as usize] == of)
-                .collect()
-        };
-        if let Some(constructor) = self.clause {
-            let fields = positions(&plan.constructors[constructor].fields);
-            if !fields.is_empty() && self.random.chance(60) {
-                return pattern(self.random.pick(&fields));
-            }
-        }
-        let parameters = positions(&plan.functions[self.function].parameters);
-        if !parameters.is_empty() && self.random.chance(75) {
-            return parameter(self.random.pick(&parameters));
-        }
-        if of == 0 {
-            if plan.readings > 0 && self.random.chance(30) {
-                return Expr::Reading(self.random.below(plan.readings as usize) as u16);
-            }
-            return number(self.random.number());
-        }
-        if let Some(constructor) = self.constructor(of, 0) {
-            return build(constructor as u16, vec![]);
-        }
-        match self.constructor(of, 3) {
-            // Leaves stay small: few levels, and none at all far over budget.
-            Some(constructor) if depth > 0 && self.left > -200 => {
-                self.build(constructor, depth.min(2) - 1)
-            }
-            _ => number(self.random.number()),
         }
     }
 }

@@ -3,7 +3,6 @@
 //! worked out inside a call that ends with a number and read after it.
 
 use super::random::Random;
-use super::sheet::encode;
 use zifnora::build_sheet::*;
 
 const NIL: u16 = 0;
@@ -15,7 +14,7 @@ const CHANGE: u16 = 2;
 
 /// Functions on numbers that call each other twice and more, the first
 /// parameter of each counted down.
-pub fn numbers(random: &mut Random) -> Vec<u8> {
+pub fn numbers(random: &mut Random) -> Program {
     let parameters: Vec<u16> = (0..random.between(1, 3))
         .map(|_| random.between(1, 3) as u16)
         .collect();
@@ -32,17 +31,16 @@ pub fn numbers(random: &mut Random) -> Vec<u8> {
         let body = grow.counted();
         functions.push((all, body));
     }
-    let program = Program {
+    Program {
         readings: 2,
         arities: vec![],
         functions,
-    };
-    encode(random, &program)
+    }
 }
 
 /// make(n) = Cons(n, make(n - 1)) or Nil, change(l) = the same list with other
 /// heads, and functions on lists and a number, which end with numbers.
-pub fn lists(random: &mut Random) -> Vec<u8> {
+pub fn lists(random: &mut Random) -> Program {
     let count = random.between(1, 4);
     let consumers: Vec<(u16, u16)> = (0..count)
         .map(|_| (random.between(1, 3) as u16, 1))
@@ -73,12 +71,11 @@ pub fn lists(random: &mut Random) -> Vec<u8> {
         let body = grow.consumer();
         functions.push((lists + numbers, body));
     }
-    let program = Program {
+    Program {
         readings: 2,
         arities: vec![0, 2],
         functions,
-    };
-    encode(random, &program)
+    }
 }
 
 /// What an expression inside a function can name.

@@ -1,5 +1,5 @@
-//! Random input: sheets, translations, damage, allowances, buffers and answer
-//! records.
+//! Random input: sheets, typed or not, translations, damage, allowances, buffers
+//! and answer records.
 
 pub mod answer_record;
 pub mod case;
@@ -8,8 +8,11 @@ pub mod damage;
 pub mod expr;
 pub mod foreign;
 pub mod given_back;
+pub mod infer;
+mod leaf;
 pub mod plan;
 pub mod random;
+pub mod reached;
 pub mod regroup;
 pub mod repeat;
 pub mod sheet;
@@ -17,6 +20,12 @@ pub mod sizes;
 pub mod targeted;
 pub mod template;
 pub mod translation;
+pub mod typed;
+mod typed_break;
+pub mod typed_ceiling;
+pub mod typed_damage;
 
 #[cfg(test)]
 mod tests;
+#[cfg(test)]
+mod typed_tests;

@@ -1,6 +1,7 @@
 //! The plan of a random sheet: readings, constructors and functions, each
-//! with loose types (0 number, 1.. data) so that most sheets do some work
-//! before they fault. A few expressions break the types on purpose.
+//! with types (0 number, 1.. data) so that most sheets do some work before
+//! they fault. A few expressions break the types on purpose, unless the plan
+//! is strict.
 
 use super::random::Random;
 
@@ -22,6 +23,9 @@ pub struct Plan {
     /// With fuel, the first parameter of a function is a number that calls
     /// count down, so that most recursion ends.
     pub fuel: bool,
+    /// No expression breaks the types; the first constructor of each type
+    /// takes numbers only.
+    pub strict: bool,
 }
 
 /// Ranges from which a plan's counts are taken.
@@ -46,7 +50,7 @@ fn some_type(random: &mut Random, types: u16) -> u16 {
     }
 }
 
-pub fn plan(random: &mut Random, limits: &Limits) -> Plan {
+pub fn plan(random: &mut Random, limits: &Limits, strict: bool) -> Plan {
     let readings = between(random, limits.readings) as u16;
     let count = between(random, limits.constructors);
     let types = if count == 0 {
@@ -56,7 +60,7 @@ pub fn plan(random: &mut Random, limits: &Limits) -> Plan {
     };
     let fuel = random.chance(75);
     let constructors = (0..count)
-        .map(|number| constructor(random, limits, types, number))
+        .map(|number| constructor(random, limits, types, strict, number))
         .collect();
     let count = between(random, limits.functions);
     let mut functions: Vec<Function> = (0..count)
@@ -72,20 +76,34 @@ pub fn plan(random: &mut Random, limits: &Limits) -> Plan {
         constructors,
         functions,
         fuel,
+        strict,
     }
 }
 
+/// The first constructor of a type of data.
+pub fn first_of(of: u16) -> usize {
+    of as usize - 1
+}
+
 /// The first constructor of a type has no or few fields.
-fn constructor(random: &mut Random, limits: &Limits, types: u16, number: usize) -> Constructor {
-    let greatest = if number < types as usize {
-        2.min(limits.arity.1)
+fn constructor(
+    random: &mut Random,
+    limits: &Limits,
+    types: u16,
+    strict: bool,
+    number: usize,
+) -> Constructor {
+    let first = number < types as usize;
+    let greatest = if first {
+        2.max(limits.arity.0)
     } else {
         limits.arity.1
     };
-    let arity = random.between(limits.arity.0.min(greatest), greatest);
+    let arity = random.between(limits.arity.0, greatest);
+    let taken = if first && strict { 0 } else { types };
     Constructor {
         own: number as u16 % types + 1,
-        fields: (0..arity).map(|_| some_type(random, types)).collect(),
+        fields: (0..arity).map(|_| some_type(random, taken)).collect(),
     }
 }
 

@@ -8,7 +8,29 @@ use zifnora::build_sheet::*;
 use zifnora::sizes::MOST_NODES;
 
 /// A well-formed sheet of small or middle size.
-pub fn sheet(random: &mut Random) -> Vec<u8> {
+pub fn sheet(random: &mut Random) -> Program {
+    some_sheet(random, false)
+}
+
+/// Such a sheet in which no expression breaks the types of its plan.
+pub fn strict(random: &mut Random) -> Program {
+    some_sheet(random, true)
+}
+
+/// Such a sheet with few nodes, of which a run reaches many.
+pub fn tiny(random: &mut Random) -> Program {
+    let limits = Limits {
+        readings: (0, 2),
+        constructors: (1, 3),
+        functions: (1, 3),
+        parameters: (0, 2),
+        arity: (0, 2),
+    };
+    let budget = random.between(1, 5);
+    program(random, &limits, budget, true)
+}
+
+fn some_sheet(random: &mut Random, strict: bool) -> Program {
     loop {
         let (limits, budget) = match random.below(10) {
             0 => (small(3, 1), random.between(1, 8)),
@@ -17,30 +39,29 @@ pub fn sheet(random: &mut Random) -> Vec<u8> {
             8 => (small(12, 8), random.between(8, 40)),
             _ => (small(30, 4), random.between(3, 14)),
         };
-        let program = program(random, &limits, budget);
+        let program = program(random, &limits, budget, strict);
         let total: usize = program
             .functions
             .iter()
             .map(|function| function.1.size())
             .sum();
         if total <= MOST_NODES {
-            return encode(random, &program);
+            return program;
         }
     }
 }
 
 /// A sheet that makes more or fewer cells by its first reading:
 /// result = down(r0), down(n) = if n < 1 then r1 else down(n - 1).
-pub fn counting(random: &mut Random) -> Vec<u8> {
+pub fn counting() -> Program {
     let ends = operator(LESS, parameter(0), number(1));
     let next = operator(SUBTRACT, parameter(0), number(1));
     let down = if_else(ends, reading(1), call(1, vec![next]));
-    let program = Program {
+    Program {
         readings: 2,
         arities: vec![],
         functions: vec![(0, call(1, vec![reading(0)])), (1, down)],
-    };
-    encode(random, &program)
+    }
 }
 
 fn small(functions: usize, parameters: usize) -> Limits {
@@ -54,6 +75,12 @@ fn small(functions: usize, parameters: usize) -> Limits {
     }
 }
 
+/// The file of a sheet that is made so.
+pub fn encoded(random: &mut Random, make: fn(&mut Random) -> Program) -> Vec<u8> {
+    let program = make(random);
+    encode(random, &program)
+}
+
 /// Sheets in post-order or with the nodes in another allowed order.
 pub fn encode(random: &mut Random, program: &Program) -> Vec<u8> {
     if random.chance(40) {
@@ -63,8 +90,8 @@ pub fn encode(random: &mut Random, program: &Program) -> Vec<u8> {
     }
 }
 
-pub fn program(random: &mut Random, limits: &Limits, budget: usize) -> Program {
-    let plan = plan(random, limits);
+fn program(random: &mut Random, limits: &Limits, budget: usize, strict: bool) -> Program {
+    let plan = plan(random, limits, strict);
     let mut earlier = Earlier::default();
     let mut functions: Vec<(u16, Expr)> = Vec::new();
     for number in 0..plan.functions.len() {

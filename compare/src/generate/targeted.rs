@@ -4,6 +4,14 @@
 use super::damage::{records, HEAD_BYTES};
 use super::random::Random;
 use zifnora::kinds::{sheet, translation};
+use zifnora::sizes::MOST_TYPES;
+
+/// Records of functions.
+const FUNCTIONS: [u16; 3] = [
+    sheet::FUNCTION,
+    sheet::TYPED_FUNCTION,
+    translation::FUNCTION,
+];
 
 #[derive(Clone, Copy, PartialEq)]
 enum Class {
@@ -14,6 +22,7 @@ enum Class {
     Parameter,
     Pattern,
     Formal,
+    Type,
     Free,
 }
 
@@ -32,6 +41,7 @@ fn class(kind: u16, field: usize) -> Class {
         (sheet::CALL | sheet::BUILD | translation::TUPLE, 1..) => Class::Node,
         (sheet::CASE | translation::CASE, _) if field % 2 == 0 => Class::Node,
         (sheet::CASE, _) => Class::Constructor,
+        (sheet::TYPED_CONSTRUCTOR, 1..) | (sheet::TYPED_FUNCTION, 2..) => Class::Type,
         _ => Class::Free,
     }
 }
@@ -113,6 +123,7 @@ impl Parts<'_> {
             Class::Constructor | Class::Formal => self.head[1],
             Class::Reading => self.head[0],
             Class::Parameter | Class::Pattern => 8,
+            Class::Type => MOST_TYPES + 1,
             Class::Free => 65_536,
         }
     }
@@ -176,6 +187,7 @@ impl Parts<'_> {
                 sheet::PATTERN_VARIABLE,
                 sheet::PATTERN_VARIABLE,
                 sheet::CONSTRUCTOR,
+                sheet::TYPED_CONSTRUCTOR,
             ],
         ) {
             let old = self.get(record, 0) as usize;
@@ -186,7 +198,7 @@ impl Parts<'_> {
 
     /// Moves the boundary between two functions, so that bodies change.
     fn boundary(&mut self, random: &mut Random) {
-        let Some(record) = self.some(random, &[sheet::FUNCTION, translation::FUNCTION]) else {
+        let Some(record) = self.some(random, &FUNCTIONS) else {
             return;
         };
         let next = record + 1;
@@ -196,28 +208,28 @@ impl Parts<'_> {
         // The node count, and of a translation now and then the parameter count.
         let parameters = self.kind(record) == translation::FUNCTION && random.chance(50);
         let field = match self.kind(record) {
-            sheet::FUNCTION => 1,
-            _ => parameters as usize,
+            translation::FUNCTION => parameters as usize,
+            _ => 1,
         };
         let least = !parameters as u16;
         let (low, high) = (self.get(record, field), self.get(next, field));
         if random.chance(50) && high > least {
-            self.set(record, field, low + 1);
+            self.set(record, field, low.wrapping_add(1));
             self.set(next, field, high - 1);
         } else if low > least {
             self.set(record, field, low - 1);
-            self.set(next, field, high + 1);
+            self.set(next, field, high.wrapping_add(1));
         }
     }
 
     /// Sets a function's parameter count to a neighbour or a bound.
     fn parameters(&mut self, random: &mut Random) {
-        let Some(record) = self.some(random, &[sheet::FUNCTION, translation::FUNCTION]) else {
+        let Some(record) = self.some(random, &FUNCTIONS) else {
             return;
         };
         let field = (self.kind(record) == translation::FUNCTION) as usize;
         let old = self.get(record, field);
-        let value = random.pick(&[old + 1, old.wrapping_sub(1), 0, 8, 9, 9, 16]);
+        let value = random.pick(&[old.wrapping_add(1), old.wrapping_sub(1), 0, 8, 9, 9, 16]);
         self.set(record, field, value);
     }
 

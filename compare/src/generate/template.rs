@@ -3,7 +3,6 @@
 //! clauses of cases.
 
 use super::random::Random;
-use super::sheet::encode;
 use zifnora::build_sheet::*;
 use zifnora::sizes::MOST_NODES;
 
@@ -21,12 +20,12 @@ const OTHER_PAIR: u16 = 9;
 /// The constructors: 0 and 1, of two fields each.
 const ARITIES: [u16; 2] = [2, 2];
 
-pub fn template(random: &mut Random) -> Vec<u8> {
+pub fn template(random: &mut Random) -> Program {
     loop {
         let program = program(random);
         let sizes = program.functions.iter().map(|function| function.1.size());
         if sizes.sum::<usize>() <= MOST_NODES {
-            return encode(random, &program);
+            return program;
         }
     }
 }

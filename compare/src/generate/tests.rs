@@ -2,12 +2,14 @@
 
 use super::case::{well_formed, Case};
 use super::random::Random;
+use super::sheet::encoded;
 use super::{answer_record, ceiling, foreign, given_back, regroup, sheet, template, translation};
 use crate::interface::Allowances;
 use crate::model::driver_view::viewed_answer;
 use crate::model::translate::{translate, Labelling};
 use crate::model::translation as read_translation;
 use crate::model::{kept, Behaviour, Correct};
+use zifnora::build_sheet::Program;
 use zifnora::numbers::{BAD_TREE, NO_CELL, NUMBER};
 use zifnora::sizes::{SHEET_BYTES, TRANSLATION_BYTES};
 
@@ -36,9 +38,9 @@ fn calls_share_labels_often() {
         };
         (0..200).filter(shares).count()
     };
-    assert!(sharing(template::template) >= 190);
+    assert!(sharing(|random| encoded(random, template::template)) >= 190);
     assert!(sharing(ceiling::greatest) >= 150);
-    assert!(sharing(sheet::sheet) >= 50);
+    assert!(sharing(|random| encoded(random, sheet::sheet)) >= 50);
 }
 
 #[test]
@@ -82,7 +84,8 @@ fn foreign_and_regrouped_translations_are_accepted() {
         let mut random = Random::new(seed);
         let file = foreign::foreign(&mut random);
         assert!(read_translation::read(&Correct, &file).is_ok());
-        let sheet = Correct.read_sheet(&sheet::sheet(&mut random)).unwrap();
+        let file = encoded(&mut random, sheet::sheet);
+        let sheet = Correct.read_sheet(&file).unwrap();
         let before = Correct.translate(&sheet);
         let mut file = read_translation::write(&before);
         regroup::regroup(&mut random, &mut file);
@@ -100,10 +103,10 @@ fn runs_give_cells_back_and_keep_some() {
     };
     // How many runs have fewer cells than with all kept, and how many answer
     // where that stops with 13.
-    let counts = |make: fn(&mut Random) -> Vec<u8>| {
+    let counts = |make: fn(&mut Random) -> Program| {
         let [mut fewer, mut further] = [0; 2];
         for seed in 0..200 {
-            let file = make(&mut Random::new(seed));
+            let file = encoded(&mut Random::new(seed), make);
             let sheet = Correct.read_sheet(&file).expect("accepted");
             let translation = Correct.translate(&sheet);
             let answer = Correct.run_accepted(&translation, &[1, 2], allowances, &mut []);

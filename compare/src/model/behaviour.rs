@@ -13,10 +13,11 @@ use super::sheet::Sheet;
 use super::translate::Labelling;
 use super::translation::{self, Translation};
 use super::trees::Tree;
+use super::type_behaviour::TypeBehaviour;
 use super::{joined, listing, operator, rules, run, sheet, translate, Refusal};
 use crate::interface::Allowances;
 
-pub trait Behaviour: CellBehaviour {
+pub trait Behaviour: CellBehaviour + TypeBehaviour {
     // Reading a file.
     fn read_sheet(&self, file: &[u8]) -> Result<Sheet, Refusal> {
         sheet::read(self, file)
@@ -279,6 +280,8 @@ pub struct Correct;
 impl Behaviour for Correct {}
 
 impl CellBehaviour for Correct {}
+
+impl TypeBehaviour for Correct {}
 
 impl BatchBehaviour for Correct {}
 

@@ -4,12 +4,14 @@ use super::answer::Answer;
 use super::cells::Value;
 use super::live_cells::OpenCall;
 use super::translation::Translation;
-use super::{run, Behaviour, CellBehaviour};
+use super::{run, Behaviour, CellBehaviour, TypeBehaviour};
 use crate::interface::Allowances;
 
 struct Keeping;
 
 impl Behaviour for Keeping {}
+
+impl TypeBehaviour for Keeping {}
 
 impl CellBehaviour for Keeping {
     fn gives_back(&self, _end: &Result<Value, u16>, _call: OpenCall) -> bool {

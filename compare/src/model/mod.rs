@@ -1,7 +1,7 @@
 //! The independent implementation of document 01. Each of its steps stands in
-//! one of these files as the papers have it; `Behaviour`, `CellBehaviour`,
-//! `BatchBehaviour`, `HirerBehaviour` and `ViewBehaviour` name the steps that a
-//! deliberately faulty model (`crate::faulty`) does otherwise.
+//! one of these files as the papers have it; `Behaviour`, `TypeBehaviour`,
+//! `CellBehaviour`, `BatchBehaviour`, `HirerBehaviour` and `ViewBehaviour` name
+//! the steps that a deliberately faulty model (`crate::faulty`) does otherwise.
 
 pub mod answer;
 pub mod batch;
@@ -25,6 +25,9 @@ pub mod sheet;
 pub mod translate;
 pub mod translation;
 pub mod trees;
+pub mod type_behaviour;
+pub mod types;
+pub mod typing;
 
 #[cfg(test)]
 mod tests;
@@ -32,6 +35,7 @@ mod tests;
 use crate::interface::Interface;
 pub use behaviour::{BatchBehaviour, Behaviour, Correct, HirerBehaviour, ViewBehaviour};
 pub use cell_behaviour::CellBehaviour;
+pub use type_behaviour::TypeBehaviour;
 pub use zifnora::Refusal;
 
 /// A model with a behaviour, behind the calls that are compared.

@@ -5,12 +5,14 @@ use super::answer::Answer;
 use super::cells::Value;
 use super::live_cells::OpenCall;
 use super::translation::Translation;
-use super::{run, Behaviour, CellBehaviour};
+use super::{run, Behaviour, CellBehaviour, TypeBehaviour};
 use crate::interface::Allowances;
 
 struct Forgetful;
 
 impl Behaviour for Forgetful {}
+
+impl TypeBehaviour for Forgetful {}
 
 impl CellBehaviour for Forgetful {
     fn uses(&self, _callee: u16, _function: u16) -> bool {

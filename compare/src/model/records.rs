@@ -11,6 +11,8 @@ fn lengths(kind: u16) -> Option<(usize, usize, usize)> {
         sheet::HEAD | translation::HEAD => (12, 0, 12),
         sheet::CONSTRUCTOR => (6, 0, 6),
         sheet::FUNCTION | translation::FUNCTION => (8, 0, 8),
+        sheet::TYPED_CONSTRUCTOR => (8, 2, 24),
+        sheet::TYPED_FUNCTION => (10, 2, 26),
         translation::FORMAL_LIST => (4, 2, 2052),
         sheet::NUMBER | translation::NUMBER => (8, 0, 8),
         sheet::READING | translation::READING => (6, 0, 6),
@@ -92,6 +94,12 @@ impl<'a> Records<'a> {
     /// The next record's number, and what is left of the file.
     pub fn left(&self) -> (u32, &'a [u8]) {
         (self.number, &self.file[self.at..])
+    }
+
+    /// The next record's kind; none where it has no four bytes.
+    pub fn next_kind(&self) -> Option<u16> {
+        let (_, left) = self.left();
+        (left.len() >= 4).then(|| two_bytes(left, 2))
     }
 
     /// The next record, which has to be of one of the kinds due.

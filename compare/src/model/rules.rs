@@ -112,7 +112,7 @@ pub fn position_fits(position: u16, arity: u16) -> bool {
 }
 
 /// The parent of each node: the last node that has it as a child.
-fn parents(sheet: &Sheet) -> Vec<Option<usize>> {
+pub fn parents(sheet: &Sheet) -> Vec<Option<usize>> {
     let mut parents = vec![None; sheet.nodes.len()];
     for (number, node) in sheet.nodes.iter().enumerate() {
         node.each_child(|child| parents[child as usize] = Some(number));

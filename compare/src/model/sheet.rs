@@ -2,6 +2,7 @@
 //! sheet or a refusal before number 8.
 
 use super::records::{bodies, owners, Record, Records};
+use super::types::{Signature, Types};
 use super::{Behaviour, Refusal};
 use zifnora::kinds::sheet as kinds;
 use zifnora::numbers::{BAD_COUNT, OVERSIZE};
@@ -50,6 +51,8 @@ pub struct Sheet {
     pub owners: Vec<u16>,
     /// Body of each function.
     pub bodies: Vec<u16>,
+    /// Of a typed sheet.
+    pub types: Option<Types>,
 }
 
 impl Sheet {
@@ -76,6 +79,7 @@ pub fn read<B: Behaviour>(behaviour: &B, file: &[u8]) -> Result<Sheet, Refusal> 
     behaviour.check_references(&sheet)?;
     behaviour.check_tree(&sheet)?;
     behaviour.check_patterns(&sheet)?;
+    behaviour.check_types(&sheet)?;
     Ok(sheet)
 }
 
@@ -98,51 +102,103 @@ fn read_records<B: Behaviour>(behaviour: &B, file: &[u8]) -> Result<Sheet, Refus
     if !ranges || !(1..=FUNCTIONS).contains(&functions) || !(1..=NODES).contains(&nodes_due) {
         return Err(Refusal::new(BAD_COUNT, 0));
     }
-    let mut arities = Vec::new();
+    let first = records.next_kind();
+    let mut declared = Declared {
+        typed: first.is_some_and(|kind| behaviour.is_typed(kind)),
+        ..Declared::default()
+    };
     for _ in 0..constructors {
-        let record = behaviour.next_record(&mut records, &[kinds::CONSTRUCTOR])?;
-        if record.field(0) > ARITY {
-            return Err(Refusal::new(BAD_COUNT, record.number));
-        }
-        arities.push(record.field(0));
+        declared.read_constructor(behaviour, &mut records)?;
     }
-    let (parameters, counts) = read_functions(behaviour, &mut records, functions, nodes_due)?;
+    for function in 1..=functions {
+        let number = declared.read_function(behaviour, &mut records)?;
+        if function == functions {
+            behaviour.check_sum(&declared.counts, nodes_due, number)?;
+        }
+    }
     let mut nodes = Vec::with_capacity(nodes_due as usize);
     for _ in 0..nodes_due {
         nodes.push(node(behaviour.next_record(&mut records, &kinds::NODES)?));
     }
     behaviour.finish(&records)?;
+    let counts = declared.counts;
     Ok(Sheet {
         readings,
-        arities,
-        parameters,
+        arities: declared.arities,
+        parameters: declared.parameters,
         nodes,
         owners: owners(&counts),
         bodies: bodies(&counts),
         counts,
+        types: declared.typed.then_some(declared.types),
     })
 }
 
-/// Parameter and node counts of the functions.
-fn read_functions<B: Behaviour>(
-    behaviour: &B,
-    records: &mut Records,
-    functions: u16,
-    nodes_due: u16,
-) -> Result<(Vec<u16>, Vec<u16>), Refusal> {
-    let (mut parameters, mut counts) = (Vec::new(), Vec::new());
-    for function in 1..=functions {
-        let record = behaviour.next_record(records, &[kinds::FUNCTION])?;
-        if record.field(0) > ARITY || record.field(1) < 1 {
-            return Err(Refusal::new(BAD_COUNT, record.number));
+/// What the records of the constructors and functions say.
+#[derive(Default)]
+struct Declared {
+    typed: bool,
+    arities: Vec<u16>,
+    parameters: Vec<u16>,
+    counts: Vec<u16>,
+    types: Types,
+}
+
+impl Declared {
+    /// Arity, and in a typed sheet own type and field types.
+    fn read_constructor<B: Behaviour>(
+        &mut self,
+        behaviour: &B,
+        records: &mut Records,
+    ) -> Result<(), Refusal> {
+        let kind = match self.typed {
+            true => kinds::TYPED_CONSTRUCTOR,
+            false => kinds::CONSTRUCTOR,
+        };
+        let record = behaviour.next_record(records, &[kind])?;
+        let arity = record.field(0);
+        let mut fits = arity <= ARITY;
+        if self.typed {
+            let types = Signature::of(&record, 1);
+            fits &= behaviour.own_type_fits(types.result) && types.takes(behaviour, arity);
+            self.types.constructors.push(types);
         }
-        parameters.push(record.field(0));
-        counts.push(record.field(1));
-        if function == functions {
-            behaviour.check_sum(&counts, nodes_due, record.number)?;
-        }
+        self.arities.push(arity);
+        in_range(fits, &record)
     }
-    Ok((parameters, counts))
+
+    /// Parameter count, node count, and in a typed sheet result type and
+    /// parameter types; the record's number.
+    fn read_function<B: Behaviour>(
+        &mut self,
+        behaviour: &B,
+        records: &mut Records,
+    ) -> Result<u32, Refusal> {
+        let kind = match self.typed {
+            true => kinds::TYPED_FUNCTION,
+            false => kinds::FUNCTION,
+        };
+        let record = behaviour.next_record(records, &[kind])?;
+        let (parameters, count) = (record.field(0), record.field(1));
+        let mut fits = parameters <= ARITY && count >= 1;
+        if self.typed {
+            let types = Signature::of(&record, 2);
+            fits &= behaviour.type_fits(types.result) && types.takes(behaviour, parameters);
+            self.types.functions.push(types);
+        }
+        self.parameters.push(parameters);
+        self.counts.push(count);
+        in_range(fits, &record)?;
+        Ok(record.number)
+    }
+}
+
+/// 4 at a record of which a count or type is outside its range.
+fn in_range(fits: bool, record: &Record) -> Result<(), Refusal> {
+    match fits {
+        true => Ok(()),
+        false => Err(Refusal::new(BAD_COUNT, record.number)),
+    }
 }
 
 /// The node counts sum to the nodes due; else 4 at the last function.

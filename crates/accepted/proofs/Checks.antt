@@ -4,30 +4,34 @@ use Prim.Native.Nat.{ℕ, _+_, _<_}
 use mathlib.Core.List.{List}
 use mathlib.Core.Bool.{true}
 use Rattle.definitions.specs.Records.{recordOf}
-use Rattle.definitions.specs.Numbers.{outOfRange, badTree, badArguments}
+use Rattle.definitions.specs.Numbers.{outOfRange, badTree, badArguments, illTyped}
 use Rattle.definitions.specs.Verdicts.{_andThen_, firstOf}
-use Rattle.definitions.specs.Layouts.{nodes, firstNode, due}
+use Rattle.definitions.specs.Layouts.{isTyped, nodes, firstNode, due}
 use Rattle.definitions.specs.Shape.{fileShape}
 use Rattle.definitions.specs.References.{inRange, references}
-use Rattle.definitions.specs.Checks.{argumentsMatch, arguments, treeRight, tree, patternRight, pattern, sheetVerdict, translationVerdict}
+use Rattle.definitions.specs.SheetRules.{argumentsMatch, arguments, treeRight, tree, patternRight, pattern}
+use Rattle.definitions.specs.Types.{typeRight, typing, types}
+use Rattle.definitions.specs.Checks.{sheetVerdict, translationVerdict}
 use Rattle.definitions.specs.declared.Layout.the-variants.{Sheet, Translation}
 use Rattle.definitions.specs.declared.Verdict.the-variants.{Accepted}
 use Rattle.laws.proofs.Verdicts.{both-accepted, required, first-each}
 
--- the four passes over a sheet
+-- the five passes over a sheet
 pub record SheetChecks (b : List ℕ) : Type 0 where
   pub shape : fileShape Sheet b ≡ Accepted
   pub names : firstOf (due b) (λ r. references b r andThen arguments b r) ≡ Accepted
   pub trees : firstOf (nodes b) (tree b) ≡ Accepted
   pub patterns : firstOf (nodes b) (pattern b) ≡ Accepted
+  pub types : types b ≡ Accepted
 
 sheet-checks : (b : List ℕ) → sheetVerdict b ≡ Accepted → SheetChecks b
 unfolding sheetVerdict
 sheet-checks b e =
-    let p = both-accepted _ _ e in
+    let o = both-accepted _ _ e in
+    let p = both-accepted _ _ (o .0) in
     let q = both-accepted _ _ (p .0) in
     let s = both-accepted _ _ (q .0) in
-    record { shape = s .0; names = s .1; trees = q .1; patterns = p .1 }
+    record { shape = s .0; names = s .1; trees = q .1; patterns = p .1; types = o .1 }
 
 module _ (b : List ℕ) (accepted : sheetVerdict b ≡ Accepted) where
   pub sheet-shape : fileShape Sheet b ≡ Accepted
@@ -55,6 +59,12 @@ module _ (b : List ℕ) (accepted : sheetVerdict b ≡ Accepted) where
   unfolding pattern
   pattern-right k h =
       required (patternRight b k) badTree (firstNode b + k) (first-each (nodes b) (pattern b) (sheet-checks b accepted .patterns) k h)
+
+  -- a typed sheet keeps the rules of types
+  pub type-right : isTyped b ≡ true → (k : ℕ) → k < nodes b → typeRight b k ≡ true
+  unfolding types typing
+  type-right t k h =
+      required (typeRight b k) illTyped (firstNode b + k) (first-each (nodes b) (typing b) (rw t at (sheet-checks b accepted .types)) k h)
 
 module _ (b : List ℕ) (accepted : translationVerdict b ≡ Accepted) where
   pub translation-shape : fileShape Translation b ≡ Accepted

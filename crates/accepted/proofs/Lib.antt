@@ -18,6 +18,7 @@ pub mod Trees
 pub mod Parents
 pub mod Clauses
 pub mod Places
+pub mod Types
 pub mod Patterns
 pub mod TranslationRecords
 pub mod TranslationNames

@@ -18,7 +18,8 @@ use Rattle.definitions.specs.Shape.{operatorCode}
 use Rattle.definitions.specs.References.{parameters, arity, children, child, namesInRange, inRange}
 use Rattle.definitions.specs.NodeFields.{fieldsFrom}
 use Rattle.definitions.specs.SheetNodes.{reading, parameter, operator, call, build, sheetNode, sheetNodeOf}
-use Rattle.definitions.specs.Checks.{argumentsMatch, sheetVerdict}
+use Rattle.definitions.specs.SheetRules.{argumentsMatch}
+use Rattle.definitions.specs.Checks.{sheetVerdict}
 use Rattle.definitions.specs.declared.Layout.the-variants.{Sheet}
 use Rattle.definitions.specs.declared.Verdict.the-variants.{Accepted}
 use Rattle.laws.proofs.Lists.{listed-length}

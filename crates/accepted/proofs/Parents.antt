@@ -11,7 +11,8 @@ use Rattle.definitions.specs.Lists.{countOf, lastOf}
 use Rattle.definitions.specs.Layouts.{nodes, nodeRecord, bodyOf, ownerOf}
 use Rattle.definitions.specs.References.{children, child}
 use Rattle.definitions.specs.SheetNodes.{SheetNode, sheetNodeOf}
-use Rattle.definitions.specs.Checks.{timesChild, isBody, parentOf, sheetVerdict}
+use Rattle.definitions.specs.SheetRules.{timesChild, isBody, parentOf}
+use Rattle.definitions.specs.Checks.{sheetVerdict}
 use Rattle.definitions.specs.declared.Layout.the-variants.{Sheet}
 use Rattle.definitions.specs.declared.Verdict.the-variants.{Accepted}
 use Rattle.accepted.specs.Child.{Child}

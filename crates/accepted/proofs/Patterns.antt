@@ -16,7 +16,8 @@ use Rattle.definitions.specs.Layouts.{items, nodes, nodeRecord, bodyOf, ownerOf
 use Rattle.definitions.specs.References.{arity, child, clauses, clauseConstructor}
 use Rattle.definitions.specs.NodeFields.{Clause, clauseList}
 use Rattle.definitions.specs.SheetNodes.{patternVariable, caseOf, sheetNode, sheetNodeOf, scrutineeOf}
-use Rattle.definitions.specs.Checks.{parentOf, clauseOf, clauseWithin, belowArity, patternRight, sheetVerdict}
+use Rattle.definitions.specs.SheetRules.{parentOf, clauseOf, clauseWithin, belowArity, patternRight}
+use Rattle.definitions.specs.Checks.{sheetVerdict}
 use Rattle.definitions.specs.declared.Layout.the-variants.{Sheet}
 use Rattle.definitions.specs.declared.Verdict.the-variants.{Accepted}
 use Rattle.accepted.proofs.Sums.{SomeBelow, one-more}

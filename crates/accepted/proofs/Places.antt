@@ -17,7 +17,8 @@ use Rattle.definitions.specs.Layouts.{nodes, nodeRecord, bodyOf, ownerOf}
 use Rattle.definitions.specs.References.{child, clauses, clauseConstructor}
 use Rattle.definitions.specs.NodeFields.{Clause, chosen}
 use Rattle.definitions.specs.SheetNodes.{SheetNode, caseOf, sheetNodeOf}
-use Rattle.definitions.specs.Checks.{isBody, parentOf, clauseOf, clauseWithin, sheetVerdict}
+use Rattle.definitions.specs.SheetRules.{isBody, parentOf, clauseOf, clauseWithin}
+use Rattle.definitions.specs.Checks.{sheetVerdict}
 use Rattle.definitions.specs.declared.Layout.the-variants.{Sheet}
 use Rattle.definitions.specs.declared.Verdict.the-variants.{Accepted}
 use Rattle.accepted.specs.Child.{Child, isCase, scrutinee, clause}

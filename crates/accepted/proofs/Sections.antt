@@ -3,7 +3,7 @@
 use mathlib.Core.Path.{_≡_, refl, _∙_}
 use Prim.Native.Nat.{ℕ, suc, _+_, _-_, _≤_, _<_}
 use mathlib.Core.List.{List}
-use mathlib.Core.Bool.{true, cond, _&&_, and-eq-true-iff}
+use mathlib.Core.Bool.{Bool, true, false, cond, _&&_, and-eq-true-iff}
 use native.Mathlib.Omega.{arith}
 use lib.Dec.{leb, eqb}
 use borrow.Author.Tests.{leb-true, eqb-true, le-leb, lt-leb, le-ltb, lt-ltb, eq-eqb, ne-eqb}
@@ -11,9 +11,10 @@ use Rattle.definitions.specs.Records.{kindOf}
 use Rattle.definitions.specs.SheetKinds
 use Rattle.definitions.specs.TranslationKinds
 use Rattle.definitions.specs.Lists.{sumOf}
-use Rattle.definitions.specs.Layouts.{items, functions, nodes, firstFunction, firstNode, sectionKind, nodeKind, isDue, itemRecord, functionRecord, nodeRecord, nodeCount}
+use Rattle.definitions.specs.Layouts.{isTyped, items, functions, nodes, firstFunction, firstNode, constructorKind, functionKind, sectionKind, nodeKind, isDue}
+use Rattle.definitions.specs.Layouts.{itemRecord, functionRecord, nodeRecord, nodeCount}
 use Rattle.definitions.specs.References.{parameters, arity}
-use Rattle.definitions.specs.Shape.{runCounts, parameterCounts, counts, fileShape}
+use Rattle.definitions.specs.Shape.{runCounts, parameterCounts, typedConstructorCounts, typedFunctionCounts, counts, fileShape}
 use Rattle.definitions.specs.Ranges.{within}
 use Rattle.definitions.specs.declared.Layout.{Layout}
 use Rattle.definitions.specs.declared.Layout.the-variants.{Sheet, Translation}
@@ -48,31 +49,73 @@ node-kind y b e k h =
 
 -- constructors and functions of a sheet
 module _ (b : List ℕ) (accepted : fileShape Sheet b ≡ Accepted) where
-  pub constructor-kind : (c : ℕ) → c < items b → kindOf (itemRecord Sheet b c) ≡ SheetKinds.constructor
+  pub constructor-kind : (c : ℕ) → c < items b → kindOf (itemRecord Sheet b c) ≡ constructorKind b
   unfolding sectionKind
   constructor-kind c h =
       section-kind Sheet b (1 + c) _ (omega arith) (omega arith) (kind-due Sheet b accepted (1 + c) (omega arith))
       ∙ rw (le-leb (1 + c) (items b) (omega arith)) refl
 
-  pub sheet-function-kind : (f : ℕ) → f < functions b → kindOf (functionRecord Sheet b f) ≡ SheetKinds.function
+  pub sheet-function-kind : (f : ℕ) → f < functions b → kindOf (functionRecord Sheet b f) ≡ functionKind b
   unfolding sectionKind
   sheet-function-kind f h =
       section-kind Sheet b (1 + items b + f) _ (omega arith) (omega arith) (kind-due Sheet b accepted (1 + items b + f) (omega arith))
       ∙ rw (lt-leb (1 + items b + f) (items b) (omega arith)) refl
 
+  -- the counts of a constructor, with types and without
+  module _ (c : ℕ) (h : c < items b) where
+    pub typed-constructor-kind : isTyped b ≡ true → kindOf (itemRecord Sheet b c) ≡ SheetKinds.typedConstructor
+    unfolding constructorKind
+    typed-constructor-kind t = constructor-kind c h ∙ rw t refl
+
+    pub typed-constructor-counts : isTyped b ≡ true → typedConstructorCounts (itemRecord Sheet b c) ≡ true
+    unfolding counts
+    typed-constructor-counts t =
+        rw (ne-eqb (1 + c) 0 (λ p. omega (arith, p)), typed-constructor-kind t) at (counts-right Sheet b accepted (1 + c) (omega arith))
+
+    constructor-counts : isTyped b ≡ false → within 0 8 (arity b c) ≡ true
+    unfolding counts constructorKind
+    constructor-counts t =
+        let k : kindOf (itemRecord Sheet b c) ≡ SheetKinds.constructor = constructor-kind c h ∙ rw t refl in
+        rw (ne-eqb (1 + c) 0 (λ p. omega (arith, p)), k) at (counts-right Sheet b accepted (1 + c) (omega arith))
+
+    arity-within : (t : Bool) → isTyped b ≡ t → within 0 8 (arity b c) ≡ true
+    unfolding typedConstructorCounts
+    arity-within true t = and-eq-true-iff _ _ .0 (and-eq-true-iff _ _ .0 (typed-constructor-counts t) .0) .0
+    arity-within false t = constructor-counts t
+
   -- "arity 0..8"
   pub arity-limit : (c : ℕ) → c < items b → arity b c ≤ 8
-  unfolding counts
-  arity-limit c h =
-      within-by 0 8 (arity b c)
-      (rw (ne-eqb (1 + c) 0 (λ p. omega (arith, p)), constructor-kind c h) at (counts-right Sheet b accepted (1 + c) (omega arith))) .greatest
+  arity-limit c h = within-by 0 8 (arity b c) (arity-within c h (isTyped b) refl) .greatest
+
+  -- the counts of a function, with types and without
+  module _ (f : ℕ) (h : f < functions b) where
+    pub typed-function-kind : isTyped b ≡ true → kindOf (functionRecord Sheet b f) ≡ SheetKinds.typedFunction
+    unfolding functionKind
+    typed-function-kind t = sheet-function-kind f h ∙ rw t refl
+
+    pub typed-function-counts : isTyped b ≡ true → typedFunctionCounts Sheet b (1 + items b + f) (functionRecord Sheet b f) ≡ true
+    unfolding counts
+    typed-function-counts t =
+        rw (ne-eqb (1 + items b + f) 0 (λ p. omega (arith, p)), typed-function-kind t)
+        at (counts-right Sheet b accepted (1 + items b + f) (omega arith))
+
+    abbrev untypedCounts : Bool
+    untypedCounts = within 0 8 (parameters b f) && runCounts Sheet b (1 + items b + f) (functionRecord Sheet b f)
+
+    function-counts : isTyped b ≡ false → untypedCounts ≡ true
+    unfolding counts functionKind
+    function-counts t =
+        let k : kindOf (functionRecord Sheet b f) ≡ SheetKinds.function = sheet-function-kind f h ∙ rw t refl in
+        rw (ne-eqb (1 + items b + f) 0 (λ p. omega (arith, p)), k) at (counts-right Sheet b accepted (1 + items b + f) (omega arith))
+
+    counts-within : (t : Bool) → isTyped b ≡ t → untypedCounts ≡ true
+    unfolding typedFunctionCounts
+    counts-within true t = and-eq-true-iff _ _ .0 (typed-function-counts t) .0
+    counts-within false t = function-counts t
 
   sheet-counts : (f : ℕ) → f < functions b
       → (within 0 8 (parameters b f) && runCounts Sheet b (1 + items b + f) (functionRecord Sheet b f)) ≡ true
-  unfolding counts
-  sheet-counts f h =
-      rw (ne-eqb (1 + items b + f) 0 (λ p. omega (arith, p)), sheet-function-kind f h)
-      at (counts-right Sheet b accepted (1 + items b + f) (omega arith))
+  sheet-counts f h = counts-within f h (isTyped b) refl
 
   -- "parameters 0..8"
   pub parameters-limit : (f : ℕ) → f < functions b → parameters b f ≤ 8

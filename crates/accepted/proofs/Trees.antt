@@ -12,7 +12,8 @@ use Rattle.definitions.specs.Layouts.{nodes, nodeRecord, bodyOf, ownerOf}
 use Rattle.definitions.specs.References.{children, child}
 use Rattle.definitions.specs.NodeFields.{Clause}
 use Rattle.definitions.specs.SheetNodes.{SheetNode, caseOf, sheetNodeOf}
-use Rattle.definitions.specs.Checks.{timesChild, isBody, childrenRight, clausesRise, treeRight, sheetVerdict}
+use Rattle.definitions.specs.SheetRules.{timesChild, isBody, childrenRight, clausesRise, treeRight}
+use Rattle.definitions.specs.Checks.{sheetVerdict}
 use Rattle.definitions.specs.declared.Layout.the-variants.{Sheet}
 use Rattle.definitions.specs.declared.Verdict.the-variants.{Accepted}
 use Rattle.laws.proofs.Lists.{all-each}

@@ -13,7 +13,8 @@ use Rattle.definitions.specs.References.{parameters, arity}
 use Rattle.definitions.specs.NodeFields.{Clause, chosen}
 use Rattle.definitions.specs.SheetNodes.{SheetNode, patternVariable, conditional, call, build, caseOf, sheetNodeOf, scrutineeOf}
 use Rattle.definitions.specs.TranslationNodes.{translationNodeOf, actual, tupleFields}
-use Rattle.definitions.specs.Checks.{clauseWithin, sheetVerdict}
+use Rattle.definitions.specs.SheetRules.{clauseWithin}
+use Rattle.definitions.specs.Checks.{sheetVerdict}
 use Rattle.definitions.specs.Labels.{neverShared, labelOf}
 use Rattle.definitions.specs.Translate.{formalOf, unsharedTranslation}
 use Rattle.definitions.specs.Rule.{value, constructor}

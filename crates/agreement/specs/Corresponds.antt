@@ -9,7 +9,7 @@ use Rattle.definitions.specs.Layouts.{nodes, bodyOf, ownerOf}
 use Rattle.definitions.specs.NodeFields.{Clause}
 use Rattle.definitions.specs.SheetNodes.{SheetNode, call, build, caseOf, sheetNodeOf}
 use Rattle.definitions.specs.TranslationNodes.{translationNodeOf}
-use Rattle.definitions.specs.Checks.{clauseWithin}
+use Rattle.definitions.specs.SheetRules.{clauseWithin}
 use Rattle.definitions.specs.Labels.{neverShared, labelOf}
 use Rattle.definitions.specs.Translate.{unsharedTranslation}
 use Rattle.definitions.specs.Rule.{Ending, value, ended, integer, constructor}

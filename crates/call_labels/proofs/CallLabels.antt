@@ -36,7 +36,7 @@ use Rattle.readback.proofs.FirstCalls.{label-same}
 use Rattle.file_records.specs.Index.{startIn}
 use Rattle.file_records.proofs.Indices.{node-reached}
 use Rattle.format.specs.Readers.{ReadSheet}
-use Rattle.format.proofs.RunTables.{entry-more}
+use Rattle.file_runs.proofs.RunTables.{entry-more}
 use Rattle.tree_classes.specs.Keys.{entryOf}
 use Rattle.tree_classes.specs.Classes.{AcceptedSheet, ReadTables, FirstNodes}
 use Rattle.call_labels.specs.Tables.{Labels, Counts, Classed, LabelledOne}

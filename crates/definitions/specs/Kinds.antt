@@ -1,6 +1,6 @@
 -- The kinds with least, step and greatest length (document 01, "Each kind has a fixed length or a least, a step and a
--- greatest"), in the paper's order; a translation's function has the length of document 02, request 7. A fixed length is a least
--- that is the greatest.
+-- greatest"), in the paper's order; a translation's function has the length of document 02, request 7, and the constructors and
+-- functions with types are of request 11. A fixed length is a least that is the greatest.
 use Prim.Native.Nat.{ℕ, _-_, _%_}
 use mathlib.Core.List.{List, [], _∷_}
 use mathlib.Core.Bool.{Bool, cond, _&&_}
@@ -22,6 +22,8 @@ rows =
     row SheetKinds.head 12 2 12
     ∷ row SheetKinds.constructor 6 2 6
     ∷ row SheetKinds.function 8 2 8
+    ∷ row SheetKinds.typedConstructor 8 2 24
+    ∷ row SheetKinds.typedFunction 10 2 26
     ∷ row SheetKinds.number 8 2 8
     ∷ row SheetKinds.reading 6 2 6
     ∷ row SheetKinds.parameter 6 2 6

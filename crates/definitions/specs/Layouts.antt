@@ -3,7 +3,7 @@
 -- `items` is `K` (constructors) in a sheet and `P` (formals) in a translation.
 use Prim.Native.Nat.{ℕ, suc, pred, _+_}
 use mathlib.Core.List.{List}
-use mathlib.Core.Bool.{Bool, cond, _&&_}
+use mathlib.Core.Bool.{Bool, cond, _&&_, _||_}
 use lib.Dec.{leb, ltb, eqb}
 use Rattle.definitions.specs.Bytes.{word}
 use Rattle.definitions.specs.Records.{recordOf, field}
@@ -26,6 +26,10 @@ functions b = word b 8
 abbrev pub nodes : List ℕ → ℕ
 nodes b = word b 10
 
+-- whether a sheet is typed (document 02, request 11): the record after the head, at byte 12, is of a kind with types
+unfoldable pub isTyped : List ℕ → Bool
+isTyped b = eqb (word b 14) SheetKinds.typedConstructor || eqb (word b 14) SheetKinds.typedFunction
+
 -- the number of the first item's, the first function's and the first node's record, and of the records due
 abbrev pub firstItem : Layout → List ℕ → ℕ
 firstItem Sheet b = 1
@@ -46,8 +50,15 @@ abbrev pub headKind : Layout → ℕ
 headKind Sheet = SheetKinds.head
 headKind Translation = TranslationKinds.head
 
+-- request 11: "for all its constructors and functions, kind 6 .. and kind 7 .. in place of 2 and 3"
+unfoldable pub constructorKind : List ℕ → ℕ
+constructorKind b = cond (isTyped b) SheetKinds.typedConstructor SheetKinds.constructor
+
+unfoldable pub functionKind : List ℕ → ℕ
+functionKind b = cond (isTyped b) SheetKinds.typedFunction SheetKinds.function
+
 unfoldable pub sectionKind : Layout → List ℕ → ℕ → ℕ
-sectionKind Sheet b r = cond (leb r (items b)) SheetKinds.constructor SheetKinds.function
+sectionKind Sheet b r = cond (leb r (items b)) (constructorKind b) (functionKind b)
 sectionKind Translation b r = cond (leb r (functions b)) TranslationKinds.function TranslationKinds.formalList
 
 abbrev pub nodeKind : Layout → ℕ

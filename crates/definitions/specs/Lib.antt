@@ -12,6 +12,8 @@ pub mod Output
 pub mod Layouts
 pub mod Shape
 pub mod References
+pub mod SheetRules
+pub mod Types
 pub mod Checks
 pub mod OperatorCodes
 pub mod Operators
@@ -22,6 +24,7 @@ pub mod Outcomes
 pub mod Trees
 pub mod Labels
 pub mod Translate
+pub mod TypesRemoved
 pub mod FormalPlaces
 pub mod Rule
 pub mod PlainCells

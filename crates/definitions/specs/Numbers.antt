@@ -89,6 +89,10 @@ overflow = 20
 abbrev pub closedReading : ℕ
 closedReading = 21
 
+-- "ill typed" (document 02, request 11)
+abbrev pub illTyped : ℕ
+illTyped = 22
+
 -- the outcome of a number
 abbrev pub isNumber : ℕ
 isNumber = 0
@@ -99,7 +103,7 @@ isConstructor = 100
 
 -- whether a number is a refusal's, "numbered refusal"
 unfoldable pub isRefusal : ℕ → Bool
-isRefusal n = within truncated badAllowance n || eqb n closedReading
+isRefusal n = within truncated badAllowance n || within closedReading illTyped n
 
 -- whether it is a stop's
 unfoldable pub isStop : ℕ → Bool

@@ -1,21 +1,21 @@
 -- The checks of both files up to the left-over bytes (document 01, "Order": 2; record by record 1, 3, 1, 3, 4; then 3 for
 -- bytes left over).
-use Prim.Native.Nat.{ℕ, suc, _+_}
+use Prim.Native.Nat.{ℕ, suc, _+_, _-_}
 use mathlib.Core.List.{List}
 use mathlib.Core.Bool.{Bool, true, cond, _&&_, _||_}
 use lib.ListN.{length}
 use lib.Dec.{leb, eqb}
 use Rattle.definitions.specs.Bytes.{word}
-use Rattle.definitions.specs.Records.{startOf, recordAt, kindOf, field}
+use Rattle.definitions.specs.Records.{startOf, recordAt, kindOf, field, fieldCount}
 use Rattle.definitions.specs.Kinds.{rowOf, allows}
 use Rattle.definitions.specs.SheetKinds
 use Rattle.definitions.specs.TranslationKinds
 use Rattle.definitions.specs.OperatorCodes
 use Rattle.definitions.specs.Ranges.{within}
-use Rattle.definitions.specs.Sizes.{sheetBytes, translationBytes, mostReadings, mostConstructors, mostFunctions, mostNodes, mostFormals, mostFields}
+use Rattle.definitions.specs.Sizes.{sheetBytes, translationBytes, mostReadings, mostConstructors, mostFunctions, mostNodes, mostFormals, mostFields, mostTypes}
 use Rattle.definitions.specs.Numbers.{truncated, oversize, badRecord, badCount}
 use Rattle.definitions.specs.Verdicts.{_andThen_, require, firstOf}
-use Rattle.definitions.specs.Lists.{sumOf}
+use Rattle.definitions.specs.Lists.{sumOf, allOf}
 use Rattle.definitions.specs.Layouts.{readings, items, functions, nodes, firstFunction, due, isDue, countField, nodeCount, parameterCount}
 use Rattle.definitions.specs.declared.Layout.{Layout}
 use Rattle.definitions.specs.declared.Layout.the-variants.{Sheet, Translation}
@@ -48,13 +48,30 @@ parameterCounts b r rec =
     within 0 mostFields (field rec 1)
     && cond (eqb (suc r) (firstFunction Translation b + functions b)) (eqb (sumOf (functions b) (parameterCount b)) (items b)) true
 
+-- document 02, request 11: "a type out of range or a count that doesn't match the record's length 4": a record with n fields, of
+-- which those from field 2 on are types
+unfoldable pub typesRight : List ℕ → ℕ → Bool
+typesRight rec n = eqb (fieldCount rec) n && allOf (n - 2) (λ i. within 0 mostTypes (field rec (2 + i)))
+
+-- "arity, own type from 1, field types"
+unfoldable pub typedConstructorCounts : List ℕ → Bool
+typedConstructorCounts rec =
+    within 0 mostFields (field rec 0) && within 1 mostTypes (field rec 1) && typesRight rec (2 + field rec 0)
+
+-- "parameters, node count, result type, parameter types"
+unfoldable pub typedFunctionCounts : Layout → List ℕ → ℕ → List ℕ → Bool
+typedFunctionCounts y b r rec =
+    within 0 mostFields (field rec 0) && runCounts y b r rec && typesRight rec (3 + field rec 0)
+
 -- the counts of record r by its kind; "arity 0..8", "parameters 0..8"
 unfoldable pub counts : Layout → List ℕ → ℕ → List ℕ → Bool
 counts y b r rec =
     cond (eqb r 0) (headCounts y b)
     (cond (eqb (kindOf rec) SheetKinds.constructor) (within 0 mostFields (field rec 0))
     (cond (eqb (kindOf rec) SheetKinds.function) (within 0 mostFields (field rec 0) && runCounts y b r rec)
-    (cond (eqb (kindOf rec) TranslationKinds.function) (parameterCounts b r rec && runCounts y b r rec) true)))
+    (cond (eqb (kindOf rec) SheetKinds.typedConstructor) (typedConstructorCounts rec)
+    (cond (eqb (kindOf rec) SheetKinds.typedFunction) (typedFunctionCounts y b r rec)
+    (cond (eqb (kindOf rec) TranslationKinds.function) (parameterCounts b r rec && runCounts y b r rec) true)))))
 
 -- "operator code above 5"
 unfoldable pub operatorCode : List ℕ → Bool

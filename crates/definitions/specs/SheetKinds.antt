@@ -1,4 +1,4 @@
--- The kinds of a sheet (document 01, "Files", **Sheet**), with the paper's word for each.
+-- The kinds of a sheet (document 01, "Files", **Sheet**; document 02, request 11), with the papers' word for each.
 use Prim.Native.Nat.{ℕ}
 
 -- head
@@ -12,6 +12,14 @@ constructor = 2
 -- function
 abbrev pub function : ℕ
 function = 3
+
+-- constructor with types (document 02, request 11)
+abbrev pub typedConstructor : ℕ
+typedConstructor = 6
+
+-- function with types
+abbrev pub typedFunction : ℕ
+typedFunction = 7
 
 -- number
 abbrev pub number : ℕ

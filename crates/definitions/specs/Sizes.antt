@@ -33,6 +33,10 @@ mostFormals = 512
 abbrev pub mostFields : ℕ
 mostFields = 8
 
+-- document 02, request 11: "Types are 0 (number) and 1..64"
+abbrev pub mostTypes : ℕ
+mostTypes = 64
+
 -- the records of the largest translation: a head, functions, formals and nodes
 abbrev pub mostRecords : ℕ
 mostRecords = 1601

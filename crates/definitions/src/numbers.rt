@@ -66,6 +66,9 @@ pub const OVERFLOW: u16 = 20;
 // "closed"
 pub const CLOSED_READING: u16 = 21;
 
+// "ill typed"
+pub const ILL_TYPED: u16 = 22;
+
 // The outcome of a number, and of a constructor.
 pub const NUMBER: u16 = 0;
 
@@ -75,11 +78,14 @@ pub const CONSTRUCTOR: u16 = 100;
 pub fn is_refusal(n: u16) -> bool
     ensures { λ r. ⌜ r ≡ isRefusal n ⌝ }
 {
-    if n == CLOSED_READING {
-        return true;
-    }
     if n < TRUNCATED {
         return false;
     }
-    n <= BAD_ALLOWANCE
+    if n <= BAD_ALLOWANCE {
+        return true;
+    }
+    if n < CLOSED_READING {
+        return false;
+    }
+    n <= ILL_TYPED
 }

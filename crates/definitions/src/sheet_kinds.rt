@@ -5,6 +5,10 @@ pub const HEAD: u16 = 1;
 pub const CONSTRUCTOR: u16 = 2;
 // "function"
 pub const FUNCTION: u16 = 3;
+// "constructor" and "function", with types
+pub const TYPED_CONSTRUCTOR: u16 = 6;
+
+pub const TYPED_FUNCTION: u16 = 7;
 // "number"
 pub const NUMBER: u16 = 16;
 // "reading"

@@ -20,6 +20,9 @@ pub const MOST_FORMALS: usize = 512;
 // "arity 0..8", "parameters 0..8".
 pub const MOST_FIELDS: usize = 8;
 
+// Document 02, request 11: "Types are 0 (number) and 1..64".
+pub const MOST_TYPES: usize = 64;
+
 // The records of the largest translation: one head, 64 functions, 512 formals, 1,024 nodes. A sheet has fewer.
 pub const MOST_RECORDS: usize = 1601;
 

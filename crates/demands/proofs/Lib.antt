@@ -24,3 +24,5 @@ pub mod RememberedValues
 pub mod VisitedOnce
 pub mod GivenBack
 pub mod DriverView
+pub mod Typed
+pub mod TypedSheets

@@ -1,5 +1,5 @@
 -- An accepted sheet's own answer for a caller in C, as the record holds it.
-use mathlib.Core.Path.{_≡_, _∙_}
+use mathlib.Core.Path.{_≡_, sym, _∙_}
 use Prim.Native.Nat.{ℕ}
 use mathlib.Core.List.{List, _++_}
 use mathlib.Core.Bool.{true}
@@ -17,6 +17,7 @@ use Rattle.definitions.specs.declared.Verdict.{Verdict}
 use Rattle.definitions.specs.declared.Verdict.the-variants.{Accepted}
 use Rattle.laws.proofs.ByteFiles.{Bytes, bytes-below}
 use Rattle.agreement.specs.Meaning.{OwnAnswer}
+use Rattle.agreement.specs.Answers.{answerOutcome}
 use Rattle.join.specs.Promise.{joinAnswer}
 use Rattle.zifnora_c.specs.Codes.{codeNumber, codeValue}
 use Rattle.zifnora_c.specs.Promise.{TranslatesC, RunsInto, RunsC, RunsForHirerC, JoinsC}
@@ -35,9 +36,16 @@ pub translation-bytes : (sheet : List ℕ) → Bytes (translation sheet)
 unfolding translation translationBy
 translation-bytes sheet = bytes-below (translationWords (equalTrees sheet) sheet)
 
--- demand 3 of a record
+-- this outcome is that of the sheet's own answer
+pub record OwnOutcome (sheet : List ℕ) (rs : List ℤ) (n : ℕ) : Type 0 where
+  pub answer : Outcome
+  pub own : OwnAnswer sheet rs answer
+  pub is : answer .outcome ≡ n
+
+-- demand 3 of a record; the outcome is read back whatever the readings
 pub record FaithfulInC (sheet : List ℕ) (rs : List ℤ) (room′ : List ℕ) (untouched : Type 0) : Type 0 where
   pub own : SignedReadings rs → isAnswer (recorded room′ .outcome) ≡ true → OwnAnswer sheet rs (recorded room′)
+  pub outcome : isAnswer (recorded room′ .outcome) ≡ true → OwnOutcome sheet rs (recorded room′ .outcome)
   pub none : ((a : Outcome) → ¬ OwnAnswer sheet rs a) → StoppedOrRefusedInC room′ untouched
 
 -- the record of an answer that comes after a verdict
@@ -50,13 +58,19 @@ module _ (sheet : List ℕ) (accepted : sheetVerdict sheet ≡ Accepted) (rs : L
       let f = after-fits (translation sheet) rs (translation-bytes sheet) signed steps nesting cellsAllowed v numbered h in
       rw (answer-is _ untouched met room′ rest written f) (after-own sheet accepted rs steps nesting cellsAllowed v numbered h)
 
+  outcome-recorded : isAnswer (recorded room′ .outcome) ≡ true → OwnOutcome sheet rs (recorded room′ .outcome)
+  unfolding answerOutcome
+  outcome-recorded i =
+      let e = outcome-is _ untouched met room′ rest written in
+      record { answer = _; own = after-own sheet accepted rs steps nesting cellsAllowed v numbered (rw e at i); is = sym e }
+
   none-recorded : ((a : Outcome) → ¬ OwnAnswer sheet rs a) → StoppedOrRefusedInC room′ untouched
   none-recorded none =
       recorded-unanswered _ untouched met room′ rest written
       (unanswered _ untouched (λ h. none _ (after-own sheet accepted rs steps nesting cellsAllowed v numbered h)) met)
 
   pub faithful-recorded : FaithfulInC sheet rs room′ untouched
-  faithful-recorded = record { own = own-recorded; none = none-recorded }
+  faithful-recorded = record { own = own-recorded; outcome = outcome-recorded; none = none-recorded }
 
 -- a run of the bytes that were handed over
 module _ (sheet : List ℕ) (accepted : sheetVerdict sheet ≡ Accepted) (rs : List ℤ) (steps nesting cellsAllowed : ℕ) (v : Verdict) (numbered : NumberedIn v)

@@ -21,12 +21,19 @@ use Rattle.definitions.specs.AnswerRecord.{recorded}
 use Rattle.definitions.specs.declared.Verdict.the-variants.{Accepted}
 use Rattle.readback.proofs.Records.{translation-readings}
 use Rattle.agreement.specs.Meaning.{OwnAnswer}
-use Rattle.batch.specs.Promise.{rowsVerdict, rowsRecords}
+use Rattle.definitions.specs.declared.Written.the-variants.{Length}
+use Rattle.translator.specs.Promise.{Translates}
+use Rattle.batch.specs.Promise.{rowsVerdict, rowsRecords, RunsRows}
+use Rattle.zifnora_c.specs.Codes.{codeNumber, codeValue}
+use Rattle.zifnora_c.specs.Promise.{TranslatesC, RunsRowsC}
 use Rattle.demands.specs.InC as InC
 use Rattle.demands.specs.InC.{SignedReadings, StoppedOrRefusedInC}
 use Rattle.demands.specs.Rows.{rowRecorded}
+use Rattle.demands.proofs.Refusals.{batch-numbered}
+use Rattle.demands.proofs.Handing.{handed, not-refused-by}
+use Rattle.demands.proofs.HandingInC.{handed-in-C, not-refused-in-C}
 use Rattle.demands.proofs.Values.{zero-fits}
-use Rattle.demands.proofs.OwnInC.{FaithfulInC, faithful-recorded}
+use Rattle.demands.proofs.OwnInC.{OwnOutcome, FaithfulInC, faithful-recorded}
 use Rattle.demands.proofs.RunningRows.{in-place}
 use Rattle.demands.proofs.MeetingRows.{rule-met}
 
@@ -49,6 +56,7 @@ stopped (InC.StoppedOrRefusedInC.refuses h u) = absurd u
 -- demand 3 of row i
 pub record FaithfulRow (sheet : List ℕ) (rs : List ℤ) (room′ : List ℕ) (i : ℕ) : Type 0 where
   pub own : SignedReadings rs → isAnswer (rowRecorded room′ i .outcome) ≡ true → OwnAnswer sheet (rowOf sheet rs i) (rowRecorded room′ i)
+  pub outcome : isAnswer (rowRecorded room′ i .outcome) ≡ true → OwnOutcome sheet (rowOf sheet rs i) (rowRecorded room′ i .outcome)
   pub none : ((a : Outcome) → ¬ OwnAnswer sheet (rowOf sheet rs i) a) → isStop (rowRecorded room′ i .outcome) ≡ true
 
 module _ (sheet : List ℕ) (accepted : sheetVerdict sheet ≡ Accepted) (rows : ℕ) (rs : List ℤ) (steps nesting cellsAllowed : ℕ) (before room room′ : List ℕ)
@@ -65,7 +73,26 @@ module _ (sheet : List ℕ) (accepted : sheetVerdict sheet ≡ Accepted) (rows :
       let s = in-place (translation sheet) rows rs steps nesting cellsAllowed before room running i h room′ records in
       faithful-recorded sheet accepted row steps nesting cellsAllowed Accepted tt ⊥ (rule-met (translation sheet) row steps nesting cellsAllowed) (drop (i * answerSize) room′) (s .rest) (s .is)
 
-  pub row-faithful : FaithfulRow sheet rs room′ i
+  row-faithful : FaithfulRow sheet rs room′ i
   row-faithful =
       let f = subst (λ (row : List ℤ). FaithfulInC sheet row (drop (i * answerSize) room′) ⊥) same-row faithful in
-      record { own = λ signed. f .own (row-signed sheet rs i signed); none = λ none. stopped (f .none none) }
+      record { own = λ signed. f .own (row-signed sheet rs i signed); outcome = f .outcome; none = λ none. stopped (f .none none) }
+
+-- rows of a batch that wrote its records, run on the bytes that the translator wrote, unchanged
+pub batch-faithful : (sheet out : List ℕ) (n : ℕ) (out′ : List ℕ) → Translates sheet out (Length n) out′
+    → (rows : ℕ) (rs : List ℤ) (steps nesting cellsAllowed : ℕ) (before room : List ℕ) (m : ℕ) (after room′ : List ℕ)
+    → RunsRows (take n out′) rows rs steps nesting cellsAllowed before room (Length m) after room′ → (i : ℕ) → i < rows → FaithfulRow sheet rs room′ i
+batch-faithful sheet out n out′ translated rows rs steps nesting cellsAllowed before room m after room′ batch i h =
+    let t = handed sheet out n out′ translated in
+    let runs = rw (t .is) at batch in
+    row-faithful sheet (t .accepted) rows rs steps nesting cellsAllowed before room room′ (not-refused-by _ _ (runs .answer)) (runs .records) i h
+
+pub batch-faithful-in-C : (sheet out : List ℕ) (code : ℕ) (out′ : List ℕ) → TranslatesC sheet out code out′ → codeNumber code ≡ 0
+    → (rows : ℕ) (rs : List ℤ) (steps nesting cellsAllowed : ℕ) (before room : List ℕ) (code′ : ℕ) (after room′ : List ℕ)
+    → RunsRowsC (take (codeValue code) out′) rows rs steps nesting cellsAllowed before room code′ after room′ → codeNumber code′ ≡ 0
+    → (i : ℕ) → i < rows → FaithfulRow sheet rs room′ i
+batch-faithful-in-C sheet out code out′ translated not-refused rows rs steps nesting cellsAllowed before room code′ after room′ batch written i h =
+    let t = handed-in-C sheet out code out′ translated not-refused in
+    let runs = rw (t .is) at batch in
+    let running = not-refused-in-C _ _ (batch-numbered _ rows rs nesting cellsAllowed (length before) (length room)) (runs .answer) written in
+    row-faithful sheet (t .accepted) rows rs steps nesting cellsAllowed before room room′ running (runs .records) i h

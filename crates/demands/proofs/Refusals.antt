@@ -2,15 +2,17 @@
 use mathlib.Core.Path.{_≡_, refl}
 use Prim.Native.Nat.{ℕ, zero, suc}
 use mathlib.Core.List.{List}
-use mathlib.Core.Bool.{Bool, true, false}
+use mathlib.Core.Bool.{Bool, true, false, cond}
 use lib.IntN.{ℤ}
 use Rattle.definitions.specs.Ranges.{within}
-use Rattle.definitions.specs.Numbers.{truncated, oversize, badRecord, badCount, outOfRange, badTree, badArguments, shortOutput, badReadings, badAllowance, closedReading, isRefusal}
+use Rattle.definitions.specs.Numbers.{truncated, oversize, badRecord, badCount, outOfRange, badTree, badArguments, shortOutput, badReadings, badAllowance, closedReading, illTyped, isRefusal}
 use Rattle.definitions.specs.Verdicts.{_andThen_, require, firstOf}
-use Rattle.definitions.specs.Layouts.{due, nodes}
+use Rattle.definitions.specs.Layouts.{isTyped, due, nodes}
 use Rattle.definitions.specs.Shape.{shapeAt, shape, fileShape}
 use Rattle.definitions.specs.References.{references}
-use Rattle.definitions.specs.Checks.{arguments, tree, pattern, sheetVerdict, translationVerdict}
+use Rattle.definitions.specs.SheetRules.{arguments, tree, pattern}
+use Rattle.definitions.specs.Types.{typing, types}
+use Rattle.definitions.specs.Checks.{sheetVerdict, translationVerdict}
 use Rattle.definitions.specs.Translate.{translationRefusal}
 use Rattle.definitions.specs.Run.{runVerdict}
 use Rattle.definitions.specs.declared.Layout.{Layout}
@@ -31,6 +33,10 @@ either : (v w : Verdict) → NumberedIn v → NumberedIn w → NumberedIn (v and
 unfolding _andThen_
 either Accepted w h g = g
 either (Refused n p) w h g = h
+
+chosen : (t : Bool) (v w : Verdict) → NumberedIn v → NumberedIn w → NumberedIn (cond t v w)
+chosen true v w h g = h
+chosen false v w h g = g
 
 required : (t : Bool) (n p : ℕ) → isRefusal n ≡ true → NumberedIn (require t n p)
 unfolding require
@@ -62,13 +68,18 @@ pub translation-numbered : (b : List ℕ) → NumberedIn (translationVerdict b)
 unfolding translationVerdict isRefusal within
 translation-numbered b = either _ _ (file-numbered Translation b) (each (due b) (references b) (references-numbered b))
 
+types-numbered : (b : List ℕ) → NumberedIn (types b)
+unfolding types typing isRefusal within
+types-numbered b = chosen (isTyped b) _ Accepted (each (nodes b) _ (λ k. required _ illTyped _ refl)) tt
+
 pub sheet-numbered : (b : List ℕ) → NumberedIn (sheetVerdict b)
 unfolding sheetVerdict arguments tree pattern isRefusal within
 sheet-numbered b =
-    either _ _ (either _ _ (either _ _ (file-numbered Sheet b)
+    either _ _ (either _ _ (either _ _ (either _ _ (file-numbered Sheet b)
     (each (due b) _ (λ r. either _ _ (references-numbered b r) (required _ badArguments r refl))))
     (each (nodes b) _ (λ k. required _ badTree _ refl)))
-    (each (nodes b) _ (λ k. required _ badTree _ refl))
+    (each (nodes b) _ (λ k. required _ badTree _ refl)))
+    (types-numbered b)
 
 pub translating-numbered : (b : List ℕ) (room : ℕ) → NumberedIn (translationRefusal b room)
 unfolding translationRefusal isRefusal within

@@ -44,13 +44,11 @@ use Rattle.zifnora_c.specs.Promise.{translationCode, TranslatesC, RunsC, RunsRo
 use Rattle.demands.specs.Demands.{TranslatingMet}
 use Rattle.demands.specs.InC.{SignedReadings}
 use Rattle.demands.specs.Rows.{rowRecorded, RowsMet, RowsMetInC, RowExact}
-use Rattle.demands.proofs.Refusals.{batch-numbered}
 use Rattle.demands.proofs.Meeting.{length-met}
-use Rattle.demands.proofs.Handing.{handed, not-refused-by}
-use Rattle.demands.proofs.HandingInC.{handed-in-C, not-refused-in-C}
+use Rattle.demands.proofs.Handing.{not-refused-by}
 use Rattle.demands.proofs.RunningRows.{row-exact}
 use Rattle.demands.proofs.MeetingRows.{batch-met, batch-met-in-C, no-rows}
-use Rattle.demands.proofs.OwnRows.{FaithfulRow, row-faithful}
+use Rattle.demands.proofs.OwnRows.{FaithfulRow, batch-faithful, batch-faithful-in-C}
 use Rattle.demands.proofs.SingleRuns.{cells-of-runs, records-of-runs}
 use Rattle.demands.proofs.Demands.{demand-3-own, demand-3-exactly, demand-3-own-in-C}
 
@@ -92,10 +90,7 @@ module _ (sheet out : List ℕ) (n : ℕ) (out′ : List ℕ) (translated : Tran
     (rows : ℕ) (rs : List ℤ) (steps nesting cellsAllowed : ℕ) (before room : List ℕ) (m : ℕ) (after room′ : List ℕ)
     (batch : RunsRows (take n out′) rows rs steps nesting cellsAllowed before room (Length m) after room′) (i : ℕ) (h : i < rows) where
   faithful : FaithfulRow sheet rs room′ i
-  faithful =
-      let t = handed sheet out n out′ translated in
-      let runs = rw (t .is) at batch in
-      row-faithful sheet (t .accepted) rows rs steps nesting cellsAllowed before room room′ (not-refused-by _ _ (runs .answer)) (runs .records) i h
+  faithful = batch-faithful sheet out n out′ translated rows rs steps nesting cellsAllowed before room m after room′ batch i h
 
   -- each row's number, constructor or run fault is the sheet's own on that row's readings; a value is read back where "Readings are signed
   -- 32-bit numbers."
@@ -113,10 +108,7 @@ module _ (sheet out : List ℕ) (code : ℕ) (out′ : List ℕ) (translated : T
     (i : ℕ) (h : i < rows) where
   faithful-in-C : FaithfulRow sheet rs room′ i
   faithful-in-C =
-      let t = handed-in-C sheet out code out′ translated not-refused in
-      let runs = rw (t .is) at batch in
-      let running = not-refused-in-C _ _ (batch-numbered _ rows rs nesting cellsAllowed (length before) (length room)) (runs .answer) written in
-      row-faithful sheet (t .accepted) rows rs steps nesting cellsAllowed before room room′ running (runs .records) i h
+      batch-faithful-in-C sheet out code out′ translated not-refused rows rs steps nesting cellsAllowed before room code′ after room′ batch written i h
 
   pub request-1-own-in-C : SignedReadings rs → isAnswer (rowRecorded room′ i .outcome) ≡ true → OwnAnswer sheet (rowOf sheet rs i) (rowRecorded room′ i)
   request-1-own-in-C = faithful-in-C .own

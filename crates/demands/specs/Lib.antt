@@ -3,3 +3,4 @@ pub mod InC
 pub mod Rows
 pub mod Hirer
 pub mod DriverView
+pub mod TypedSheets

@@ -1,4 +1,4 @@
-// The table of kinds: least, step and greatest length, by kind. A kind that is in no row of document 01 allows no length.
+// The table of kinds: least, step and greatest length, by kind. A number that is no kind allows no length.
 ghost use mathlib.Core.Path.{_≡_};
 ghost use Rattle.definitions.specs.Kinds.{rowOf, allows};
 ghost use Rattle.file_kinds.specs.Rows.{RowsOf};
@@ -18,7 +18,7 @@ const GREATEST: usize = 2;
 // The row of a number that is no kind: no length is from 1 to 0.
 const NONE: Row = [1, 1, 0];
 
-// The rows by kind, in document 01's order.
+// The rows by kind: document 01's, and 6 and 7 of document 02, request 11.
 const ROWS: Rows = [
     NONE,
     [12, 2, 12], // 1: head
@@ -26,8 +26,8 @@ const ROWS: Rows = [
     [8, 2, 8], // 3: function
     NONE,
     NONE,
-    NONE,
-    NONE,
+    [8, 2, 24], // 6: constructor with types
+    [10, 2, 26], // 7: function with types
     NONE,
     NONE,
     NONE,

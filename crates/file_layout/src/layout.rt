@@ -1,7 +1,7 @@
 // The parts of a file: the head's counts, the sections of records and the runs of nodes.
 ghost use mathlib.Core.Path.{_≡_};
 ghost use Prim.Native.Nat.{_≤_};
-ghost use Rattle.definitions.specs.Layouts.{readings, items, functions, nodes, firstItem, firstFunction, firstNode, due, headKind, sectionKind, nodeKind, isDue, countField};
+ghost use Rattle.definitions.specs.Layouts.{readings, items, functions, nodes, isTyped, firstItem, firstFunction, firstNode, due, headKind, constructorKind, functionKind, sectionKind, nodeKind, isDue, countField};
 ghost use Rattle.definitions.specs.Shape.{fileLimit, itemLimit};
 use definitions::Layout;
 use definitions::sheet_kinds;
@@ -78,15 +78,46 @@ fn head_kind(y: Layout) -> u16
     }
 }
 
+// Whether a sheet is typed: the kind of the record after the head, which has 12 bytes.
+pub fn is_typed(b: &[u8]) -> bool
+    ensures { λ t. ⌜ t ≡ isTyped (now (b .entry)) ⌝ }
+{
+    let k = word(b, 14);
+    if k == sheet_kinds::TYPED_CONSTRUCTOR {
+        return true;
+    }
+    k == sheet_kinds::TYPED_FUNCTION
+}
+
+fn constructor_kind(b: &[u8]) -> u16
+    ensures { λ k. ⌜ k ≡ constructorKind (now (b .entry)) ⌝ }
+{
+    if is_typed(b) {
+        sheet_kinds::TYPED_CONSTRUCTOR
+    } else {
+        sheet_kinds::CONSTRUCTOR
+    }
+}
+
+fn function_kind(b: &[u8]) -> u16
+    ensures { λ k. ⌜ k ≡ functionKind (now (b .entry)) ⌝ }
+{
+    if is_typed(b) {
+        sheet_kinds::TYPED_FUNCTION
+    } else {
+        sheet_kinds::FUNCTION
+    }
+}
+
 fn section_kind(y: Layout, b: &[u8], r: usize) -> u16
     ensures { λ k. ⌜ k ≡ sectionKind y (now (b .entry)) r ⌝ }
 {
     match y {
         Layout::Sheet => {
             if r <= items(b) as usize {
-                sheet_kinds::CONSTRUCTOR
+                constructor_kind(b)
             } else {
-                sheet_kinds::FUNCTION
+                function_kind(b)
             }
         }
         Layout::Translation => {

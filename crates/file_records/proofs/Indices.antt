@@ -30,9 +30,9 @@ pub record-past : (b starts rec : List ℕ) (r : ℕ) → mostRecords ≤ r → 
 record-past b starts rec r h e = e ∙ ap (recordAt b) (start-past starts r h)
 
 -- a field of the record that an index shows a number of records after a first one
-pub shown-field : (b starts : List ℕ) {first g : ℕ} (i : ℕ) {x : ℕ} {rec : List ℕ} → g ≡ first → rec ≡ recordAt b (startIn starts (g + i)) → x ≡ field rec 0
-    → x ≡ field (recordAt b (startIn starts (first + i))) 0
-shown-field b starts i e f h = h ∙ rw (f, e) refl
+pub shown-field : (b starts : List ℕ) {first g : ℕ} (i j : ℕ) {x : ℕ} {rec : List ℕ} → g ≡ first → rec ≡ recordAt b (startIn starts (g + i)) → x ≡ field rec j
+    → x ≡ field (recordAt b (startIn starts (first + i))) j
+shown-field b starts i j e f h = h ∙ rw (f, e) refl
 
 -- the record at an entry's place is the record of that number
 pub same-record : (b starts : List ℕ) (n r : ℕ) → Indexed b starts n → r < n → recordAt b (startIn starts r) ≡ recordOf b r

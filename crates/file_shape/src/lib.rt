@@ -1,4 +1,6 @@
 // The checks of both files up to the left-over bytes, in one walk that also fills the index.
+mod types;
+
 ghost use mathlib.Core.Path.{_≡_};
 ghost use Prim.Native.Nat.{_+_, _≤_};
 ghost use lib.ListN.{length};
@@ -6,9 +8,11 @@ ghost use Rattle.definitions.specs.Sizes.{mostRecords};
 ghost use Rattle.definitions.specs.Records.{field};
 ghost use Rattle.definitions.specs.Lists.{sumOf};
 ghost use Rattle.definitions.specs.Layouts.{functions, firstFunction, functionRecord, due};
-ghost use Rattle.definitions.specs.Shape.{fileLimit, headCounts, runCounts, parameterCounts, counts, operatorCode, shapeAt};
+ghost use Rattle.definitions.specs.Shape.{fileLimit, headCounts, runCounts, parameterCounts, typedFunctionCounts, counts, operatorCode, shapeAt};
 ghost use Rattle.file_records.specs.Index.{Indexed};
 ghost use Rattle.file_shape.specs.Walks.{WalkAt, Walked};
+use crate::types::typed_constructor_counts;
+use crate::types::types_right;
 use definitions::Layout;
 use definitions::Verdict;
 use definitions::numbers;
@@ -111,6 +115,21 @@ fn parameter_counts(b: &[u8], starts: &Starts, r: usize, rec: &[u8]) -> bool
     true
 }
 
+// A typed function's counts.
+fn typed_function_counts(y: Layout, b: &[u8], starts: &Starts, r: usize, rec: &[u8]) -> bool
+    requires { ⌜ Indexed (now b) (now starts) (r + 1) ⌝ }
+    ensures { λ t. ⌜ t ≡ typedFunctionCounts y (now (b .entry)) r (now (rec .entry)) ⌝ }
+{
+    let n = field(rec, 0) as usize;
+    if MOST_FIELDS < n {
+        return false;
+    }
+    if !run_counts(y, b, starts, r, rec) {
+        return false;
+    }
+    types_right(rec, 3 + n)
+}
+
 // The counts of record `r`.
 fn counts(y: Layout, b: &[u8], starts: &Starts, r: usize, rec: &[u8]) -> bool
     requires { ⌜ Indexed (now b) (now starts) (r + 1) ⌝ }
@@ -128,6 +147,12 @@ fn counts(y: Layout, b: &[u8], starts: &Starts, r: usize, rec: &[u8]) -> bool
             return false;
         }
         return run_counts(y, b, starts, r, rec);
+    }
+    if k == sheet_kinds::TYPED_CONSTRUCTOR {
+        return typed_constructor_counts(rec);
+    }
+    if k == sheet_kinds::TYPED_FUNCTION {
+        return typed_function_counts(y, b, starts, r, rec);
     }
     if k == translation_kinds::FUNCTION {
         if !parameter_counts(b, starts, r, rec) {

@@ -1,3 +1,1 @@
 pub mod Readers
-pub mod Seen
-pub mod Clauses

@@ -9,7 +9,6 @@ ghost use Rattle.definitions.specs.Verdicts.{firstOf};
 ghost use Rattle.definitions.specs.declared.Layout.the-variants.{Translation};
 ghost use Rattle.file_records.specs.Index.{Opened};
 ghost use Rattle.format.specs.Readers.{LentTables, ReadTranslation};
-use crate::runs::run_ends;
 use definitions::Layout;
 use definitions::Verdict;
 use definitions::numbers;
@@ -27,6 +26,7 @@ use file_records::records::field;
 use file_records::records::indexed;
 use file_records::records::kind;
 use file_references::references::children_below;
+use file_runs::run_ends;
 use file_shape::file_shape;
 
 // What reading a translation gives: the verdict, where its records start, and where the runs of its functions end. Of a

@@ -11,7 +11,7 @@ use Rattle.definitions.specs.Records.{recordOf, kindOf, field, fieldCount}
 use Rattle.definitions.specs.Verdicts.{_andThen_}
 use Rattle.definitions.specs.Layouts.{functions, items, firstFunction}
 use Rattle.definitions.specs.References.{parameters, arity, namesInRange, references}
-use Rattle.definitions.specs.Checks.{argumentsMatch, arguments}
+use Rattle.definitions.specs.SheetRules.{argumentsMatch, arguments}
 use Rattle.definitions.specs.declared.Layout.the-variants.{Sheet}
 use Rattle.definitions.specs.declared.Verdict.the-variants.{Accepted, Refused}
 use Rattle.laws.proofs.Verdicts.{then-accepted, then-refused, require-true, require-false}

@@ -5,9 +5,9 @@ use mathlib.Core.Bool.{Bool, true, false, _||_, or-true, true≢false}
 use lib.Dec.{eqb}
 use native.Mathlib.Omega.{arith}
 use borrow.Author.Tests.{ne-eqb, eqb-true}
-use Rattle.definitions.specs.Numbers.{truncated, badAllowance, noStep, noCell, numberWanted, overflow, closedReading, isNumber, isConstructor, isRefusal, isStop, isFault, isAnswer}
+use Rattle.definitions.specs.Numbers.{truncated, badAllowance, noStep, noCell, numberWanted, overflow, closedReading, illTyped, isNumber, isConstructor, isRefusal, isStop, isFault, isAnswer}
 use Rattle.definitions.specs.Ranges.{within}
-use Rattle.laws.proofs.Ranges.{within-below, within-by}
+use Rattle.laws.proofs.Ranges.{within-below, within-above, within-by}
 
 -- a number between the values and the run faults is no answer
 below-faults : (n : ℕ) → truncated ≤ n → n ≤ noCell → isAnswer n ≡ false
@@ -19,30 +19,31 @@ pub stop-no-answer : (n : ℕ) → isStop n ≡ true → isAnswer n ≡ false
 unfolding isStop
 stop-no-answer n h = let w = within-by noStep noCell n h in below-faults n (omega (arith, w .least)) (w .greatest)
 
--- a refusal's number is one of the first ten, or 21
+-- a refusal's number is one of the first ten, or 21 or 22
 data Refusing (n : ℕ) : Type 0 where
   early : truncated ≤ n → n ≤ badAllowance → Refusing n
-  closed : n ≡ closedReading → Refusing n
+  late : closedReading ≤ n → n ≤ illTyped → Refusing n
 
-refusing-by : (n : ℕ) (x y : Bool) → within truncated badAllowance n ≡ x → eqb n closedReading ≡ y → (x || y) ≡ true → Refusing n
+refusing-by : (n : ℕ) (x y : Bool) → within truncated badAllowance n ≡ x → within closedReading illTyped n ≡ y → (x || y) ≡ true → Refusing n
 refusing-by n true y e f h = let w = within-by truncated badAllowance n e in early (w .least) (w .greatest)
-refusing-by n false true e f h = closed (eqb-true n closedReading f)
+refusing-by n false true e f h = let w = within-by closedReading illTyped n f in late (w .least) (w .greatest)
 refusing-by n false false e f h = absurd (true≢false (sym h))
 
 refusing : (n : ℕ) → isRefusal n ≡ true → Refusing n
 unfolding isRefusal
-refusing n h = refusing-by n (within truncated badAllowance n) (eqb n closedReading) refl refl h
+refusing n h = refusing-by n (within truncated badAllowance n) (within closedReading illTyped n) refl refl h
 
-closed-no-answer : isAnswer closedReading ≡ false
-unfolding isAnswer isFault within
-closed-no-answer = refl
+above-faults : (n : ℕ) → closedReading ≤ n → n ≤ illTyped → isAnswer n ≡ false
+unfolding isAnswer isFault
+above-faults n h k =
+    rw (ne-eqb n isNumber (λ e. omega arith), ne-eqb n isConstructor (λ e. omega arith), within-above numberWanted overflow n (omega arith)) refl
 
 pub refusal-no-answer : (n : ℕ) → isRefusal n ≡ true → isAnswer n ≡ false
 refusal-no-answer n h = from (refusing n h)
   where
     from : Refusing n → isAnswer n ≡ false
     from (early l g) = below-faults n l (omega (arith, g))
-    from (closed e) = rw e closed-no-answer
+    from (late l g) = above-faults n l g
 
 pub answer-no-stop : (n : ℕ) → isAnswer n ≡ true → isStop n ≡ false
 answer-no-stop n h = from (isStop n) refl
@@ -77,4 +78,4 @@ refusal-range n h = from (refusing n h)
   where
     from : Refusing n → (truncated ≤ n) × (n ≤ isConstructor)
     from (early l g) = (l, omega (arith, g))
-    from (closed e) = (omega (arith, e), omega (arith, e))
+    from (late l g) = (omega (arith, l), omega (arith, g))

@@ -7,6 +7,8 @@ pub mod Classes
 pub mod Verdicts
 pub mod KindRows
 pub mod Shape
+pub mod TypedCounts
+pub mod Types
 pub mod Runs
 pub mod Tests
 pub mod References

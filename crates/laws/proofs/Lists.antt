@@ -1,7 +1,7 @@
 -- Laws of sums, counts and tests over the first n numbers.
-use mathlib.Core.Path.{_≡_, refl, _∙_}
+use mathlib.Core.Path.{_≡_, refl, ap₂, _∙_}
 use Prim.Native.Nat.{ℕ, zero, suc, _+_, _-_, _<_}
-use mathlib.Core.Bool.{Bool, true, false, cond, and-eq-true-iff, and-false}
+use mathlib.Core.Bool.{Bool, true, false, cond, _&&_, and-eq-true-iff, and-false}
 use native.Mathlib.Omega.{arith}
 use native.Mathlib.Numerals.{add-one}
 use native.Mathlib.Nat.{not-suc-le-zero, zero-add, suc-add}
@@ -76,6 +76,12 @@ pub all-pass : (n : ℕ) (test : ℕ → Bool) → ((i : ℕ) → i < n → test
 unfolding allOf
 all-pass zero test e = refl
 all-pass (suc n) test e = rw (all-pass n test (λ i h. e i (omega arith)), e n (omega arith)) refl
+
+-- alike tests pass alike
+pub all-same : (n : ℕ) (test to : ℕ → Bool) → ((i : ℕ) → i < n → test i ≡ to i) → allOf n test ≡ allOf n to
+unfolding allOf
+all-same zero test to e = refl
+all-same (suc n) test to e = ap₂ _&&_ (all-same n test to (λ i h. e i (omega arith))) (e n (omega arith))
 
 -- lists whose elements are alike
 pub listed-same {ℓ} : {A : Type ℓ} (n : ℕ) (at to : ℕ → A) → ((i : ℕ) → i < n → at i ≡ to i) → listed n at ≡ listed n to

@@ -12,20 +12,25 @@ use Rattle.definitions.specs.Numbers.{outOfRange}
 use Rattle.definitions.specs.Records.{recordOf, kindOf, field}
 use Rattle.definitions.specs.Lists.{allOf}
 use Rattle.definitions.specs.Verdicts.{require}
-use Rattle.definitions.specs.Layouts.{readings, items, functions, nodes, firstNode, sectionKind, isDue, ownerOf}
+use Rattle.definitions.specs.Layouts.{isTyped, readings, items, functions, nodes, firstNode, constructorKind, functionKind, sectionKind, isDue, ownerOf}
 use Rattle.definitions.specs.References.{parameters, children, child, clauses, clauseConstructor, namesInRange, inRange, references}
 use Rattle.definitions.specs.declared.Layout.the-variants.{Sheet, Translation}
 use Rattle.definitions.specs.declared.Verdict.the-variants.{Accepted, Refused}
 
 -- the kinds of the two files lie apart
 module _ (b : List ℕ) (r k : ℕ) where
-  sheet-section : (t : Bool) → eqb k (cond t 2 3) ≡ true → k ≤ SheetKinds.caseOf
-  sheet-section true e = omega (arith, eqb-true k 2 e)
-  sheet-section false e = omega (arith, eqb-true k 3 e)
+  sheet-section : (t u : Bool) → eqb k (cond t (cond u 6 2) (cond u 7 3)) ≡ true → k ≤ SheetKinds.caseOf
+  sheet-section true true e = omega (arith, eqb-true k 6 e)
+  sheet-section true false e = omega (arith, eqb-true k 2 e)
+  sheet-section false true e = omega (arith, eqb-true k 7 e)
+  sheet-section false false e = omega (arith, eqb-true k 3 e)
 
-  sheet-due : (t u : Bool) → cond t (eqb k 1) (cond u (eqb k (cond (leb r (items b)) 2 3)) (leb SheetKinds.number k && leb k SheetKinds.caseOf)) ≡ true → k ≤ SheetKinds.caseOf
+  sheet-due : (t u : Bool)
+      → cond t (eqb k 1) (cond u (eqb k (cond (leb r (items b)) (constructorKind b) (functionKind b))) (leb SheetKinds.number k && leb k SheetKinds.caseOf)) ≡ true
+      → k ≤ SheetKinds.caseOf
+  unfolding constructorKind functionKind
   sheet-due true u e = omega (arith, eqb-true k 1 e)
-  sheet-due false true e = sheet-section (leb r (items b)) e
+  sheet-due false true e = sheet-section (leb r (items b)) (isTyped b) e
   sheet-due false false e = leb-true k SheetKinds.caseOf (and-eq-true-iff (leb SheetKinds.number k) (leb k SheetKinds.caseOf) .0 e .1)
 
   pub sheet-kind : isDue Sheet b r k ≡ true → k ≤ SheetKinds.caseOf

@@ -18,9 +18,9 @@ use Rattle.definitions.specs.Records.{recordAt, kindOf, field}
 use Rattle.definitions.specs.Kinds.{rowOf, allows}
 use Rattle.definitions.specs.Lists.{sumOf}
 use Rattle.definitions.specs.Verdicts.{_andThen_, require}
-use Rattle.definitions.specs.Layouts.{readings, items, functions, nodes, firstItem, firstFunction, firstNode, headKind, sectionKind, nodeKind, isDue}
+use Rattle.definitions.specs.Layouts.{readings, items, functions, nodes, isTyped, firstItem, firstFunction, firstNode, headKind, constructorKind, functionKind, sectionKind, nodeKind, isDue}
 use Rattle.definitions.specs.Layouts.{functionRecord, countField, nodeCount, parameterCount}
-use Rattle.definitions.specs.Shape.{itemLimit, headCounts, runCounts, parameterCounts, counts, operatorCode, shapeAt}
+use Rattle.definitions.specs.Shape.{itemLimit, headCounts, runCounts, parameterCounts, typedConstructorCounts, typedFunctionCounts, counts, operatorCode, shapeAt}
 use Rattle.definitions.specs.Ranges.{within}
 use Rattle.laws.proofs.Ranges.{within-both, within-below, within-above}
 use Rattle.definitions.specs.declared.Layout.{Layout}
@@ -40,14 +40,42 @@ function-of-sheet y b n e f = rw (e, f) refl
 pub function-of-translation : (y : Layout) (b : List ℕ) → y ≡ Translation → 1 ≡ firstFunction y b
 function-of-translation y b e = rw e refl
 
--- the kind of a record before the nodes
-pub section-constructor : (y : Layout) (b : List ℕ) (r n : ℕ) → y ≡ Sheet → n ≡ items b → r ≤ n → 2 ≡ sectionKind y b r
-unfolding sectionKind
-section-constructor y b r n e f h = rw (e, ← f, le-leb r n h) refl
+-- whether a sheet is typed, by the kind that was read of the record after the head
+module _ (b : List ℕ) {k : ℕ} (ek : k ≡ word b 14) where
+  pub typed-constructor-first : k ≡ SheetKinds.typedConstructor → true ≡ isTyped b
+  unfolding isTyped
+  typed-constructor-first e = rw (← ek, e) refl
 
-pub section-sheet-function : (y : Layout) (b : List ℕ) (r n : ℕ) → y ≡ Sheet → n ≡ items b → n < r → 3 ≡ sectionKind y b r
+  pub typed-function-first : (k ≡ SheetKinds.typedConstructor → ⊥) → eqb k SheetKinds.typedFunction ≡ isTyped b
+  unfolding isTyped
+  typed-function-first e = rw (← ek, ne-eqb k SheetKinds.typedConstructor e) refl
+
+-- the kinds of constructors and functions, by whether the sheet is typed
+module _ (b : List ℕ) {t : Bool} (et : t ≡ isTyped b) where
+  pub constructor-typed : t ≡ true → SheetKinds.typedConstructor ≡ constructorKind b
+  unfolding constructorKind
+  constructor-typed e = rw (← et, e) refl
+
+  pub constructor-untyped : t ≡ false → SheetKinds.constructor ≡ constructorKind b
+  unfolding constructorKind
+  constructor-untyped e = rw (← et, e) refl
+
+  pub function-typed : t ≡ true → SheetKinds.typedFunction ≡ functionKind b
+  unfolding functionKind
+  function-typed e = rw (← et, e) refl
+
+  pub function-untyped : t ≡ false → SheetKinds.function ≡ functionKind b
+  unfolding functionKind
+  function-untyped e = rw (← et, e) refl
+
+-- the kind of a record before the nodes
+pub section-constructor : (y : Layout) (b : List ℕ) (r n k : ℕ) → y ≡ Sheet → n ≡ items b → r ≤ n → k ≡ constructorKind b → k ≡ sectionKind y b r
 unfolding sectionKind
-section-sheet-function y b r n e f h = rw (e, ← f, lt-leb r n h) refl
+section-constructor y b r n k e f h g = rw (e, ← f, le-leb r n h) g
+
+pub section-sheet-function : (y : Layout) (b : List ℕ) (r n k : ℕ) → y ≡ Sheet → n ≡ items b → n < r → k ≡ functionKind b → k ≡ sectionKind y b r
+unfolding sectionKind
+section-sheet-function y b r n k e f h g = rw (e, ← f, lt-leb r n h) g
 
 pub section-function : (y : Layout) (b : List ℕ) (r n : ℕ) → y ≡ Translation → n ≡ functions b → r ≤ n → TranslationKinds.function ≡ sectionKind y b r
 unfolding sectionKind
@@ -195,9 +223,17 @@ module _ (y : Layout) (b rec : List ℕ) (r k : ℕ) (er : r ≡ 0 → ⊥) (ek 
   unfolding counts
   counts-run t u e f h g = rw (ne-eqb r 0 er, ← ek, e, ← f, h, g) refl
 
-  pub counts-other : (k ≡ 2 → ⊥) → (k ≡ 3 → ⊥) → (k ≡ TranslationKinds.function → ⊥) → true ≡ counts y b r rec
+  pub counts-typed-constructor : (t : Bool) → k ≡ SheetKinds.typedConstructor → t ≡ typedConstructorCounts rec → t ≡ counts y b r rec
   unfolding counts
-  counts-other e f g = rw (ne-eqb r 0 er, ← ek, ne-eqb k 2 e, ne-eqb k 3 f, ne-eqb k TranslationKinds.function g) refl
+  counts-typed-constructor t e f = rw (ne-eqb r 0 er, ← ek, e, f) refl
+
+  pub counts-typed-function : (t : Bool) → k ≡ SheetKinds.typedFunction → t ≡ typedFunctionCounts y b r rec → t ≡ counts y b r rec
+  unfolding counts
+  counts-typed-function t e f = rw (ne-eqb r 0 er, ← ek, e, f) refl
+
+  pub counts-other : (k ≡ 2 → ⊥) → (k ≡ 3 → ⊥) → (k ≡ 6 → ⊥) → (k ≡ 7 → ⊥) → (k ≡ TranslationKinds.function → ⊥) → true ≡ counts y b r rec
+  unfolding counts
+  counts-other e f p q g = rw (ne-eqb r 0 er, ← ek, ne-eqb k 2 e, ne-eqb k 3 f, ne-eqb k 6 p, ne-eqb k 7 q, ne-eqb k TranslationKinds.function g) refl
 
 -- the checks of the record that starts at a place, in their order
 module _ (y : Layout) (b : List ℕ) (r at : ℕ) (ha : at ≤ length b) where

@@ -127,7 +127,9 @@ module _ (same : Labelling) (b : List ℕ) (accepted : sheetVerdict b ≡ Accept
             TranslationKinds.number) 8 (omega arith);
         allowed = allowed;
         code = code e;
-        counts = sym (counts-other Translation t rec r kind (λ p. omega (arith, p)) (sym e) (λ p. omega (arith, p, l)) (λ p. omega (arith, p, l)) (λ p. omega (arith, p, l)));
+        counts =
+            sym (counts-other Translation t rec r kind (λ p. omega (arith, p)) (sym e) (λ p. omega (arith, p, l)) (λ p. omega (arith, p, l))
+            (λ p. omega (arith, p, l)) (λ p. omega (arith, p, l)) (λ p. omega (arith, p, l)));
         named = names-there t r rec (below e) (names e);
       }
 

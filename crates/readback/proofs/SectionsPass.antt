@@ -171,6 +171,8 @@ module _ (same : Labelling) (b : List ℕ) (accepted : sheetVerdict b ≡ Accept
             (section-formal Translation t r (functions t) refl refl (omega arith)));
         allowed = row-allows (rowOf TranslationKinds.formalList) (4 + 2 * length fs) (omega arith) (omega (arith, m, n)) (omega arith);
         code = rw k refl;
-        counts = sym (counts-other Translation t rec r TranslationKinds.formalList (λ e. omega (arith, e)) (sym k) (λ e. omega (arith, e)) (λ e. omega (arith, e)) (λ e. omega (arith, e)));
+        counts =
+            sym (counts-other Translation t rec r TranslationKinds.formalList (λ e. omega (arith, e)) (sym k) (λ e. omega (arith, e)) (λ e. omega (arith, e))
+            (λ e. omega (arith, e)) (λ e. omega (arith, e)) (λ e. omega (arith, e)));
         named = names-there t r rec (formal-mention f i g) (rw k refl);
       }

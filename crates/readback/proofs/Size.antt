@@ -122,7 +122,7 @@ module _ (b : List ℕ) (accepted : sheetVerdict b ≡ Accepted) where
       ∙ sum-constant (functions b) 4
 
   -- the sheet's head, functions and nodes are within its length
-  function-length : (f : ℕ) → f < functions b → length (functionRecord Sheet b f) ≡ 8
+  function-length : (f : ℕ) → f < functions b → 8 ≤ length (functionRecord Sheet b f)
   function-length f h =
       let s = sheet-shape b accepted in
       omega (arith, record-fields Sheet b s (1 + items b + f) (omega arith), sheet-function-fields b s f h)
@@ -133,9 +133,9 @@ module _ (b : List ℕ) (accepted : sheetVerdict b ≡ Accepted) where
       let at : ℕ → ℕ = λ r. length (recordOf b r) in
       let ns = sum-parts (firstNode b) (nodes b) at in
       let fs = sum-parts (1 + items b) (functions b) at in
-      let each = sum-same (functions b) (λ f. at (1 + items b + f)) (λ f. 8) function-length ∙ sum-constant (functions b) 8 in
+      let each = sum-below (functions b) (λ f. 8) (λ f. at (1 + items b + f)) function-length in
       let head : length (recordOf b 0) ≡ 12 = omega (arith, record-fields Sheet b s 0 (omega arith), head-fields Sheet b s) in
-      omega (arith, records-fill Sheet b s, start-sum Sheet b s (due b) (omega arith), ns, fs, each, sum-term 0 (1 + items b) at (omega arith), head)
+      omega (arith, records-fill Sheet b s, start-sum Sheet b s (due b) (omega arith), ns, fs, each, sum-constant (functions b) 8, sum-term 0 (1 + items b) at (omega arith), head)
 
 module _ (same : Labelling) (b : List ℕ) (accepted : sheetVerdict b ≡ Accepted) where
   words-of-fields : (k : ℕ) → length (nodeWords same b k) ≡ 2 + length (translatedFields same b k (sheetNodeOf b k))

@@ -26,7 +26,7 @@ use Rattle.accepted.proofs.Checks.{translation-shape}
 use Rattle.accepted.proofs.TranslationNames.{formal-below, translation-call-below}
 use Rattle.file_records.specs.Index.{Indexed, Opened, startIn}
 use Rattle.file_records.proofs.Indices.{start-inside, indexed-record}
-use Rattle.format.proofs.RunTables.{entry-more}
+use Rattle.file_runs.proofs.RunTables.{entry-more}
 use Rattle.run.specs.FormalTable.{placeOf, FormalTable}
 use Rattle.run.specs.NodeTable.{tableEntries, Parts, EntryOf, NodeTable, ListEntry}
 use Rattle.run.specs.States.{Ready}

@@ -2,6 +2,7 @@ pub mod Opened
 pub mod Observed
 pub mod Starred
 pub mod Orders
+pub mod TypedSheets
 pub mod EqualCalls
 pub mod ClosedReadings
 pub mod Remembering

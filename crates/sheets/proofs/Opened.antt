@@ -8,6 +8,8 @@ use Rattle.definitions.specs.Ranges
 use Rattle.definitions.specs.Verdicts
 use Rattle.definitions.specs.Shape
 use Rattle.definitions.specs.References
+use Rattle.definitions.specs.SheetRules
+use Rattle.definitions.specs.Types
 use Rattle.definitions.specs.Checks
 use Rattle.definitions.specs.NodeFields
 use Rattle.definitions.specs.Operators
@@ -35,17 +37,20 @@ unfolding
     Bytes.word Bytes.word32 Bytes.signed Bytes.wordBytes Bytes.words32 Bytes.bytesOf
     Lists.joined Lists.listed Lists.sumOf Lists.countOf Lists.allOf Lists.lastOf Lists.firstPassing
     Records.whole Records.next Records.startOf Records.recordAt Records.recordOf Records.fieldCount
-    Layouts.sectionKind Layouts.isDue Layouts.runEnd Layouts.bodyOf Layouts.ownerOf
+    Layouts.isTyped Layouts.constructorKind Layouts.functionKind Layouts.sectionKind Layouts.isDue Layouts.runEnd Layouts.bodyOf Layouts.ownerOf
     Kinds.row Kinds.rows Kinds.rowIn Kinds.rowOf Kinds.allows
     Verdicts._andThen_ Verdicts.require Verdicts.firstOf
-    Ranges.within Shape.headCounts Shape.runCounts Shape.parameterCounts Shape.counts Shape.operatorCode Shape.shapeAt Shape.shape
+    Ranges.within Shape.headCounts Shape.runCounts Shape.parameterCounts Shape.typesRight Shape.typedConstructorCounts Shape.typedFunctionCounts
+    Shape.counts Shape.operatorCode Shape.shapeAt Shape.shape
     Shape.fileShape
     References.fromFirst References.fromSecond References.everyOther References.childCount References.childField
     References.children References.child References.clauses References.clauseConstructor References.namesInRange
     References.inRange References.references
-    Checks.argumentsMatch Checks.arguments Checks.timesChild Checks.isBody Checks.childrenRight Checks.clausesRise
-    Checks.treeRight Checks.tree Checks.parentOf Checks.clauseOf Checks.clauseWithin Checks.belowArity
-    Checks.patternRight Checks.pattern Checks.sheetVerdict Checks.translationVerdict
+    SheetRules.argumentsMatch SheetRules.arguments SheetRules.timesChild SheetRules.isBody SheetRules.childrenRight SheetRules.clausesRise
+    SheetRules.treeRight SheetRules.tree SheetRules.parentOf SheetRules.clauseOf SheetRules.clauseWithin SheetRules.belowArity
+    SheetRules.patternRight SheetRules.pattern
+    Types.typeBy Types.typeWithin Types.typeOf Types.argumentsTyped Types.clausesTyped Types.childrenTyped Types.isClauseOf Types.isClause
+    Types.resultTyped Types.typeRight Types.typing Types.types Checks.sheetVerdict Checks.translationVerdict
     NodeFields.fieldsFrom NodeFields.clauseList NodeFields.chosen
     Operators.residue Operators.reduced Operators.inSignedRange Operators.isZero Operators.equal Operators.truth
     Operators.product Operators.quotient Operators.computed

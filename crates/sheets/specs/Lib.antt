@@ -4,6 +4,7 @@ pub mod Trial
 pub mod Starred
 pub mod Products
 pub mod Orders
+pub mod TypedSheets
 pub mod EqualCalls
 pub mod ClosedReadings
 pub mod Remembering

@@ -27,7 +27,7 @@ use Rattle.readback.proofs.Size.{words-size, formal-size, node-length, translat
 use Rattle.file_records.specs.Index.{startIn}
 use Rattle.file_records.proofs.Indices.{node-reached}
 use Rattle.format.specs.Readers.{ReadSheet}
-use Rattle.format.proofs.SheetTables.{opened-parameters}
+use Rattle.sheet_rules.proofs.SheetTables.{opened-parameters}
 use Rattle.tree_classes.specs.Classes.{AcceptedSheet}
 use Rattle.translation_length.specs.Words.{CountedLabels, formalLength, nodeLength, recordLength}
 

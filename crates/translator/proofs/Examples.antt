@@ -18,6 +18,8 @@ use Rattle.definitions.specs.Verdicts
 use Rattle.definitions.specs.Output
 use Rattle.definitions.specs.Shape
 use Rattle.definitions.specs.References
+use Rattle.definitions.specs.SheetRules
+use Rattle.definitions.specs.Types
 use Rattle.definitions.specs.Checks
 use Rattle.definitions.specs.NodeFields
 use Rattle.definitions.specs.Operators
@@ -35,7 +37,7 @@ unfolding
     Bytes.word Bytes.word32 Bytes.signed Bytes.wordBytes Bytes.words32 Bytes.bytesOf
     Lists.joined Lists.listed Lists.sumOf Lists.countOf Lists.allOf Lists.firstPassing
     Records.whole Records.next Records.startOf Records.recordAt Records.recordOf Records.fieldCount
-    Layouts.sectionKind Layouts.isDue Layouts.runEnd Layouts.bodyOf Layouts.ownerOf
+    Layouts.isTyped Layouts.constructorKind Layouts.functionKind Layouts.sectionKind Layouts.isDue Layouts.runEnd Layouts.bodyOf Layouts.ownerOf
     Kinds.row Kinds.rows Kinds.rowIn Kinds.rowOf Kinds.allows
     Verdicts._andThen_ Verdicts.require Verdicts.firstOf
     Ranges.within Shape.headCounts Shape.runCounts Shape.counts Shape.operatorCode Shape.shapeAt Shape.shape
@@ -43,8 +45,8 @@ unfolding
     References.fromFirst References.fromSecond References.everyOther References.childCount References.childField
     References.children References.child References.clauses References.namesInRange References.inRange
     References.references
-    Checks.argumentsMatch Checks.arguments Checks.timesChild Checks.isBody Checks.childrenRight Checks.treeRight
-    Checks.tree Checks.patternRight Checks.pattern Checks.sheetVerdict
+    SheetRules.argumentsMatch SheetRules.arguments SheetRules.timesChild SheetRules.isBody SheetRules.childrenRight SheetRules.treeRight
+    SheetRules.tree SheetRules.patternRight SheetRules.pattern Types.types Checks.sheetVerdict
     NodeFields.fieldsFrom Operators.residue SheetNodes.sheetNode SheetNodes.sheetNodeOf
     Trees.namesNode Trees.sameField Trees.sameFields Trees.samePlace Trees.sameTree Trees.deepest Trees.equalTrees
     Labels.calls Labels.firstCall Labels.isFirst Labels.labelOf Labels.actuals

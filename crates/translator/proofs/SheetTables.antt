@@ -19,8 +19,8 @@ use Rattle.accepted.proofs.Sections.{parameters-limit}
 use Rattle.accepted.proofs.Owners.{owner-below, body-before-end, body-below}
 use Rattle.file_records.specs.Index.{Opened, startIn}
 use Rattle.file_records.proofs.Indices.{node-reached}
-use Rattle.format.proofs.RunTables.{entry-more}
-use Rattle.format.proofs.SheetTables.{opened-parameters}
+use Rattle.file_runs.proofs.RunTables.{entry-more}
+use Rattle.sheet_rules.proofs.SheetTables.{opened-parameters}
 use Rattle.tree_classes.specs.Classes.{ReadTables}
 use Rattle.translator.specs.Tables.{Sums, OwnerFormals}
 

@@ -15,7 +15,7 @@ use Rattle.definitions.specs.Labels.{isFirst}
 use Rattle.definitions.specs.declared.Layout.the-variants.{Sheet}
 use Rattle.definitions.specs.declared.Verdict.the-variants.{Accepted}
 use Rattle.file_records.specs.Index.{Opened}
-use Rattle.format.specs.Readers.{Owners}
+use Rattle.file_runs.specs.Runs.{Owners}
 use Rattle.tree_classes.specs.Classes.{ReadTables, FirstNodes}
 use Rattle.call_labels.specs.Tables.{Labels, Counts, labelCount, Classed}
 

@@ -15,7 +15,7 @@ use Rattle.accepted.proofs.Head.{nodes-limit, functions-limit}
 use Rattle.accepted.proofs.Owners.{owner-below, body-before-end, body-below}
 use Rattle.file_records.specs.Index.{startIn}
 use Rattle.file_records.proofs.Indices.{node-reached}
-use Rattle.format.proofs.RunTables.{entry-more}
+use Rattle.file_runs.proofs.RunTables.{entry-more}
 use Rattle.tree_classes.specs.Classes.{OwnedSheet, EndedSheet}
 use Rattle.tree_classes.specs.Places.{placeOf, Placed, ScrutineeClasses}
 

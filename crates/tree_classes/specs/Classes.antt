@@ -11,7 +11,7 @@ use Rattle.definitions.specs.Trees.{equalTrees}
 use Rattle.definitions.specs.declared.Layout.the-variants.{Sheet}
 use Rattle.definitions.specs.declared.Verdict.the-variants.{Accepted}
 use Rattle.file_records.specs.Index.{Opened}
-use Rattle.format.specs.Readers.{RunEndTable, Owners}
+use Rattle.file_runs.specs.Runs.{RunEndTable, Owners}
 use Rattle.tree_classes.specs.Keys.{entryOf, SameKey}
 
 -- an accepted sheet with the index of its records

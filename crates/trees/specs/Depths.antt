@@ -8,7 +8,7 @@ use Rattle.definitions.specs.Records.{kindOf, field, fieldCount}
 use Rattle.definitions.specs.Layouts.{nodes, nodeRecord, bodyOf, ownerOf}
 use Rattle.definitions.specs.SheetKinds
 use Rattle.definitions.specs.SheetNodes.{scrutineeOf}
-use Rattle.definitions.specs.Checks.{clauseWithin}
+use Rattle.definitions.specs.SheetRules.{clauseWithin}
 use Rattle.definitions.specs.Trees.{namesNode}
 use Rattle.definitions.specs.declared.Layout.the-variants.{Sheet}
 

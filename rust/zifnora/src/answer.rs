@@ -209,7 +209,7 @@ mod tests {
                 }
                 Some(Answer::Stopped(stop)) => numbers::is_stop(number) && stop.number() == number,
                 Some(Answer::Fault(fault)) => numbers::is_fault(number) && fault.number() == number,
-                None => number > numbers::CLOSED_READING && !value,
+                None => number > numbers::ILL_TYPED && !value,
             };
             assert!(expected, "number {number}");
         }

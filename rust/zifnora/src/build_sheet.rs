@@ -1,8 +1,9 @@
-//! A small builder of sheet files: expression trees in, records out.
-//! It writes what it is told; nothing here checks the rules of a sheet.
+//! A small builder of sheet files, typed or not: expression trees in, records
+//! out. It writes what it is told; nothing here checks the rules of a sheet.
 
 pub use crate::kinds::operators::*;
 use crate::kinds::sheet as kinds;
+pub use crate::typed_program::TypedProgram;
 use std::iter::once;
 
 /// An expression of a sheet. Functions, constructors, readings, parameters
@@ -162,45 +163,65 @@ pub fn put_record(file: &mut Vec<u8>, kind: u16, fields: &[u16]) {
 impl Program {
     /// The file, with the nodes of each function in post-order.
     pub fn encode(&self) -> Vec<u8> {
-        self.encode_ordered(|_| 0, false)
+        self.declared().encode_ordered(|_| 0, false)
     }
 
     /// The file, with the nodes of each function in an order picked by
     /// `pick` (below its argument) among the nodes whose children are out.
     pub fn encode_shuffled(&self, pick: impl FnMut(usize) -> usize) -> Vec<u8> {
-        self.encode_ordered(pick, true)
+        self.declared().encode_ordered(pick, true)
     }
 
-    fn encode_ordered(&self, mut pick: impl FnMut(usize) -> usize, shuffle: bool) -> Vec<u8> {
-        let mut runs = Vec::new();
-        for (_, expr) in &self.functions {
-            let mut nodes = Vec::new();
-            expr.flatten(&mut nodes);
-            runs.push(nodes);
+    fn declared(&self) -> Declared<'_> {
+        let constructors = self.arities.iter();
+        let functions = self.functions.iter().map(|(parameters, body)| {
+            let fields = vec![*parameters, body.size() as u16];
+            (kinds::FUNCTION, fields, body)
+        });
+        Declared {
+            readings: self.readings,
+            constructors: constructors
+                .map(|&arity| (kinds::CONSTRUCTOR, vec![arity]))
+                .collect(),
+            functions: functions.collect(),
         }
-        let total: usize = runs.iter().map(Vec::len).sum();
+    }
+}
+
+/// A sheet before its nodes are out: kind and fields of the records of its
+/// constructors, and of its functions with their bodies.
+pub(crate) struct Declared<'a> {
+    pub readings: u16,
+    pub constructors: Vec<(u16, Vec<u16>)>,
+    pub functions: Vec<(u16, Vec<u16>, &'a Expr)>,
+}
+
+impl Declared<'_> {
+    pub fn encode_ordered(&self, mut pick: impl FnMut(usize) -> usize, shuffle: bool) -> Vec<u8> {
+        let total: usize = self.functions.iter().map(|(.., body)| body.size()).sum();
         let mut file = Vec::new();
         let head = [
             self.readings,
-            self.arities.len() as u16,
+            self.constructors.len() as u16,
             self.functions.len() as u16,
             total as u16,
         ];
         put_record(&mut file, kinds::HEAD, &head);
-        for &arity in &self.arities {
-            put_record(&mut file, kinds::CONSTRUCTOR, &[arity]);
+        for (kind, fields) in &self.constructors {
+            put_record(&mut file, *kind, fields);
         }
-        for ((parameters, _), nodes) in self.functions.iter().zip(&runs) {
-            let fields = [*parameters, nodes.len() as u16];
-            put_record(&mut file, kinds::FUNCTION, &fields);
+        for (kind, fields, _) in &self.functions {
+            put_record(&mut file, *kind, fields);
         }
         let mut first = 0;
-        for nodes in &runs {
+        for (.., body) in &self.functions {
+            let mut nodes = Vec::new();
+            body.flatten(&mut nodes);
             let order: Vec<usize> = match shuffle {
-                true => shuffled(nodes, &mut pick),
+                true => shuffled(&nodes, &mut pick),
                 false => (0..nodes.len()).collect(),
             };
-            put_nodes(&mut file, nodes, &order, first);
+            put_nodes(&mut file, &nodes, &order, first);
             first += nodes.len();
         }
         file

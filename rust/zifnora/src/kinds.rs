@@ -1,11 +1,14 @@
 //! Document 01's kinds of records, its codes of operators, and document 02's
-//! two kinds of a driver's view.
+//! kinds of a typed sheet and of a driver's view.
 
-/// Records of a sheet.
+/// Records of a sheet. A typed sheet has `TYPED_CONSTRUCTOR` and
+/// `TYPED_FUNCTION` in place of `CONSTRUCTOR` and `FUNCTION`.
 pub mod sheet {
     pub const HEAD: u16 = 1;
     pub const CONSTRUCTOR: u16 = 2;
     pub const FUNCTION: u16 = 3;
+    pub const TYPED_CONSTRUCTOR: u16 = 6;
+    pub const TYPED_FUNCTION: u16 = 7;
     pub const NUMBER: u16 = 16;
     pub const READING: u16 = 17;
     pub const PARAMETER: u16 = 18;

@@ -18,6 +18,7 @@ pub mod numbers;
 #[cfg(feature = "archive")]
 pub mod raw;
 pub mod sizes;
+mod typed_program;
 
 pub use allowed::Allowed;
 pub use answer::{Allowances, Answer, Ended, Fault, Record, Refusal, Stop};

@@ -26,6 +26,8 @@ pub const BAD_READINGS: u16 = 9;
 pub const BAD_ALLOWANCE: u16 = 10;
 /// Refusal: "closed". A reading node outside the hirer's set.
 pub const CLOSED_READING: u16 = 21;
+/// Refusal: "ill typed". A node of a typed sheet breaks a rule of types.
+pub const ILL_TYPED: u16 = 22;
 
 /// Stop: "steps".
 pub const NO_STEP: u16 = 11;
@@ -56,7 +58,8 @@ pub const CONSTRUCTOR: u16 = 100;
 
 /// A call or a run of this outcome was refused.
 pub fn is_refusal(outcome: u16) -> bool {
-    (TRUNCATED..=BAD_ALLOWANCE).contains(&outcome) || outcome == CLOSED_READING
+    (TRUNCATED..=BAD_ALLOWANCE).contains(&outcome)
+        || (CLOSED_READING..=ILL_TYPED).contains(&outcome)
 }
 
 /// A run of this outcome was stopped by an allowance.

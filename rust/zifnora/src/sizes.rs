@@ -15,6 +15,9 @@ pub const MOST_NODES: usize = 1024;
 /// Of a constructor's arity, and of a function's parameters.
 pub const MOST_FIELDS: usize = 8;
 
+/// Of the types of a typed sheet, which start at 1; 0 is that of numbers.
+pub const MOST_TYPES: usize = 64;
+
 /// Of the nesting allowance, which starts at 1.
 pub const MOST_NESTING: u32 = 1024;
 

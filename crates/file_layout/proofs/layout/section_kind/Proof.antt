@@ -13,6 +13,12 @@ items-requires c κs = search needs
 cast-if1 : tie.Need-cast-if1
 cast-if1 c = search needs
 
+constructor-kind-requires : tie.Need-constructor-kind-requires
+constructor-kind-requires c κs = search needs
+
+function-kind-requires : tie.Need-function-kind-requires
+function-kind-requires c κs = search needs
+
 enum-told-2 : tie.Need-enum-told-2
 enum-told-2 c = search needs
 
@@ -41,6 +47,8 @@ section-kind-spec =
     enum-told
     items-requires
     cast-if1
+    constructor-kind-requires
+    function-kind-requires
     enum-told-2
     functions-requires
     cast-if2

@@ -1,6 +1,6 @@
--- `format::sheet::checks` meets its contract: the passes in document 01's order.
-use Rattle.format.proofs.Readings.{names-refused, trees-refused, trees-accepted, patterns-last, times-seen, parents-seen}
-use Rattle.format.proofs.SeenTables.{seen-none}
+-- `format::sheet::checks` meets its contract: the passes in the papers' order.
+use Rattle.format.proofs.Readings.{names-refused, trees-refused, trees-accepted, checks-last, times-seen, parents-seen}
+use Rattle.sheet_rules.proofs.SeenTables.{seen-none}
 use Rattle.definitions.specs.Sizes.{mostNodes}
 use lib.ListN.{getD-replicate}
 use mathlib.Core.Path.{refl}
@@ -47,8 +47,8 @@ returns-2 c =
     let trees = c .before .before .trees in
     trees-refused (pre .0) (names .ensures) (enum-told .given .1) (trees .ensures) (c .enum-told4 .given .1)
 
-patterns-requires : tie.Need-patterns-requires
-patterns-requires c κs =
+last-checks-requires : tie.Need-last-checks-requires
+last-checks-requires c κs =
     let pre = c .before .before .before .before .before .before .before .before .before .before .before .before .pre in
     let names = c .before .before .before .before .before .before .before .before .before .before .names in
     let enum-told = c .before .before .before .before .before .before .before .before .enum-told in
@@ -69,7 +69,7 @@ returns-3 c =
     let enum-told = c .before .before .before .before .before .before .before .before .before .enum-told in
     let trees = c .before .before .before .before .trees in
     let enum-told3 = c .before .before .enum-told3 in
-    patterns-last (pre .0) (names .ensures) (enum-told .given .1) (trees .ensures) (enum-told3 .given .1) (c .patterns .ensures)
+    checks-last (pre .0) (names .ensures) (enum-told .given .1) (trees .ensures) (enum-told3 .given .1) (c .last-checks .ensures)
 
 pub checks-spec : {M : Type 1} → statement M
 checks-spec =
@@ -84,5 +84,5 @@ checks-spec =
     enum-told-3
     enum-told-4
     returns-2
-    patterns-requires
+    last-checks-requires
     returns-3)

@@ -8,7 +8,7 @@ use Rattle.definitions.specs.Labels.{actuals}
 use Rattle.definitions.specs.Translate.{recordWords, formalWords}
 use Rattle.definitions.specs.declared.Layout.the-variants.{Sheet}
 use Rattle.accepted.proofs.Head.{functions-limit}
-use Rattle.format.proofs.SheetTables.{opened-parameters}
+use Rattle.sheet_rules.proofs.SheetTables.{opened-parameters}
 use Rattle.translation_words.proofs.Writing.{PartsWritten, parts-begin, parts-go-on, parts-end}
 use borrow.Author.Needs.{needs}
 use Rattle.translator.proofs.formals.put_function_formals.Statement.{statement}

@@ -1,0 +1,2 @@
+pub mod TypeSteps
+pub mod Typing

@@ -1,0 +1,16 @@
+pub mod Rules
+pub mod Settings
+pub mod Ends
+pub mod Own
+pub mod SameRuns
+pub mod SameTrees
+pub mod SameTranslation
+pub mod SameChecks
+pub mod UntypedKinds
+pub mod JoinedRecords
+pub mod UntypedRecords
+pub mod UpToTypes
+pub mod RemovedPasses
+pub mod Removed
+pub mod ReadBefore
+pub mod Unchanged

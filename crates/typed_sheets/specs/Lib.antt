@@ -1,0 +1,5 @@
+pub mod TypeErrors
+pub mod Fits
+pub mod UntypedKinds
+pub mod UpToTypes
+pub mod ReaderBefore
