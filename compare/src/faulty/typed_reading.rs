@@ -88,15 +88,18 @@ fn bad_record(fault: Fault, file: &[u8], refusal: Refusal, record: &Refused) -> 
     match fault {
         _ if mixed && accepted => Some(Taken::File(types::removed(file))),
         Fault::MixedAtFirst if mixed => Some(Taken::Refused(BAD_RECORD, 1)),
-        Fault::TypedLengthAsCount if is_due(file, refusal.place, record.kind) => {
+        Fault::TypedLengthAsCount if typed && is_due(file, refusal.place, record.kind) => {
             Some(Taken::Refused(BAD_COUNT, refusal.place))
         }
         _ => None,
     }
 }
 
-/// Whether a typed record is where it is due.
+/// Whether a typed record is where it is due in a typed sheet.
 fn is_due(file: &[u8], place: u32, kind: u16) -> bool {
+    if place == 0 {
+        return false;
+    }
     let [constructors, functions] = [6, 8].map(|at| two_bytes(file, at) as u32);
     match kind {
         kinds::TYPED_CONSTRUCTOR => place <= constructors,

@@ -6,7 +6,7 @@ use super::random::Random;
 use zifnora::kinds::sheet as kinds;
 use zifnora::sizes::{MOST_FIELDS, MOST_TYPES};
 
-/// Fields before the types of a record, its own or its result's included.
+/// Fields of a typed record before its types.
 fn counts(kind: u16) -> usize {
     match kind {
         kinds::TYPED_CONSTRUCTOR => 1,

@@ -1,20 +1,17 @@
 -- The types of a sheet's nodes, where a child is smaller than its parent: the type of a node by those of all nodes, and type functions that
 -- agree on a node's children.
-use mathlib.Core.Path.{_≡_, refl, ap, _∙_}
+use mathlib.Core.Path.{_≡_, refl, ap}
 use Prim.Native.Nat.{ℕ, zero, suc, _+_, _-_, _<_}
 use mathlib.Core.List.{List}
-use mathlib.Core.Bool.{Bool, true, false, cond}
 use native.Mathlib.Omega.{arith}
 use native.Mathlib.Nat.{not-suc-le-zero}
 use lib.Dec.{eqb}
-use borrow.Author.Tests.{eqb-true}
 use Rattle.definitions.specs.SheetKinds
-use Rattle.definitions.specs.Records.{kindOf, field, fieldCount}
-use Rattle.definitions.specs.Layouts.{nodes, nodeRecord, ownerOf}
-use Rattle.definitions.specs.SheetNodes.{SheetNode, sheetNodeOf}
-use Rattle.definitions.specs.SheetRules.{clauseWithin}
+use Rattle.definitions.specs.Records.{field, fieldCount}
+use Rattle.definitions.specs.Layouts.{nodes, nodeRecord}
+use Rattle.definitions.specs.SheetNodes.{SheetNode}
 use Rattle.definitions.specs.Shape.{fileShape}
-use Rattle.definitions.specs.Types.{numberType, ownType, fieldType, resultType, parameterType, patternType, typeBy, typeWithin, typeOf, argumentsTyped, childrenTyped}
+use Rattle.definitions.specs.Types.{fieldType, parameterType, typeBy, typeWithin, typeOf, argumentsTyped, childrenTyped}
 use Rattle.definitions.specs.declared.Layout.the-variants.{Sheet}
 use Rattle.definitions.specs.declared.Verdict.the-variants.{Accepted}
 use Rattle.laws.proofs.Lists.{all-same}

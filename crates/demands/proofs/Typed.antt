@@ -1,18 +1,16 @@
 -- What the calls give for a typed sheet, and for the sheet with its types removed.
-use mathlib.Core.Path.{_≡_, refl, sym, ap, _∙_}
+use mathlib.Core.Path.{_≡_, refl, _∙_}
 use Prim.Native.Nat.{ℕ, _+_}
 use mathlib.Core.List.{List}
 use mathlib.Core.Bool.{true}
 use lib.IntN.{ℤ}
 use lib.ListN.{length}
-use Rattle.definitions.specs.Numbers.{numberWanted, constructorWanted, illTyped, isFault, isAnswer}
+use Rattle.definitions.specs.Numbers.{illTyped, isFault, isAnswer}
 use Rattle.definitions.specs.Ranges.{within}
 use Rattle.definitions.specs.Layouts.{isTyped, nodes, firstNode}
 use Rattle.definitions.specs.Types.{typeRight, typing, types}
 use Rattle.definitions.specs.Checks.{sheetVerdict}
-use Rattle.definitions.specs.Verdicts.{_andThen_, require}
-use Rattle.definitions.specs.Outcomes.{Outcome}
-use Rattle.definitions.specs.Translate.{translation, translationRefusal, translationAnswer}
+use Rattle.definitions.specs.Translate.{translationRefusal, translationAnswer}
 use Rattle.definitions.specs.TypesRemoved.{typesRemoved}
 use Rattle.definitions.specs.declared.Verdict.the-variants.{Accepted, Refused}
 use Rattle.laws.proofs.Verdicts.{then-accepted, require-true, require-false, first-all, first-refused}

@@ -11,7 +11,7 @@ use lib.ListN.{length, take}
 use Rattle.definitions.specs.Numbers.{illTyped}
 use Rattle.definitions.specs.Layouts.{isTyped, readings, firstNode}
 use Rattle.definitions.specs.Checks.{sheetVerdict}
-use Rattle.definitions.specs.Translate.{translation, translationRefusal, translationAnswer}
+use Rattle.definitions.specs.Translate.{translation}
 use Rattle.definitions.specs.TypesRemoved.{typesRemoved}
 use Rattle.definitions.specs.AnswerRecord.{recorded}
 use Rattle.definitions.specs.declared.Verdict.{Verdict}

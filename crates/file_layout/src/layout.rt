@@ -1,7 +1,8 @@
 // The parts of a file: the head's counts, the sections of records and the runs of nodes.
 ghost use mathlib.Core.Path.{_≡_};
 ghost use Prim.Native.Nat.{_≤_};
-ghost use Rattle.definitions.specs.Layouts.{readings, items, functions, nodes, isTyped, firstItem, firstFunction, firstNode, due, headKind, constructorKind, functionKind, sectionKind, nodeKind, isDue, countField};
+ghost use Rattle.definitions.specs.Layouts.{readings, items, functions, nodes, isTyped, firstItem, firstFunction, firstNode, due};
+ghost use Rattle.definitions.specs.Layouts.{headKind, constructorKind, functionKind, sectionKind, nodeKind, isDue, countField};
 ghost use Rattle.definitions.specs.Shape.{fileLimit, itemLimit};
 use definitions::Layout;
 use definitions::sheet_kinds;

@@ -3,22 +3,19 @@ use mathlib.Core.Path.{_≡_, refl, sym, ap, _∙_}
 use Prim.Native.Nat.{ℕ, zero, suc, _+_, _-_, _≤_, _<_}
 use mathlib.Core.List.{List}
 use mathlib.Core.Option.{Option, none, some, Option·some-injective, Option·none-ne-some}
-use mathlib.Core.Bool.{Bool, true, false, cond, not, _&&_, and-eq-true-iff}
+use mathlib.Core.Bool.{Bool, true, false, cond, not}
 use native.Mathlib.Omega.{arith}
 use native.Mathlib.Numerals.{sub-one}
-use lib.Dec.{ltb, eqb}
-use Rattle.definitions.specs.Numbers.{badTree, outOfRange}
+use lib.Dec.{eqb}
 use Rattle.definitions.specs.SheetKinds
-use borrow.Author.Tests.{ltb-true, eqb-true, eqb-false, eq-eqb, ne-eqb, not-true}
+use borrow.Author.Tests.{eqb-true, eqb-false, eq-eqb, ne-eqb, not-true}
 use Rattle.definitions.specs.Records.{kindOf}
-use Rattle.definitions.specs.Lists.{countOf, allOf, lastOf}
+use Rattle.definitions.specs.Lists.{countOf, lastOf}
 use Rattle.definitions.specs.Verdicts.{_andThen_, firstOf}
-use Rattle.definitions.specs.Layouts.{items, nodes, firstNode, due, nodeRecord}
-use Rattle.definitions.specs.References.{children, child, clauses, clauseConstructor, namesInRange, inRange, references}
-use Rattle.definitions.specs.SheetRules.{arguments, timesChild, isBody, childrenRight, treeRight, tree, parentOf, clauseOf, clauseWithin}
+use Rattle.definitions.specs.Layouts.{items, nodes, due, nodeRecord}
+use Rattle.definitions.specs.References.{children, child, clauses, clauseConstructor, references}
+use Rattle.definitions.specs.SheetRules.{arguments, timesChild, isBody, tree, parentOf, clauseOf, clauseWithin}
 use Rattle.definitions.specs.declared.Verdict.the-variants.{Accepted}
-use Rattle.laws.proofs.Lists.{all-each}
-use Rattle.laws.proofs.Verdicts.{both-accepted, first-each, required}
 use Rattle.accepted.proofs.Sums.{sum-found}
 use Rattle.accepted.proofs.Counts.{count-found, last-found}
 use Rattle.sheet_rules.specs.Clauses.{entryOf}

@@ -13,18 +13,16 @@ use Rattle.definitions.specs.Sizes.{mostFunctions, mostNodes}
 use borrow.Author.Tests.{lt-ltb, le-ltb, eq-eqb, ne-eqb}
 use Rattle.definitions.specs.Records.{recordAt, kindOf}
 use Rattle.definitions.specs.Lists.{allOf}
-use Rattle.definitions.specs.Verdicts.{firstOf}
 use Rattle.definitions.specs.Layouts.{functions, nodes, firstNode, nodeRecord, bodyOf, ownerOf}
 use Rattle.definitions.specs.References.{children, child, clauseConstructor}
 use Rattle.definitions.specs.SheetRules.{timesChild, isBody, childrenRight, clausesRise, treeRight, tree}
 use Rattle.definitions.specs.declared.Layout.the-variants.{Sheet}
-use Rattle.definitions.specs.declared.Verdict.{Verdict}
 use Rattle.definitions.specs.declared.Verdict.the-variants.{Accepted, Refused}
 use Rattle.accepted.proofs.Head.{nodes-limit, functions-limit}
 use Rattle.accepted.proofs.Owners.{owner-below, body-before-end}
-use Rattle.laws.proofs.Verdicts.{require-true, require-false, Passed, passed-more, passed-refused, passed-all}
-use Rattle.file_records.specs.Index.{Opened, startIn}
-use Rattle.file_runs.specs.Runs.{RunEndTable, Owners}
+use Rattle.laws.proofs.Verdicts.{require-true, require-false}
+use Rattle.file_records.specs.Index.{startIn}
+use Rattle.file_runs.specs.Runs.{Owners}
 use Rattle.sheet_rules.specs.Nodes.{NodeAt, childRight}
 use Rattle.sheet_rules.specs.Seen.{TimesOf}
 use Rattle.file_records.proofs.Indices.{opened-record}

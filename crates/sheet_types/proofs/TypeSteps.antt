@@ -2,7 +2,7 @@
 use mathlib.Core.Path.{_≡_, refl, sym, ap, _∙_}
 use Prim.Native.Nat.{ℕ, _+_, _-_, _≤_, _<_}
 use mathlib.Core.List.{List}
-use mathlib.Core.Bool.{Bool, true, false, cond, not, _&&_, _||_}
+use mathlib.Core.Bool.{Bool, true, false, cond, not, _||_}
 use native.Mathlib.Omega.{arith}
 use native.Mathlib.Decide.{ℕ-discrete}
 use lib.ListN.{getD, set, length}
@@ -26,7 +26,7 @@ use Rattle.accepted.proofs.Owners.{owner-below}
 use Rattle.accepted.proofs.SheetRecords.{SheetRecord, is-number, is-reading, is-parameter, is-patternVariable, is-operator, is-conditional, is-call, is-build, is-case, node-record}
 use Rattle.accepted.proofs.Children.{ChildOf}
 use Rattle.accepted.proofs.Types.{same-type-by, same-children, type-of-node}
-use Rattle.file_records.specs.Index.{Opened, startIn}
+use Rattle.file_records.specs.Index.{startIn}
 use Rattle.file_records.proofs.Indices.{opened-record}
 use Rattle.file_runs.specs.Runs.{Owners}
 use Rattle.sheet_rules.specs.Nodes.{NodeAt}
@@ -115,13 +115,14 @@ module _ {b starts : List ℕ} {k : ℕ} (w : NamedAt b starts k) where
         rw (← ex) (opened-record Sheet b starts (f + x) declared (w .file) (omega (arith, g, constructor-named e)) h ∙ rw g refl)
 
 -- a clause of the node, which is a case
-pub clause-type : {b starts rec : List ℕ} {k : ℕ} → CaseAt b starts k rec → {j : ℕ} → j < clauses rec → {c y : ℕ} → c ≡ clauseConstructor rec j
+pub clause-type : {b starts rec : List ℕ} {k : ℕ} → CaseAt b starts k rec → {n j : ℕ} → n ≡ clauses rec → j < n → {c y : ℕ} → c ≡ clauseConstructor rec j
     → y ≡ field (recordAt b (startIn starts (firstItem Sheet b + c))) 1
     → y ≡ ownType b (clauseConstructor rec j)
-clause-type {b} {starts} {rec} {k} w {j} h {c} e g =
-    let n = w .node in
-    let below = clause-constructor-below b (n .checks .names) k (n .below) (rw (w .is) at (w .kind)) j (rw (w .is) at h) in
-    rw (← e) (opened-constructor b starts c 1 (n .file) (rw (e, w .is) below) g)
+clause-type {b} {starts} {rec} {k} w {n} {j} m h {c} e g =
+    let at = w .node in
+    let l : j < clauses rec = rw m at h in
+    let below = clause-constructor-below b (at .checks .names) k (at .below) (rw (w .is) at (w .kind)) j (rw (w .is) at l) in
+    rw (← e) (opened-constructor b starts c 1 (at .file) (rw (e, w .is) below) g)
 
 -- whether node k is a body or a clause's node
 module _ {b starts ends owners parents : List ℕ} {k : ℕ} (w : NodeAt b starts ends owners k) (q : ParentsOf b parents) (a : TreesAccepted b)

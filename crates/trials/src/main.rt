@@ -5,8 +5,8 @@
 // their runs; translations that no translator writes, and their runs, also on rows and for a hirer; answer records and their views; cells and their listings. The
 // file `stdout` has what each should answer by document 01, and by document 02 for rows (request 1), products (2), the length that is
 // asked (3), labels (4), hirers (5), what cells remember (7), cells given back (9), the driver's view (10) and types (11). Files and translations are worked out by hand from
-// these and document 002, and so are the readers' answers, those for types by a model of the reader written from the documents alone; the runs with their steps and cells, and of the trials for labels the translations too, were
-// worked out by a model written from the documents alone. A record is its length, its kind and its fields; in a change, word 0 of a
+// these and document 002, and so are the readers' answers; those for types, the runs with their steps and cells, and of the trials for labels
+// the translations too, were worked out by models written from the documents alone. A record is its length, its kind and its fields; in a change, word 0 of a
 // record is its length, word 1 its kind, and the fields follow. A comment in quotation marks is the sentence that decides the trials
 // below it; above a sheet's records comments say what the sheet is, where the number before a node's record is the node's.
 // A line of `stdin` does what its first byte says, and goes on over the lines after it that begin with a blank:

@@ -26,12 +26,12 @@ use Rattle.laws.proofs.Verdicts.{both-accepted, required, first-each}
 use Rattle.laws.proofs.Walk.{head-ranges}
 use Rattle.accepted.proofs.Widths.{allowed-by}
 use Rattle.typed_sheets.specs.UntypedKinds.{UntypedKind}
-use Rattle.typed_sheets.specs.ReaderBefore.{rowsBefore, rowOfBefore, sectionKindBefore, isDueBefore, countsBefore, shapeAtBefore, shapeBefore, fileShapeBefore, sheetVerdictBefore}
+use Rattle.typed_sheets.specs.ReaderBefore.{rowOfBefore, sectionKindBefore, isDueBefore, countsBefore, shapeAtBefore, shapeBefore, fileShapeBefore, sheetVerdictBefore}
 use Rattle.typed_sheets.proofs.UntypedKinds.{untyped-kind, untyped-sheet}
 
 -- the row and the counts of a kind without types are as before
 same-row : (k : ℕ) → UntypedKind k → rowOf k ≡ rowOfBefore k
-unfolding rowOf rows rowIn row rowOfBefore rowsBefore
+unfolding rowOfBefore
 same-row k u = rw (ne-eqb k SheetKinds.typedConstructor (u .no-constructor), ne-eqb k SheetKinds.typedFunction (u .no-function)) refl
 
 same-counts : (b : List ℕ) (r : ℕ) (rec : List ℕ) → UntypedKind (kindOf rec) → counts Sheet b r rec ≡ countsBefore b r rec
@@ -143,7 +143,7 @@ module _ (b : List ℕ) (accepted : sheetVerdictBefore b ≡ Accepted) where
 
   -- the head is 12 bytes long, and a record follows
   head-long : word b 0 ≡ 12
-  unfolding isDueBefore rowOfBefore rowsBefore rowIn row startOf
+  unfolding isDueBefore rowOfBefore rowOf rows rowIn row startOf
   head-long =
       let p = record-passed 0 (omega arith) in
       let k : word b 2 ≡ SheetKinds.head = eqb-true (word b 2) SheetKinds.head (p .due) in

@@ -1,15 +1,15 @@
 -- What the reader of sheets said before document 02, request 11, added kinds 6 and 7 and the rules of types: what changed then, as it
 -- was; all else is as in the definitions.
 use Prim.Native.Nat.{ℕ, _+_}
-use mathlib.Core.List.{List, [], _∷_}
-use mathlib.Core.Bool.{Bool, true, cond, _&&_}
+use mathlib.Core.List.{List}
+use mathlib.Core.Bool.{Bool, true, cond, _&&_, _||_}
 use lib.ListN.{length}
 use lib.Dec.{leb, ltb, eqb}
 use Rattle.definitions.specs.Bytes.{word}
 use Rattle.definitions.specs.Records.{startOf, recordAt, kindOf, field}
 use Rattle.definitions.specs.SheetKinds
 use Rattle.definitions.specs.TranslationKinds
-use Rattle.definitions.specs.Kinds.{Row, row, rowIn, allows}
+use Rattle.definitions.specs.Kinds.{Row, row, rowOf, allows}
 use Rattle.definitions.specs.Ranges.{within}
 use Rattle.definitions.specs.Sizes.{sheetBytes, mostFields}
 use Rattle.definitions.specs.Numbers.{truncated, oversize, badRecord, badCount}
@@ -21,38 +21,9 @@ use Rattle.definitions.specs.SheetRules.{arguments, tree, pattern}
 use Rattle.definitions.specs.declared.Layout.the-variants.{Sheet}
 use Rattle.definitions.specs.declared.Verdict.{Verdict}
 
--- the kinds with least, step and greatest length
-unfoldable pub rowsBefore : List Row
-rowsBefore =
-    row SheetKinds.head 12 2 12
-    ∷ row SheetKinds.constructor 6 2 6
-    ∷ row SheetKinds.function 8 2 8
-    ∷ row SheetKinds.number 8 2 8
-    ∷ row SheetKinds.reading 6 2 6
-    ∷ row SheetKinds.parameter 6 2 6
-    ∷ row SheetKinds.patternVariable 6 2 6
-    ∷ row SheetKinds.operator 10 2 10
-    ∷ row SheetKinds.conditional 10 2 10
-    ∷ row SheetKinds.call 6 2 22
-    ∷ row SheetKinds.build 6 2 22
-    ∷ row SheetKinds.caseOf 10 4 262
-    ∷ row TranslationKinds.head 12 2 12
-    ∷ row TranslationKinds.function 8 2 8
-    ∷ row TranslationKinds.formalList 4 2 2052
-    ∷ row TranslationKinds.number 8 2 8
-    ∷ row TranslationKinds.reading 6 2 6
-    ∷ row TranslationKinds.formal 6 2 6
-    ∷ row TranslationKinds.select 8 2 8
-    ∷ row TranslationKinds.operator 10 2 10
-    ∷ row TranslationKinds.conditional 10 2 10
-    ∷ row TranslationKinds.call 8 2 8
-    ∷ row TranslationKinds.tuple 6 2 22
-    ∷ row TranslationKinds.caseOf 10 4 262
-    ∷ []
-
--- the row of a kind
+-- the row of a kind: 6 and 7 were no kinds, and a number that is no kind allows no length
 unfoldable pub rowOfBefore : ℕ → Row
-rowOfBefore k = rowIn rowsBefore k
+rowOfBefore k = cond (eqb k SheetKinds.typedConstructor || eqb k SheetKinds.typedFunction) (row k 1 1 0) (rowOf k)
 
 -- the kind of a record between the head and the nodes: a constructor, then a function
 unfoldable pub sectionKindBefore : List ℕ → ℕ → ℕ

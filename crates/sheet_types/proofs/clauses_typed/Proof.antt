@@ -2,7 +2,6 @@
 use mathlib.Core.Path.{refl, _∙_}
 use Prim.Native.Nat.{_-_}
 use lib.Dec.{eqb}
-use native.Mathlib.Omega.{arith}
 use Rattle.definitions.specs.References.{clauses, clauseConstructor}
 use Rattle.definitions.specs.Types.{ownType}
 use Rattle.laws.proofs.Tests.{Testing, tests-begin, tests-go-on, tests-fail, tests-end, same-test, differ-test}
@@ -41,8 +40,8 @@ returns c =
     let loop-test = c .before .before .before .before .loop-test in
     let clause-constructor = c .before .before .before .clause-constructor in
     let wide = c .before .before .wide in
-    tests-fail (loop .inv .0) (loop-test .taken)
-    (differ-test (clause-type (loop .inv .1) (omega (arith, loop .inv .0 .count, loop-test .taken)) (wide .ensures .0 ∙ clause-constructor .ensures) (c .before .constructor-field .ensures)) refl (c .if1 .taken))
+    let own = clause-type (loop .inv .1) (loop .inv .0 .count) (loop-test .taken) (wide .ensures .0 ∙ clause-constructor .ensures) (c .before .constructor-field .ensures) in
+    tests-fail (loop .inv .0) (loop-test .taken) (differ-test own refl (c .if1 .taken))
 
 add-j : tie.Need-add-j Inv-loop μ-loop
 add-j c = search needs
@@ -55,11 +54,9 @@ loop-again c =
     let loop = c .before .before .before .before .before .loop in
     let loop-test = c .before .before .before .before .loop-test in
     let clause-constructor = c .before .before .before .clause-constructor in
-    let wide = c .before .before .wide in (
-      tests-go-on (loop .inv .0) (loop-test .taken)
-          (same-test (clause-type (loop .inv .1) (omega (arith, loop .inv .0 .count, loop-test .taken)) (wide .ensures .0 ∙ clause-constructor .ensures) (c .before .constructor-field .ensures)) refl (c .if1 .left)),
-      loop .inv .1,
-    )
+    let wide = c .before .before .wide in
+    let own = clause-type (loop .inv .1) (loop .inv .0 .count) (loop-test .taken) (wide .ensures .0 ∙ clause-constructor .ensures) (c .before .constructor-field .ensures) in
+    (tests-go-on (loop .inv .0) (loop-test .taken) (same-test own refl (c .if1 .left)), loop .inv .1)
 
 returns-2 : tie.Need-returns-2 Inv-loop μ-loop
 returns-2 c =

@@ -63,7 +63,8 @@ returns-3 c =
     let indexed = c .before .before .before .before .indexed in
     let kind = c .before .before .before .kind in
     let if2 = c .before .before .if2 in
-    result-clause (pre .0) (pre .1) (pre .2) (is-body .ensures) (if1 .left) (wide .ensures .0) (first-node .ensures .0) (indexed .ensures) (kind .ensures) (if2 .left) (c .wide2 .ensures .0 ∙ c .before .field .ensures)
+    result-clause (pre .0) (pre .1) (pre .2) (is-body .ensures) (if1 .left) (wide .ensures .0) (first-node .ensures .0) (indexed .ensures) (kind .ensures)
+    (if2 .left) (c .wide2 .ensures .0 ∙ c .before .field .ensures)
 
 pub is-result-spec : {M : Type 1} → statement M
 is-result-spec =

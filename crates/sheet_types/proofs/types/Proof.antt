@@ -90,7 +90,8 @@ returns-2 c =
     let type-at = c .before .before .before .before .before .type-at in
     let children-typed = c .before .before .before .children-typed in
     let if1 = c .before .before .if1 in
-    result-refused (loop .inv) (loop-test .taken) (indexed .ensures) (type-at .ensures) (children-typed .ensures) (not-false _ (if1 .left)) (c .before .result-typed .ensures) (not-true _ (c .if2 .taken))
+    result-refused (loop .inv) (loop-test .taken) (indexed .ensures) (type-at .ensures) (children-typed .ensures)
+    (not-false _ (if1 .left)) (c .before .result-typed .ensures) (not-true _ (c .if2 .taken))
 
 add-k : tie.Need-add-k Inv-loop μ-loop
 add-k c = search needs
@@ -106,7 +107,8 @@ loop-again c =
     let type-at = c .before .before .before .before .before .type-at in
     let children-typed = c .before .before .before .children-typed in
     let if1 = c .before .before .if1 in
-    typing-goes-on (loop .inv) (loop-test .taken) (indexed .ensures) (type-at .ensures) (children-typed .ensures) (not-false _ (if1 .left)) (c .before .result-typed .ensures) (not-false _ (c .if2 .left))
+    typing-goes-on (loop .inv) (loop-test .taken) (indexed .ensures) (type-at .ensures) (children-typed .ensures)
+    (not-false _ (if1 .left)) (c .before .result-typed .ensures) (not-false _ (c .if2 .left))
 
 returns-3 : tie.Need-returns-3 Inv-loop μ-loop
 returns-3 c =
