@@ -29,6 +29,7 @@ extern "C" {
 #define ZIFNORA_SHEET_BYTES 32768u        /* a sheet */
 #define ZIFNORA_TRANSLATION_BYTES 40960u  /* a translation; a buffer of this length is always long enough */
 #define ZIFNORA_READINGS 32u              /* readings */
+#define ZIFNORA_TYPES 64u                 /* the greatest type of a typed sheet; 0 is that of numbers */
 #define ZIFNORA_NESTING 1024u             /* the nesting allowance, from 1 */
 #define ZIFNORA_CELLS 960u                /* the cell allowance, from 0: cells alive together */
 #define ZIFNORA_ROWS 16u                  /* rows of readings in one call, from 0 */
@@ -38,11 +39,13 @@ extern "C" {
 #define ZIFNORA_RECORD_BYTES 20u          /* the answer record */
 #define ZIFNORA_VIEW_BYTES 6u             /* the driver's view of an answer record */
 
-/* The kinds of records, with document 01's words. */
+/* The kinds of records, with document 01's words; those with types are of document 02. */
 enum zifnora_sheet_kind {
   ZIFNORA_SHEET_HEAD = 1,
   ZIFNORA_SHEET_CONSTRUCTOR = 2,
   ZIFNORA_SHEET_FUNCTION = 3,
+  ZIFNORA_SHEET_TYPED_CONSTRUCTOR = 6, /* arity, own type, field types */
+  ZIFNORA_SHEET_TYPED_FUNCTION = 7,    /* parameters, node count, result type, parameter types */
   ZIFNORA_SHEET_NUMBER = 16,
   ZIFNORA_SHEET_READING = 17,
   ZIFNORA_SHEET_PARAMETER = 18,
@@ -90,7 +93,7 @@ enum zifnora_outcome {
   ZIFNORA_TRUNCATED = 1,       /* "cut": the file ends inside a record, or before the last one due */
   ZIFNORA_OVERSIZE = 2,        /* "oversize": the file is above its size */
   ZIFNORA_BAD_RECORD = 3,      /* "bad record": kind not due, length wrong, operator code above 5, or bytes after the last record */
-  ZIFNORA_BAD_COUNT = 4,       /* "bad count": a count outside its range, or a sum of counts */
+  ZIFNORA_BAD_COUNT = 4,       /* "bad count": a count or a type outside its range, or a sum of counts */
   ZIFNORA_OUT_OF_RANGE = 5,    /* "dangling": a reference or a parameter position out of range; a damaged cell */
   ZIFNORA_BAD_TREE = 6,        /* "misgrown": a child, case or pattern rule broken */
   ZIFNORA_BAD_ARGUMENTS = 7,   /* "misfit": argument count wrong, or `result` has parameters */
@@ -98,6 +101,7 @@ enum zifnora_outcome {
   ZIFNORA_BAD_READINGS = 9,    /* "sensor count": the readings are not as many as the sheet asks for, for each row */
   ZIFNORA_BAD_ALLOWANCE = 10,  /* "bad allowance": a ceiling passed (of rows too), nesting 0, or cells not lent */
   ZIFNORA_CLOSED_READING = 21, /* "closed": a reading node outside the hirer's set; place: that node's record */
+  ZIFNORA_ILL_TYPED = 22,      /* "ill typed": a typed sheet breaks a rule of types; place: the first such node's record */
   /* Stops: */
   ZIFNORA_NO_STEP = 11,    /* "steps" */
   ZIFNORA_NO_NESTING = 12, /* "nesting" */
@@ -116,7 +120,8 @@ enum zifnora_outcome {
 static inline int zifnora_is_number(uint32_t outcome) { return outcome == ZIFNORA_NUMBER; }
 static inline int zifnora_is_constructor(uint32_t outcome) { return outcome == ZIFNORA_CONSTRUCTOR; }
 static inline int zifnora_is_refusal(uint32_t outcome) {
-  return (outcome >= ZIFNORA_TRUNCATED && outcome <= ZIFNORA_BAD_ALLOWANCE) || outcome == ZIFNORA_CLOSED_READING;
+  return (outcome >= ZIFNORA_TRUNCATED && outcome <= ZIFNORA_BAD_ALLOWANCE) ||
+         (outcome >= ZIFNORA_CLOSED_READING && outcome <= ZIFNORA_ILL_TYPED);
 }
 static inline int zifnora_is_stop(uint32_t outcome) { return outcome >= ZIFNORA_NO_STEP && outcome <= ZIFNORA_NO_CELL; }
 static inline int zifnora_is_fault(uint32_t outcome) {
@@ -179,11 +184,11 @@ static inline int zifnora_decode_record(const uint8_t *bytes, struct zifnora_rec
 }
 
 /* Translates a sheet; calls of one function with equal arguments share a label (document 02, request 4). Returns the translation's
- * length; `out` starts with the translation and stays as it was past it. A refusal (1 to 8) leaves all of `out` as it was. */
+ * length; `out` starts with the translation and stays as it was past it. A refusal (1 to 8, 22) leaves all of `out` as it was. */
 uint64_t zifnora_translate(const uint8_t *sheet, size_t sheet_length, uint8_t *out, size_t out_length);
 
 /* How long the translation would be: returns what zifnora_translate would return for an `out` of `out_length` bytes, with none
- * lent. That is the translation's length, or the refusal: 1 to 7 with its place, then 8 where the translation is longer. Any
+ * lent. That is the translation's length, or the refusal: 1 to 7 or 22 with its place, then 8 where the translation is longer. Any
  * number of 64 bits may be stated, also one that no buffer has. Nothing is written. */
 uint64_t zifnora_translated_length(const uint8_t *sheet, size_t sheet_length, uint64_t out_length);
 
@@ -269,7 +274,7 @@ static inline uint64_t zifnora_run_rows(const uint8_t *translation, size_t trans
                                 &lent, records, records_length);
 }
 
-/* Translates a sheet into `out` and runs the translation; the rest is as for zifnora_run. Any refusal (1 to 7 of the sheet, then
+/* Translates a sheet into `out` and runs the translation; the rest is as for zifnora_run. Any refusal (1 to 7 and 22 of the sheet, then
  * 8 where `out` is too short, then 9, then 10) is in the record, and leaves `out` and `cells` as they were. */
 static inline uint64_t zifnora_translate_and_run(const uint8_t *sheet, size_t sheet_length, uint8_t *out, size_t out_length,
                                                  const int32_t *readings, size_t readings_count, uint32_t steps,

@@ -9,13 +9,10 @@ pub const AGAINST_TYPED_RUNS: &[Fault] = &[
     Fault::OwnTypeZero,
     Fault::BodyUnchecked,
     Fault::ClauseNodeUnchecked,
-    Fault::FirstClauseNodeOnly,
     Fault::NumberScrutinee,
     Fault::ArgumentsUnchecked,
-    Fault::LastArgumentUnchecked,
     Fault::ArgumentsShifted,
     Fault::FieldsUnchecked,
-    Fault::LastFieldUnchecked,
     Fault::FieldsShifted,
     Fault::ThirdNodeUnchecked,
     Fault::SecondNodeUnchecked,
@@ -24,7 +21,6 @@ pub const AGAINST_TYPED_RUNS: &[Fault] = &[
     Fault::RightUnchecked,
     Fault::CallAsNumber,
     Fault::CallOfCaller,
-    Fault::BuildByConstructor,
     Fault::ParameterNextPosition,
     Fault::PatternAsNumber,
     Fault::PatternNextPosition,
@@ -81,7 +77,7 @@ pub const TYPING: &[Listed] = &[
     (
         Fault::TypeLowByte,
         "the low byte of a type alone looked at",
-        2000,
+        5000,
     ),
     (
         Fault::ConstructorTypesLonger,
@@ -96,12 +92,12 @@ pub const TYPING: &[Listed] = &[
     (
         Fault::FunctionTypesLonger,
         "more parameter types than parameters accepted",
-        2000,
+        5000,
     ),
     (
         Fault::FunctionTypesShorter,
         "fewer parameter types than parameters accepted",
-        2000,
+        5000,
     ),
     (
         Fault::TypesCountAsLength,
@@ -116,12 +112,12 @@ pub const TYPING: &[Listed] = &[
     (
         Fault::TypedResultParameters,
         "parameters of `result` accepted in a typed sheet",
-        2000,
+        10000,
     ),
     (
         Fault::TypesBeforeTree,
         "22 of a node before 6 of a later one",
-        5000,
+        10000,
     ),
     (
         Fault::TypesBeforePatterns,
@@ -177,7 +173,7 @@ pub const TYPING: &[Listed] = &[
     (
         Fault::FirstClauseOnly,
         "the first clause's constructor alone compared",
-        2000,
+        5000,
     ),
     (
         Fault::NumberScrutinee,
@@ -228,7 +224,7 @@ pub const TYPING: &[Listed] = &[
     (
         Fault::ConditionUnchecked,
         "the type of a condition not compared",
-        2000,
+        5000,
     ),
     (
         Fault::LeftUnchecked,

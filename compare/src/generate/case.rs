@@ -84,17 +84,17 @@ fn damaged_typed(random: &mut Random) -> Vec<u8> {
     let mut file = match way {
         0 | 1 => typed_ceiling::greatest(random),
         2 | 3 => encoded(random, sheet::sheet),
-        4..=7 => return typed::guessed(random),
-        8..=14 => return typed::nearly(random),
-        15..=44 => return typed::broken(random),
-        45..=54 => typed::broken(random),
+        4..=6 => return typed::guessed(random),
+        7..=12 => return typed::nearly(random),
+        13..=57 => return typed::broken(random),
+        58..=65 => typed::broken(random),
         _ => typed::well_typed(random),
     };
     match way {
-        0 | 55..=71 => typed_damage::change_type(random, &mut file),
-        2 | 3 | 72..=76 => typed_damage::mix(random, &mut file),
-        77..=84 => typed_damage::relength(random, &mut file),
-        85..=90 => damage::damage(random, &mut file),
+        0 | 66..=78 => typed_damage::change_type(random, &mut file),
+        2 | 3 | 79..=83 => typed_damage::mix(random, &mut file),
+        84..=91 => typed_damage::relength(random, &mut file),
+        92..=95 => damage::damage(random, &mut file),
         _ => targeted::break_rules(random, &mut file),
     }
     file
