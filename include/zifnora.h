@@ -10,9 +10,9 @@
  *
  * Stack: a run takes less than 112 KiB, for an owner or a hirer, on one row of readings or on several and in the joined call, the
  * other calls less than 32 KiB. These bounds are measured, not proved. `bench` measures on files that nest in each way in which
- * visits can nest, to 1,024 open visits, and prints: a run 13,720 bytes, 96 more for each visit that stays open, 107,224 at nesting
- * 1,024; for a hirer 13,752 and 107,256; on several rows 13,768 and 107,272; the joined call 27,992 and 107,336; translating 19,208;
- * asking for a translation's length 16,648; listing a context 24, of one cell as of 960; a driver's view 0. Another build of the
+ * visits can nest, to 1,024 open visits, and prints: a run 13,768 bytes, 96 more for each visit that stays open, 107,224 at nesting
+ * 1,024; for a hirer 13,800 and 107,256; on several rows 13,816 and 107,272; the joined call 30,088 and 107,336; translating 21,304;
+ * asking for a translation's length 18,744; listing a context 24, of one cell as of 960; a driver's view 0. Another build of the
  * archive has to be measured again.
  */
 #ifndef ZIFNORA_H

@@ -5,7 +5,7 @@ use crate::measure::{
 };
 use crate::plain::two_bytes;
 use crate::{chains, pad, programs, stack, templates};
-use compare::generate::{ceiling, damage::records, random::Random};
+use compare::generate::{ceiling, damage::records, random::Random, typed_ceiling};
 use compare::interface::{count, Allowances, Interface};
 use compare::model::answer::{Answer, RECORD};
 use compare::model::{correct, kept, plain as forgetful, translation, Correct};
@@ -172,6 +172,11 @@ fn greatest_sheet() -> Vec<u8> {
     ceiling::greatest(&mut Random::new(1))
 }
 
+/// A typed sheet at all limits.
+fn greatest_typed_sheet() -> Vec<u8> {
+    typed_ceiling::greatest(&mut Random::new(1))
+}
+
 /// Rows in one call, beside single runs.
 pub fn rows(subject: &dyn Interface) {
     println!("{MOST_ROWS} rows in one call beside {MOST_ROWS} single runs");
@@ -211,7 +216,11 @@ pub fn stack(subject: &dyn Interface) {
     }
     translations.push(("(file at all limits)", translated(subject, &greatest)));
     let mut sheets = chains::sheets();
-    sheets.push(("(sheet at all limits)", greatest.clone()));
+    let at_limits = [
+        ("(sheet at all limits)", greatest),
+        ("(typed, all limits)", greatest_typed_sheet()),
+    ];
+    sheets.extend(at_limits.clone());
     let (mut cells, mut out, mut record) = (lent_cells(), vec![0; TRANSLATION_BYTES], [0; RECORD]);
     for (name, file) in &translations {
         let readings = vec![0; two_bytes(file, 4) as usize];
@@ -236,12 +245,16 @@ pub fn stack(subject: &dyn Interface) {
             subject.translate_and_run(&sheet, &mut out, &readings, allowances, cells, record);
         });
     }
-    stack_line("translate", "(sheet at all limits)", &mut || {
-        subject.translate(&greatest, &mut out);
-    });
-    stack_line("translated length", "(sheet at all limits)", &mut || {
-        subject.translated_length(&greatest, u64::MAX);
-    });
+    for (name, sheet) in &at_limits {
+        stack_line("translate", name, &mut || {
+            subject.translate(sheet, &mut out);
+        });
+    }
+    for (name, sheet) in &at_limits {
+        stack_line("translated length", name, &mut || {
+            subject.translated_length(sheet, u64::MAX);
+        });
+    }
     listing_stack_lines(subject);
     view_stack_line(subject, &record);
 }
