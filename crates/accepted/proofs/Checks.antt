@@ -11,7 +11,7 @@ use Rattle.definitions.specs.Shape.{fileShape}
 use Rattle.definitions.specs.References.{inRange, references}
 use Rattle.definitions.specs.SheetRules.{argumentsMatch, arguments, treeRight, tree, patternRight, pattern}
 use Rattle.definitions.specs.Types.{typeRight, typing, types}
-use Rattle.definitions.specs.Checks.{sheetVerdict, translationVerdict}
+use Rattle.definitions.specs.Checks.{checksToSix, sheetVerdict, translationVerdict}
 use Rattle.definitions.specs.declared.Layout.the-variants.{Sheet, Translation}
 use Rattle.definitions.specs.declared.Verdict.the-variants.{Accepted}
 use Rattle.laws.proofs.Verdicts.{both-accepted, required, first-each}
@@ -25,7 +25,7 @@ pub record SheetChecks (b : List ℕ) : Type 0 where
   pub types : types b ≡ Accepted
 
 sheet-checks : (b : List ℕ) → sheetVerdict b ≡ Accepted → SheetChecks b
-unfolding sheetVerdict
+unfolding sheetVerdict checksToSix
 sheet-checks b e =
     let o = both-accepted _ _ e in
     let p = both-accepted _ _ (o .0) in

@@ -11,14 +11,17 @@ use Rattle.definitions.specs.Types.{types}
 use Rattle.definitions.specs.declared.Layout.the-variants.{Sheet, Translation}
 use Rattle.definitions.specs.declared.Verdict.{Verdict}
 
--- what the reader of sheets says
-unfoldable pub sheetVerdict : List ℕ → Verdict
-sheetVerdict b =
+-- the checks of a sheet up to 6
+unfoldable pub checksToSix : List ℕ → Verdict
+checksToSix b =
     fileShape Sheet b
     andThen firstOf (due b) (λ r. references b r andThen arguments b r)
     andThen firstOf (nodes b) (tree b)
     andThen firstOf (nodes b) (pattern b)
-    andThen types b
+
+-- what the reader of sheets says
+unfoldable pub sheetVerdict : List ℕ → Verdict
+sheetVerdict b = checksToSix b andThen types b
 
 -- what the reader of translations says; "Translations never give 6 or 7"
 unfoldable pub translationVerdict : List ℕ → Verdict

@@ -12,7 +12,7 @@ use Rattle.definitions.specs.Shape.{shapeAt, shape, fileShape}
 use Rattle.definitions.specs.References.{references}
 use Rattle.definitions.specs.SheetRules.{arguments, tree, pattern}
 use Rattle.definitions.specs.Types.{typing, types}
-use Rattle.definitions.specs.Checks.{sheetVerdict, translationVerdict}
+use Rattle.definitions.specs.Checks.{checksToSix, sheetVerdict, translationVerdict}
 use Rattle.definitions.specs.Translate.{translationRefusal}
 use Rattle.definitions.specs.Run.{runVerdict}
 use Rattle.definitions.specs.declared.Layout.{Layout}
@@ -73,7 +73,7 @@ unfolding types typing isRefusal within
 types-numbered b = chosen (isTyped b) _ Accepted (each (nodes b) _ (λ k. required _ illTyped _ refl)) tt
 
 pub sheet-numbered : (b : List ℕ) → NumberedIn (sheetVerdict b)
-unfolding sheetVerdict arguments tree pattern isRefusal within
+unfolding sheetVerdict checksToSix arguments tree pattern isRefusal within
 sheet-numbered b =
     either _ _ (either _ _ (either _ _ (either _ _ (file-numbered Sheet b)
     (each (due b) _ (λ r. either _ _ (references-numbered b r) (required _ badArguments r refl))))

@@ -9,7 +9,7 @@ use Rattle.definitions.specs.Numbers.{illTyped, isFault, isAnswer}
 use Rattle.definitions.specs.Ranges.{within}
 use Rattle.definitions.specs.Layouts.{isTyped, nodes, firstNode}
 use Rattle.definitions.specs.Types.{typeRight, typing, types}
-use Rattle.definitions.specs.Checks.{sheetVerdict}
+use Rattle.definitions.specs.Checks.{checksToSix, sheetVerdict}
 use Rattle.definitions.specs.Translate.{translationRefusal, translationAnswer}
 use Rattle.definitions.specs.TypesRemoved.{typesRemoved}
 use Rattle.definitions.specs.declared.Verdict.the-variants.{Accepted, Refused}
@@ -22,7 +22,7 @@ use Rattle.typed_sheets.proofs.Removed.{removed-accepted, removed-translation}
 use Rattle.answer.specs.declared.Answer.{Answer}
 use Rattle.answer.specs.Answers.{answerOf}
 use Rattle.join.specs.Promise.{joinAnswer, Joins}
-use Rattle.demands.specs.TypedSheets.{checksToSix, FirstIllTyped}
+use Rattle.demands.specs.TypedSheets.{FirstIllTyped}
 use Rattle.demands.proofs.Refusals.{joining-numbered}
 use Rattle.demands.proofs.Own.{after-own}
 use Rattle.demands.proofs.OwnInC.{OwnOutcome}
@@ -60,7 +60,7 @@ module _ (sheet : List ℕ) (typed : isTyped sheet ≡ true) (passed : checksToS
       rw typed (first-refused k (nodes sheet) (typing sheet) illTyped (firstNode sheet + k) (first .below) before here)
 
   pub first-ill-typed : sheetVerdict sheet ≡ Refused illTyped (firstNode sheet + k)
-  unfolding sheetVerdict checksToSix
+  unfolding sheetVerdict
   first-ill-typed = then-accepted _ _ passed ∙ types-refused
 
 -- translating the sheet with its types removed

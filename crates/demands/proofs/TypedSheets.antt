@@ -10,16 +10,21 @@ use lib.IntN.{ℤ}
 use lib.ListN.{length, take}
 use Rattle.definitions.specs.Numbers.{illTyped}
 use Rattle.definitions.specs.Layouts.{isTyped, readings, firstNode}
-use Rattle.definitions.specs.Checks.{sheetVerdict}
+use Rattle.definitions.specs.Checks.{checksToSix, sheetVerdict}
 use Rattle.definitions.specs.Translate.{translation}
 use Rattle.definitions.specs.TypesRemoved.{typesRemoved}
+use Rattle.definitions.specs.Outcomes.{Outcome}
 use Rattle.definitions.specs.AnswerRecord.{recorded}
 use Rattle.definitions.specs.declared.Verdict.{Verdict}
 use Rattle.definitions.specs.declared.Verdict.the-variants.{Accepted, Refused}
 use Rattle.definitions.specs.declared.Written.{Written}
 use Rattle.definitions.specs.declared.Written.the-variants.{Length}
+use Rattle.agreement.specs.Meaning.{OwnAnswer}
+use Rattle.agreement.specs.Answers.{RuleGives}
+use Rattle.agreement.proofs.Demand3.{rule-gives-exactly-own}
 use Rattle.typed_sheets.specs.TypeErrors.{NoTypeError}
 use Rattle.typed_sheets.specs.ReaderBefore.{sheetVerdictBefore}
+use Rattle.typed_sheets.proofs.Own.{own-sound}
 use Rattle.typed_sheets.proofs.Removed.{removed-accepted, removed-untyped, removed-translation, removed-readings}
 use Rattle.typed_sheets.proofs.Unchanged.{untyped-unchanged}
 use Rattle.typed_sheets.proofs.ReadBefore.{read-as-before, accepted-before}
@@ -34,18 +39,26 @@ use Rattle.join.specs.Promise.{Joins}
 use Rattle.zifnora_c.specs.Codes.{codeNumber, codeValue}
 use Rattle.zifnora_c.specs.Promise.{TranslatesC, RunsC, RunsForHirerC, RunsRowsC, JoinsC}
 use Rattle.demands.specs.Rows.{rowRecorded}
-use Rattle.demands.specs.TypedSheets.{checksToSix, FirstIllTyped}
+use Rattle.demands.specs.TypedSheets.{FirstIllTyped}
 use Rattle.demands.proofs.Handing.{handed, handed-own}
 use Rattle.demands.proofs.HandingInC.{handed-in-C}
 use Rattle.demands.proofs.OwnInC.{run-faithful-in-C, hirer-faithful-in-C, join-faithful-in-C}
 use Rattle.demands.proofs.OwnRows.{batch-faithful, batch-faithful-in-C}
 use Rattle.demands.proofs.HiredTrailers.{request-5-own}
-use Rattle.demands.proofs.Typed.{outcome-sound, answer-sound, joined-own, first-ill-typed, same-refusal, same-answer}
+use Rattle.demands.proofs.Typed.{no-type-error, outcome-sound, answer-sound, joined-own, first-ill-typed, same-refusal, same-answer}
 
 -- "22 (ill typed), after 6, at the first node in order that breaks a rule"
 pub request-11-refused : (sheet : List ℕ) (v : Verdict) (starts ends owners : List ℕ) → ReadSheet sheet v starts ends owners
     → isTyped sheet ≡ true → checksToSix sheet ≡ Accepted → (k : ℕ) → FirstIllTyped sheet k → v ≡ Refused illTyped (firstNode sheet + k)
 request-11-refused sheet v starts ends owners r typed passed k first = r .verdict ∙ first-ill-typed sheet typed passed k first
+
+-- the own answer of an accepted typed sheet is neither 14 nor 15, nor is what the evaluation rule taken without ceilings gives
+module _ (sheet : List ℕ) (accepted : sheetVerdict sheet ≡ Accepted) (typed : isTyped sheet ≡ true) (rs : List ℤ) (a : Outcome) where
+  pub request-11-own : OwnAnswer sheet rs a → NoTypeError (a .outcome)
+  request-11-own = own-sound sheet rs accepted typed a
+
+  pub request-11-rule : RuleGives (translation sheet) rs a → NoTypeError (a .outcome)
+  request-11-rule gives = no-type-error (a .outcome) (λ i. request-11-own (rule-gives-exactly-own sheet rs accepted a .0 (gives, i)))
 
 -- "The run of an accepted typed sheet never ends with 14 or 15": anyone who calls the translator and hands the bytes that it wrote, unchanged,
 -- to a run; any readings, any allowances, any cells

@@ -10,7 +10,7 @@ use Rattle.definitions.specs.References.{references}
 use Rattle.definitions.specs.Verdicts.{firstOf, _andThen_}
 use Rattle.definitions.specs.SheetRules.{arguments, timesChild, tree, parentOf, pattern}
 use Rattle.definitions.specs.Types.{typing, types}
-use Rattle.definitions.specs.Checks.{sheetVerdict, translationVerdict}
+use Rattle.definitions.specs.Checks.{checksToSix, sheetVerdict, translationVerdict}
 use Rattle.definitions.specs.declared.Layout.{Layout}
 use Rattle.definitions.specs.declared.Layout.the-variants.{Sheet, Translation}
 use Rattle.definitions.specs.declared.Verdict.{Verdict}
@@ -51,7 +51,7 @@ translation-read o r e =
     }
 
 pub sheet-refused : {b starts ends owners : List ℕ} {v : Verdict} {n p : ℕ} → Walked Sheet b v starts → v ≡ Refused n p → ReadSheet b v starts ends owners
-unfolding sheetVerdict
+unfolding sheetVerdict checksToSix
 sheet-refused {v} {n} {p} w e =
     record {
       verdict = e ∙ sym (then-refused _ _ n p (then-refused _ _ n p (then-refused _ _ n p (then-refused _ _ n p (sym (w .verdict) ∙ e)))));
@@ -67,7 +67,7 @@ sheet-read o r w e = record { verdict = e; index = λ f. o .index; runs = λ f. 
 -- the checks of a sheet whose shape is accepted
 module _ {b starts : List ℕ} (o : Opened Sheet b starts) {v : Verdict} (ev : v ≡ firstOf (due b) (λ r. references b r andThen arguments b r)) where
   pub names-refused : {n p : ℕ} → v ≡ Refused n p → v ≡ sheetVerdict b
-  unfolding sheetVerdict
+  unfolding sheetVerdict checksToSix
   names-refused {n} {p} e =
       e ∙ sym (then-refused _ _ n p (then-refused _ _ n p (then-refused _ _ n p (then-accepted _ _ (o .accepted) ∙ sym ev ∙ e))))
 
@@ -76,14 +76,14 @@ module _ {b starts : List ℕ} (o : Opened Sheet b starts) {v : Verdict} (ev : v
     names-passed = then-accepted _ _ (o .accepted) ∙ sym ev ∙ hv
 
     pub trees-refused : {n p : ℕ} → u ≡ Refused n p → u ≡ sheetVerdict b
-    unfolding sheetVerdict
+    unfolding sheetVerdict checksToSix
     trees-refused {n} {p} e = e ∙ sym (then-refused _ _ n p (then-refused _ _ n p (then-accepted _ _ names-passed ∙ sym eu ∙ e)))
 
     pub trees-accepted : u ≡ Accepted → TreesAccepted b
     trees-accepted e = record { names = sym ev ∙ hv; trees = sym eu ∙ e }
 
     pub checks-last : {x : Verdict} → u ≡ Accepted → x ≡ (firstOf (nodes b) (pattern b) andThen types b) → x ≡ sheetVerdict b
-    unfolding sheetVerdict
+    unfolding sheetVerdict checksToSix
     checks-last e f = f ∙ ap (λ (y : Verdict). y andThen types b) (sym (then-accepted _ _ (then-accepted _ _ names-passed ∙ sym eu ∙ e)))
 
 -- the pattern rules, and the types of a sheet that is typed

@@ -50,7 +50,7 @@ unfolding
     SheetRules.treeRight SheetRules.tree SheetRules.parentOf SheetRules.clauseOf SheetRules.clauseWithin SheetRules.belowArity
     SheetRules.patternRight SheetRules.pattern
     Types.typeBy Types.typeWithin Types.typeOf Types.argumentsTyped Types.clausesTyped Types.childrenTyped Types.isClauseOf Types.isClause
-    Types.resultTyped Types.typeRight Types.typing Types.types Checks.sheetVerdict Checks.translationVerdict
+    Types.resultTyped Types.typeRight Types.typing Types.types Checks.checksToSix Checks.sheetVerdict Checks.translationVerdict
     NodeFields.fieldsFrom NodeFields.clauseList NodeFields.chosen
     Operators.residue Operators.reduced Operators.inSignedRange Operators.isZero Operators.equal Operators.truth
     Operators.product Operators.quotient Operators.computed

@@ -46,7 +46,7 @@ unfolding
     References.children References.child References.clauses References.namesInRange References.inRange
     References.references
     SheetRules.argumentsMatch SheetRules.arguments SheetRules.timesChild SheetRules.isBody SheetRules.childrenRight SheetRules.treeRight
-    SheetRules.tree SheetRules.patternRight SheetRules.pattern Types.types Checks.sheetVerdict
+    SheetRules.tree SheetRules.patternRight SheetRules.pattern Types.types Checks.checksToSix Checks.sheetVerdict
     NodeFields.fieldsFrom Operators.residue SheetNodes.sheetNode SheetNodes.sheetNodeOf
     Trees.namesNode Trees.sameField Trees.sameFields Trees.samePlace Trees.sameTree Trees.deepest Trees.equalTrees
     Labels.calls Labels.firstCall Labels.isFirst Labels.labelOf Labels.actuals

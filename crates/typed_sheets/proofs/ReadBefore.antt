@@ -17,7 +17,7 @@ use Rattle.definitions.specs.Verdicts.{_andThen_, require, firstOf}
 use Rattle.definitions.specs.Layouts.{isTyped, items, functions, firstNode, due, constructorKind, functionKind, sectionKind, isDue}
 use Rattle.definitions.specs.Shape.{counts, operatorCode, shapeAt, shape, fileShape}
 use Rattle.definitions.specs.Types.{types}
-use Rattle.definitions.specs.Checks.{sheetVerdict}
+use Rattle.definitions.specs.Checks.{checksToSix, sheetVerdict}
 use Rattle.definitions.specs.declared.Layout.the-variants.{Sheet}
 use Rattle.definitions.specs.declared.Verdict.{Verdict}
 use Rattle.definitions.specs.declared.Verdict.the-variants.{Accepted, Refused}
@@ -124,7 +124,7 @@ module _ (b : List ℕ) (free : isTyped b ≡ false) where
 
 -- an untyped sheet is read as before
 pub read-as-before : (b : List ℕ) → isTyped b ≡ false → sheetVerdict b ≡ sheetVerdictBefore b
-unfolding sheetVerdict sheetVerdictBefore types
+unfolding sheetVerdict checksToSix sheetVerdictBefore types
 read-as-before b free = rw (free, same-file-shape b free) (then-nothing _)
 
 -- a sheet that was accepted

@@ -16,7 +16,7 @@ use Rattle.definitions.specs.Shape.{shape, fileShape}
 use Rattle.definitions.specs.References.{references}
 use Rattle.definitions.specs.SheetRules.{arguments, treeRight, tree, patternRight, pattern}
 use Rattle.definitions.specs.Types.{types}
-use Rattle.definitions.specs.Checks.{sheetVerdict}
+use Rattle.definitions.specs.Checks.{checksToSix, sheetVerdict}
 use Rattle.definitions.specs.Translate.{translation}
 use Rattle.definitions.specs.TypesRemoved.{typesRemoved}
 use Rattle.definitions.specs.declared.Layout.the-variants.{Sheet}
@@ -71,7 +71,7 @@ module _ (b : List ℕ) (accepted : sheetVerdict b ≡ Accepted) where
     types-pass = rw removed-untyped refl
 
     pub removed-accepted : sheetVerdict (typesRemoved b) ≡ Accepted
-    unfolding sheetVerdict
+    unfolding sheetVerdict checksToSix
     removed-accepted =
         let t = typesRemoved b in
         let names = first-all (due t) (λ r. references t r andThen arguments t r) (λ r h. names-pass b accepted typed r (rw same-due at h)) in
