@@ -36,4 +36,5 @@ pub mod AnswerRecord
 pub mod DriverView
 pub mod RunsInTurn
 pub mod Hirer
+pub mod ReadingSearch
 pub mod Listing

@@ -93,6 +93,14 @@ closedReading = 21
 abbrev pub illTyped : ℕ
 illTyped = 22
 
+-- "bad range" (document 02, request 12)
+abbrev pub badRange : ℕ
+badRange = 23
+
+-- "none" (document 02, request 12): "an outcome and no refusal"
+abbrev pub noValue : ℕ
+noValue = 24
+
 -- the outcome of a number
 abbrev pub isNumber : ℕ
 isNumber = 0
@@ -103,7 +111,7 @@ isConstructor = 100
 
 -- whether a number is a refusal's, "numbered refusal"
 unfoldable pub isRefusal : ℕ → Bool
-isRefusal n = within truncated badAllowance n || within closedReading illTyped n
+isRefusal n = within truncated badAllowance n || within closedReading badRange n
 
 -- whether it is a stop's
 unfoldable pub isStop : ℕ → Bool

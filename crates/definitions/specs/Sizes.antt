@@ -68,3 +68,7 @@ viewSize = 6
 -- document 02, request 1: "0 to 16 reading rows"
 abbrev pub mostRows : ℕ
 mostRows = 16
+
+-- document 02, request 12: "more than 1,024 values"
+abbrev pub mostValues : ℕ
+mostValues = 1024

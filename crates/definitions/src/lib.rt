@@ -24,3 +24,10 @@ pub enum Written {
     Length(usize),
     Refused { number: u16, place: usize },
 }
+
+// What a search for the value of a reading answers: the value found, that there is none, or the refusal's number and its place.
+pub enum Searched {
+    Found(i32),
+    NoValue,
+    Refused { number: u16, place: usize },
+}

@@ -69,6 +69,12 @@ pub const CLOSED_READING: u16 = 21;
 // "ill typed"
 pub const ILL_TYPED: u16 = 22;
 
+// "bad range"
+pub const BAD_RANGE: u16 = 23;
+
+// "none"
+pub const NO_VALUE: u16 = 24;
+
 // The outcome of a number, and of a constructor.
 pub const NUMBER: u16 = 0;
 
@@ -87,5 +93,5 @@ pub fn is_refusal(n: u16) -> bool
     if n < CLOSED_READING {
         return false;
     }
-    n <= ILL_TYPED
+    n <= BAD_RANGE
 }

@@ -45,6 +45,9 @@ pub const VIEW_BYTES: usize = 6;
 // Document 02, request 1: "0 to 16 reading rows".
 pub const MOST_ROWS: u32 = 16;
 
+// Document 02, request 12: "more than 1,024 values".
+pub const MOST_VALUES: u64 = 1024;
+
 // Where each record starts.
 pub type Starts = [u16; MOST_RECORDS];
 

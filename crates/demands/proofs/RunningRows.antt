@@ -22,9 +22,7 @@ use Rattle.definitions.specs.declared.Verdict.{Verdict}
 use Rattle.definitions.specs.declared.Verdict.the-variants.{Accepted, Refused}
 use Rattle.laws.proofs.Verdicts.{both-accepted, required}
 use Rattle.laws.proofs.Joined.{joined-split}
-use Rattle.laws.proofs.CellBytes.{over-size}
-use Rattle.agreement.proofs.KnownEnds.{rule-cells-allowed, rule-cells-full}
-use Rattle.allowances.proofs.Limits.{fitting}
+use Rattle.runs_in_turn.proofs.InTurn.{turn-answer, turn-cells}
 use Rattle.answer.proofs.Records.{answer-length}
 use Rattle.batch.specs.Promise.{rowsVerdict, rowsRecords}
 use Rattle.batch.proofs.InTurn.{next-below, records-length}
@@ -35,26 +33,6 @@ use Rattle.demands.specs.Rows.{RowExact}
 part-in-place : {l : List ℕ} (past front part rest : List ℕ) → l ≡ front ++ part ++ rest → drop (length front) (l ++ past) ≡ part ++ (rest ++ past)
 part-in-place past front part rest e =
     rw (e, append-assoc (front ++ part) rest past, append-assoc front part (rest ++ past)) (drop-append-seam front (part ++ (rest ++ past)))
-
--- a run keeps the number of lent bytes
-module _ (b : List ℕ) (rs : List ℤ) (steps nesting cellsAllowed : ℕ) (before : List ℕ) where
-  kept-by : (v : Verdict) → runVerdict b rs nesting cellsAllowed (length before) ≡ v
-      → length (bytesAfter v before (ruleCells b rs steps nesting cellsAllowed before)) ≡ length before
-  unfolding bytesAfter ruleCells runVerdict
-  kept-by (Refused n p) e = refl
-  kept-by Accepted e =
-      let fit = fitting nesting cellsAllowed (length before) _ refl (required _ badAllowance 0 (both-accepted _ _ e .1)) in
-      over-size before _ (rule-cells-full b rs cellsAllowed steps nesting) (omega (arith, rule-cells-allowed b rs cellsAllowed steps nesting, fit .lends))
-
-  cells-kept : length (runCells b rs steps nesting cellsAllowed before) ≡ length before
-  unfolding runCells
-  cells-kept = kept-by _ refl
-
-turn-kept : (b : List ℕ) (row : ℕ → List ℤ) (steps nesting cellsAllowed : ℕ) (before : List ℕ) (n : ℕ)
-    → length (cellsInTurn b row steps nesting cellsAllowed n before) ≡ length before
-unfolding cellsInTurn
-turn-kept b row steps nesting cellsAllowed before zero = refl
-turn-kept b row steps nesting cellsAllowed before (suc n) = cells-kept b (row n) steps nesting cellsAllowed _ ∙ turn-kept b row steps nesting cellsAllowed before n
 
 module _ (b : List ℕ) (rows : ℕ) (rs : List ℤ) (steps nesting cellsAllowed : ℕ) (before room : List ℕ)
     (accepted : rowsVerdict b rows rs nesting cellsAllowed (length before) (length room) ≡ Accepted) where
@@ -75,19 +53,12 @@ module _ (b : List ℕ) (rows : ℕ) (rs : List ℤ) (steps nesting cellsAllowed
         let inside = next-below (readings b) i rows (length rs) h (le-of-eq (sym (checks .readings-given))) in
         length-take-le (readings b) (drop (i * readings b) rs) (omega (arith, length-drop (i * readings b) rs, inside))
 
-    row-accepted : runVerdict b (rowOf b rs i) nesting cellsAllowed (length (cellsInTurn b (rowOf b rs) steps nesting cellsAllowed i before)) ≡ Accepted
-    unfolding runVerdict _andThen_ require
-    row-accepted =
-        rw (file-accepted, eq-eqb (length (rowOf b rs i)) (readings b) row-length, turn-kept b (rowOf b rs) steps nesting cellsAllowed before i, checks .allowances-fit) refl
-
-    pub row-answer : answerInTurn b (rowOf b rs) steps nesting cellsAllowed i before ≡ ruleAnswer b (rowOf b rs i) steps nesting cellsAllowed
-    unfolding answerInTurn runAnswer answerAfter
-    row-answer = rw row-accepted refl
+    row-answer : answerInTurn b (rowOf b rs) steps nesting cellsAllowed i before ≡ ruleAnswer b (rowOf b rs i) steps nesting cellsAllowed
+    row-answer = turn-answer b (rowOf b rs) steps nesting cellsAllowed before file-accepted (checks .allowances-fit) i row-length
 
     row-cells : cellsInTurn b (rowOf b rs) steps nesting cellsAllowed (suc i) before
         ≡ ruleCells b (rowOf b rs i) steps nesting cellsAllowed (cellsInTurn b (rowOf b rs) steps nesting cellsAllowed i before)
-    unfolding cellsInTurn runCells bytesAfter
-    row-cells = rw row-accepted refl
+    row-cells = turn-cells b (rowOf b rs) steps nesting cellsAllowed before file-accepted (checks .allowances-fit) i row-length
 
     -- the record in the row's place
     pub record InPlace (room′ : List ℕ) : Type 0 where

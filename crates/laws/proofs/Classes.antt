@@ -5,7 +5,7 @@ use mathlib.Core.Bool.{Bool, true, false, _||_, or-true, true≢false}
 use lib.Dec.{eqb}
 use native.Mathlib.Omega.{arith}
 use borrow.Author.Tests.{ne-eqb, eqb-true}
-use Rattle.definitions.specs.Numbers.{truncated, badAllowance, noStep, noCell, numberWanted, overflow, closedReading, illTyped, isNumber, isConstructor, isRefusal, isStop, isFault, isAnswer}
+use Rattle.definitions.specs.Numbers.{truncated, badAllowance, noStep, noCell, numberWanted, overflow, closedReading, badRange, isNumber, isConstructor, isRefusal, isStop, isFault, isAnswer}
 use Rattle.definitions.specs.Ranges.{within}
 use Rattle.laws.proofs.Ranges.{within-below, within-above, within-by}
 
@@ -19,21 +19,21 @@ pub stop-no-answer : (n : ℕ) → isStop n ≡ true → isAnswer n ≡ false
 unfolding isStop
 stop-no-answer n h = let w = within-by noStep noCell n h in below-faults n (omega (arith, w .least)) (w .greatest)
 
--- a refusal's number is one of the first ten, or 21 or 22
+-- a refusal's number is one of the first ten, or 21 to 23
 data Refusing (n : ℕ) : Type 0 where
   early : truncated ≤ n → n ≤ badAllowance → Refusing n
-  late : closedReading ≤ n → n ≤ illTyped → Refusing n
+  late : closedReading ≤ n → n ≤ badRange → Refusing n
 
-refusing-by : (n : ℕ) (x y : Bool) → within truncated badAllowance n ≡ x → within closedReading illTyped n ≡ y → (x || y) ≡ true → Refusing n
+refusing-by : (n : ℕ) (x y : Bool) → within truncated badAllowance n ≡ x → within closedReading badRange n ≡ y → (x || y) ≡ true → Refusing n
 refusing-by n true y e f h = let w = within-by truncated badAllowance n e in early (w .least) (w .greatest)
-refusing-by n false true e f h = let w = within-by closedReading illTyped n f in late (w .least) (w .greatest)
+refusing-by n false true e f h = let w = within-by closedReading badRange n f in late (w .least) (w .greatest)
 refusing-by n false false e f h = absurd (true≢false (sym h))
 
 refusing : (n : ℕ) → isRefusal n ≡ true → Refusing n
 unfolding isRefusal
-refusing n h = refusing-by n (within truncated badAllowance n) (within closedReading illTyped n) refl refl h
+refusing n h = refusing-by n (within truncated badAllowance n) (within closedReading badRange n) refl refl h
 
-above-faults : (n : ℕ) → closedReading ≤ n → n ≤ illTyped → isAnswer n ≡ false
+above-faults : (n : ℕ) → closedReading ≤ n → n ≤ badRange → isAnswer n ≡ false
 unfolding isAnswer isFault
 above-faults n h k =
     rw (ne-eqb n isNumber (λ e. omega arith), ne-eqb n isConstructor (λ e. omega arith), within-above numberWanted overflow n (omega arith)) refl

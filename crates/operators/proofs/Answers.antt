@@ -1,12 +1,13 @@
 -- The comparisons, and the operator that a code names.
 use mathlib.Core.Path.{_≡_, refl, sym, ap, _∙_}
 use Prim.Native.Nat.{ℕ, suc, _-_, _^_, _≤_, _<_}
-use mathlib.Core.Bool.{Bool, true, false, not, _&&_}
+use mathlib.Core.Bool.{Bool, true, false, not, _&&_, true≢false}
 use native.Mathlib.Omega.{arith}
+use native.Mathlib.Decide.{ℕ-discrete}
 use lib.IntN.{ℤ, pos, negsuc, _+ℤ_, _-ℤ_}
 use lib.Signed.{mag, ltZ}
-use lib.Dec.{ltb}
-use borrow.Author.Tests.{ne-eqb, le-ltb, lt-ltb, ltb-false}
+use lib.Dec.{ltb, eqb}
+use borrow.Author.Tests.{eq-eqb, ne-eqb, le-ltb, lt-ltb, ltb-false}
 use mir.Syntax.{Width, w32}
 use mir.Val.{bits, hbits, toZ, ofZ, SFits}
 use mir.ValLaws.{toZ-ofZ}
@@ -30,7 +31,7 @@ not-less-self : (x : ℤ) → ltZ x x ≡ false
 not-less-self (pos n) = le-ltb n n (omega arith)
 not-less-self (negsuc n) = le-ltb n n (omega arith)
 
-equal-self : (x : ℤ) → equal x x ≡ true
+pub equal-self : (x : ℤ) → equal x x ≡ true
 unfolding equal
 equal-self x = rw (not-less-self x) refl
 
@@ -41,6 +42,14 @@ apart a b k false e =
     let l : b < a = omega arith in
     rw (e, lt-ltb b a l) refl
 
+-- what the test of two numbers says
+pub equal-means : (x y : ℤ) → equal x y ≡ true → x ≡ y
+unfolding equal
+equal-means (pos a) (pos b) e = elim (ℕ-discrete a b) [ yes s ↦ ap pos s | no k ↦ absurd (true≢false (sym e ∙ apart a b k (ltb a b) refl)) ]
+equal-means (pos a) (negsuc b) e = absurd (true≢false (sym e))
+equal-means (negsuc a) (pos b) e = absurd (true≢false (sym e))
+equal-means (negsuc a) (negsuc b) e = elim (ℕ-discrete b a) [ yes s ↦ ap negsuc (sym s) | no k ↦ absurd (true≢false (sym e ∙ apart b a k (ltb b a) refl)) ]
+
 unequal : (w : Width) (x y : ℤ) → SFits w x → SFits w y → (ofZ w x ≡ ofZ w y → ⊥) → equal x y ≡ false
 unfolding equal
 unequal w (pos a) (pos b) f g k = apart a b k (ltb a b) refl
@@ -48,12 +57,22 @@ unequal w (pos a) (negsuc b) f g k = refl
 unequal w (negsuc a) (pos b) f g k = refl
 unequal w (negsuc a) (negsuc b) f g k = apart b a (λ e. k (ap (λ (n : ℕ). 2 ^ bits w - suc n) (sym e))) (ltb b a) refl
 
+-- numbers are equal where their bits are
 module _ (w : Width) (x y : ℤ) (f : SFits w x) (g : SFits w y) where
+  same-bits : ofZ w x ≡ ofZ w y → equal x y ≡ true
+  same-bits e =
+      let s : x ≡ y = sym (toZ-ofZ w x f) ∙ ap (toZ w) e ∙ toZ-ofZ w y g in
+      sym (ap (equal x) s) ∙ equal-self x
+
+  pub equal-bits : eqb (ofZ w x) (ofZ w y) ≡ equal x y
+  equal-bits = elim (ℕ-discrete (ofZ w x) (ofZ w y)) [
+    | yes e ↦ eq-eqb (ofZ w x) (ofZ w y) e ∙ sym (same-bits e)
+    | no k ↦ ne-eqb (ofZ w x) (ofZ w y) k ∙ sym (unequal w x y f g k)
+  ]
+
   pub equal-true : ofZ w x ≡ ofZ w y → pos 1 ≡ truth (equal x y)
   unfolding truth
-  equal-true e =
-      let s : x ≡ y = sym (toZ-ofZ w x f) ∙ ap (toZ w) e ∙ toZ-ofZ w y g in
-      ap truth (sym (equal-self x) ∙ ap (equal x) s)
+  equal-true e = ap truth (sym (same-bits e))
 
   pub equal-false : (ofZ w x ≡ ofZ w y → ⊥) → pos 0 ≡ truth (equal x y)
   unfolding truth

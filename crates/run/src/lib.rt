@@ -1,8 +1,10 @@
 // The run of a translation (document 01, "Run").
 ghost use mathlib.Core.Path.{_≡_};
+ghost use mathlib.Core.Bool.{true};
 ghost use lib.ListN.{length};
+ghost use Rattle.definitions.specs.Run.{allowancesFit};
 ghost use Rattle.run.specs.NodeTable.{tableEntries, FileRead, Readable};
-ghost use Rattle.run.specs.Promise.{Runs};
+ghost use Rattle.run.specs.Promise.{Runs, RunsHeld};
 
 mod answers;
 mod formal_places;
@@ -10,7 +12,7 @@ mod look_up;
 mod memory;
 pub mod node_table;
 mod packed;
-mod state;
+pub mod state;
 mod visit;
 
 use crate::answers::answered;
@@ -21,6 +23,7 @@ use crate::node_table::Table;
 use crate::node_table::fill_nodes;
 use crate::node_table::set_readings;
 use crate::packed::opened;
+use crate::state::State;
 use crate::visit::visit;
 use allowances::allowed;
 use answer::Answer;
@@ -53,6 +56,26 @@ pub fn read_file(file: &[u8], table: &mut Table) -> Verdict
     Verdict::Accepted
 }
 
+// Runs the translation that a table holds, on the readings that it holds: the state that the last visit leaves.
+pub fn run_held(
+    file: &[u8],
+    table: &Table,
+    steps: u32,
+    nesting: u32,
+    cells_allowed: u32,
+    cells: &mut &mut [u8],
+) -> State
+    requires { ⌜ Readable (now file) (now table) × (allowancesFit nesting «cells_allowed» (length (now (now cells))) ≡ true) ⌝ }
+    ensures { λ r. ⌜ RunsHeld (now (file .entry)) (now (table .entry)) steps nesting «cells_allowed» (now (now (cells .entry))) r (now (now (cells .exit)))
+        × (now (cells .exit) .ptr ≡ now (cells .entry) .ptr) ⌝ }
+{
+    let limits = nesting + 0x1_0000 * cells_allowed;
+    let first = first_body(file) as u32;
+    let mut counts = [steps, 0u32, 0u32, 0u32];
+    let x = visit(&file, table, cells, &mut counts, limits, first);
+    opened(x, counts[LEFT], counts[MOST])
+}
+
 // Runs the translation that a table holds: the readings come into the table here, and its nodes stay, so that it can be run again.
 pub fn run_table(
     file: &[u8],
@@ -75,11 +98,8 @@ pub fn run_table(
         return refused(numbers::BAD_ALLOWANCE, 0);
     }
     set_readings(table, readings);
-    let limits = nesting + 0x1_0000 * cells_allowed;
-    let first = first_body(file) as u32;
-    let mut counts = [steps, 0u32, 0u32, 0u32];
-    let x = visit(&file, table, cells, &mut counts, limits, first);
-    answered(table, opened(x, counts[LEFT], counts[MOST]), steps)
+    let end = run_held(file, table, steps, nesting, cells_allowed, cells);
+    answered(table, end, steps)
 }
 
 // Runs a translation on a list of readings, with allowances of steps, nesting and live cells, in lent cells of 68 bytes. The answer

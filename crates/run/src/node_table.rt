@@ -8,7 +8,7 @@ ghost use Rattle.definitions.specs.Layouts.{nodes, due};
 ghost use Rattle.definitions.specs.declared.Layout.the-variants.{Translation};
 ghost use Rattle.file_records.specs.Index.{Opened};
 ghost use Rattle.run.specs.FormalTable.{FormalTable};
-ghost use Rattle.run.specs.NodeTable.{tableEntries, kindPart, firstPart, secondPart, thirdPart, numberPart, readingIn, Parts, ListEntry, EntryOf, NodeTable, ReadingsSet};
+ghost use Rattle.run.specs.NodeTable.{tableEntries, kindPart, firstPart, secondPart, thirdPart, numberPart, readingIn, readingSet, Parts, ListEntry, EntryOf, NodeTable, ReadingsSet};
 ghost use Rattle.run.specs.States.{Ready};
 use crate::formal_places::Places;
 use crate::look_up::body;
@@ -91,15 +91,23 @@ pub(crate) fn fill_nodes(tab: &mut Table, b: &[u8], index: &Starts, ends: &Ends,
     }
 }
 
+// Sets reading `i` in a table.
+pub fn set_reading(tab: &mut Table, i: usize, z: i32)
+    requires { ⌜ (length (now tab) ≡ tableEntries) × (i < mostReadings) ⌝ }
+    ensures { λ _. ⌜ now (tab .exit) ≡ readingSet (now (tab .entry)) i z ⌝ }
+{
+    let bits = bits_of(z);
+    tab[MOST_NODES + i] = bits as u64;
+}
+
 // Sets the readings in a table.
-pub(crate) fn set_readings(tab: &mut Table, readings: &[i32])
+pub fn set_readings(tab: &mut Table, readings: &[i32])
     requires { ⌜ (length (now tab) ≡ tableEntries) × (length (now readings) ≤ mostReadings) ⌝ }
     ensures { λ _. ⌜ ReadingsSet (now (tab .entry)) (now (readings .entry)) (now (tab .exit)) ⌝ }
 {
     let mut i: usize = 0;
     while i < readings.len() {
-        let bits = bits_of(readings[i]);
-        tab[MOST_NODES + i] = bits as u64;
+        set_reading(tab, i, readings[i]);
         i += 1;
     }
 }

@@ -1,10 +1,12 @@
 -- `run::node_table::set_readings` meets its contract: the readings passed are set, and the nodes stay.
 use mathlib.Core.Path.{refl}
 use Prim.Native.Nat.{_-_}
-use mir.Syntax.{w32}
-use mir.ValLaws.{toZ-ofZ}
 use native.Mathlib.Omega.{arith}
-use lib.ListN.{length}
+use lib.IntN.{pos}
+use lib.ListN.{length, getD}
+use mir.Syntax.{w32}
+use mir.Val.{SFits}
+use mir.ValLaws.{toZ-ofZ}
 use borrow.Author.Needs.{needs}
 use Rattle.run.proofs.ReadingEntries.{SettingReadings, setting-begins, setting-goes-on, setting-ends}
 use Rattle.run.proofs.node_table.set_readings.Statement.{statement}
@@ -21,29 +23,17 @@ loop-holds c =
     let pre = c .pre in
     setting-begins _ _ (pre .0) (pre .1)
 
-mul-bits-of : tie.Need-mul-bits-of Inv-loop μ-loop
-mul-bits-of c = search needs
+mul-set-reading : tie.Need-mul-set-reading Inv-loop μ-loop
+mul-set-reading c = search needs
 
-shared-slice-copy-out-bits-of : tie.Need-shared-slice-copy-out-bits-of Inv-loop μ-loop
-shared-slice-copy-out-bits-of c = search needs
+shared-slice-copy-out-set-reading : tie.Need-shared-slice-copy-out-set-reading Inv-loop μ-loop
+shared-slice-copy-out-set-reading c = search needs
 
-bits-of-requires : tie.Need-bits-of-requires Inv-loop μ-loop
-bits-of-requires c κs = search needs
-
-cast-tab : tie.Need-cast-tab Inv-loop μ-loop
-cast-tab c = search needs
-
-add-tab : tie.Need-add-tab Inv-loop μ-loop
-add-tab c = search needs
-
-mul-tab : tie.Need-mul-tab Inv-loop μ-loop
-mul-tab c = search needs
-
-element-write-tab : tie.Need-element-write-tab Inv-loop μ-loop
-element-write-tab c =
-    let loop = c .before .before .before .loop in
+set-reading-requires : tie.Need-set-reading-requires Inv-loop μ-loop
+set-reading-requires c κs =
     let loop-test = c .before .before .loop-test in
-    omega (arith, loop .inv .narrow, loop-test .taken)
+    let inv = c .before .before .before .loop .inv in
+    (inv .room, omega (arith, inv .narrow, loop-test .taken))
 
 add-i : tie.Need-add-i Inv-loop μ-loop
 add-i c = search needs
@@ -53,8 +43,11 @@ loop-less c = search needs
 
 loop-again : tie.Need-loop-again Inv-loop μ-loop
 loop-again c =
-    setting-goes-on _ _ _ _ (c .before .before .before .loop .inv) _ _ _ (c .before .before .loop-test .taken) (record { sfits = search needs })
-    (toZ-ofZ w32 _ (record { sfits = search needs })) refl (c .bits-of .ensures) (search needs)
+    let loop-test = c .before .before .before .loop-test in
+    let inv = c .before .before .before .before .loop .inv in
+    let args = c .before .before .before .before .before .args in
+    let fits : SFits w32 (getD (args .readings .now) (c .before .before .before .before .loop .i) (pos 0)) = record { sfits = search needs } in
+    rw (c .set-reading .ensures, toZ-ofZ w32 _ fits) (setting-goes-on _ _ _ _ inv _ (loop-test .taken) fits refl)
 
 returns : tie.Need-returns Inv-loop μ-loop
 returns c = setting-ends _ _ _ _ (c .before .loop .inv) (c .loop-test .left)
@@ -66,13 +59,9 @@ set-readings-spec =
     Inv-loop
     μ-loop
     loop-holds
-    mul-bits-of
-    shared-slice-copy-out-bits-of
-    bits-of-requires
-    cast-tab
-    add-tab
-    mul-tab
-    element-write-tab
+    mul-set-reading
+    shared-slice-copy-out-set-reading
+    set-reading-requires
     add-i
     loop-less
     loop-again

@@ -1,0 +1,4 @@
+pub mod Levels
+pub mod Widened
+pub mod Refusals
+pub mod Searching
