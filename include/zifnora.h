@@ -33,6 +33,7 @@ extern "C" {
 #define ZIFNORA_NESTING 1024u             /* the nesting allowance, from 1 */
 #define ZIFNORA_CELLS 960u                /* the cell allowance, from 0: cells alive together */
 #define ZIFNORA_ROWS 16u                  /* rows of readings in one call, from 0 */
+#define ZIFNORA_VALUES 1024u              /* values in the range of a search, from 1 */
 #define ZIFNORA_CELL_BYTES 68u            /* lent for each cell */
 #define ZIFNORA_ENTRY_BYTES 8u            /* an entry of a cell */
 #define ZIFNORA_ENTRIES 8u                /* entries of a cell, one for each position of a parameter */
@@ -102,6 +103,7 @@ enum zifnora_outcome {
   ZIFNORA_BAD_ALLOWANCE = 10,  /* "bad allowance": a ceiling passed (of rows too), nesting 0, or cells not lent */
   ZIFNORA_CLOSED_READING = 21, /* "closed": a reading node outside the hirer's set; place: that node's record */
   ZIFNORA_ILL_TYPED = 22,      /* "ill typed": a typed sheet breaks a rule of types; place: the first such node's record */
+  ZIFNORA_BAD_RANGE = 23,      /* "bad range": no values to search, more than 1,024, or the position of no reading */
   /* Stops: */
   ZIFNORA_NO_STEP = 11,    /* "steps" */
   ZIFNORA_NO_NESTING = 12, /* "nesting" */
@@ -113,7 +115,9 @@ enum zifnora_outcome {
   ZIFNORA_ZERO_DIVISOR = 17,       /* "zero divisor" */
   ZIFNORA_NO_ACTUAL = 18,          /* "no actual": empty context, or a label beyond the list */
   ZIFNORA_NO_FIELD = 19,           /* "no field": an index beyond the tuple */
-  ZIFNORA_OVERFLOW = 20            /* "overflow": a product outside signed 32 bits */
+  ZIFNORA_OVERFLOW = 20,           /* "overflow": a product outside signed 32 bits */
+  /* The outcome of a search that finds nothing: */
+  ZIFNORA_NO_VALUE = 24 /* "none": with no value of the range the run ends in the wanted number */
 };
 
 /* The class of an outcome. Every number above is in one class, any other in none. */
@@ -121,12 +125,13 @@ static inline int zifnora_is_number(uint32_t outcome) { return outcome == ZIFNOR
 static inline int zifnora_is_constructor(uint32_t outcome) { return outcome == ZIFNORA_CONSTRUCTOR; }
 static inline int zifnora_is_refusal(uint32_t outcome) {
   return (outcome >= ZIFNORA_TRUNCATED && outcome <= ZIFNORA_BAD_ALLOWANCE) ||
-         (outcome >= ZIFNORA_CLOSED_READING && outcome <= ZIFNORA_ILL_TYPED);
+         (outcome >= ZIFNORA_CLOSED_READING && outcome <= ZIFNORA_BAD_RANGE);
 }
 static inline int zifnora_is_stop(uint32_t outcome) { return outcome >= ZIFNORA_NO_STEP && outcome <= ZIFNORA_NO_CELL; }
 static inline int zifnora_is_fault(uint32_t outcome) {
   return outcome >= ZIFNORA_NUMBER_WANTED && outcome <= ZIFNORA_OVERFLOW;
 }
+static inline int zifnora_is_none(uint32_t outcome) { return outcome == ZIFNORA_NO_VALUE; }
 
 /* A cell, in its 68 bytes, little-endian: label (2 bytes), number of the previous cell (2), then the entries by the position of the
  * parameter. An entry remembers the value of that parameter of the call that made the cell, once it was worked out: its kind (2),
@@ -144,8 +149,8 @@ enum zifnora_entry_kind {
 };
 
 /* What a call returns: bits 32 to 47 are a refusal's number, 0 where nothing is refused; the low 32 bits are a length or a count,
- * or the refusal's place (the record's number from 0; the cell's number for a listing; 0 for 2, 8, 9 and 10, and for a driver's
- * view). */
+ * or the refusal's place (the record's number from 0; the cell's number for a listing; 0 for 2, 8, 9, 10 and 23, and for a driver's
+ * view). A search also returns 24 there, which is no refusal: see zifnora_find_reading. */
 #define ZIFNORA_REFUSAL(code) ((uint32_t)((code) >> 32))
 #define ZIFNORA_VALUE(code) ((uint32_t)(code))
 
@@ -160,13 +165,14 @@ struct zifnora_record {
   uint32_t cells;   /* the most cells alive together */
 };
 
-/* The number in two bytes, in four, and in four with a sign: the lower half of the range as it stands, the upper half less 2^32. */
-static inline uint32_t zifnora_word(const uint8_t *bytes) { return bytes[0] | (uint32_t)bytes[1] << 8; }
-static inline uint32_t zifnora_double_word(const uint8_t *bytes) { return zifnora_word(bytes) | zifnora_word(bytes + 2) << 16; }
-static inline int32_t zifnora_signed(const uint8_t *bytes) {
-  const uint32_t bits = zifnora_double_word(bytes);
+/* The number in 32 bits with a sign: the lower half of the range as it stands, the upper half less 2^32; in two bytes, in four, and
+ * in four with a sign. */
+static inline int32_t zifnora_signed_bits(uint32_t bits) {
   return bits <= 0x7fffffffu ? (int32_t)bits : -(int32_t)(0xffffffffu - bits) - 1;
 }
+static inline uint32_t zifnora_word(const uint8_t *bytes) { return bytes[0] | (uint32_t)bytes[1] << 8; }
+static inline uint32_t zifnora_double_word(const uint8_t *bytes) { return zifnora_word(bytes) | zifnora_word(bytes + 2) << 16; }
+static inline int32_t zifnora_signed(const uint8_t *bytes) { return zifnora_signed_bits(zifnora_double_word(bytes)); }
 
 /* Decodes the 20 bytes of an answer record. Returns 1, or 0 where their length or kind is not that of an answer record; then
  * `record` stays as it was. */
@@ -192,9 +198,10 @@ uint64_t zifnora_translate(const uint8_t *sheet, size_t sheet_length, uint8_t *o
  * number of 64 bits may be stated, also one that no buffer has. Nothing is written. */
 uint64_t zifnora_translated_length(const uint8_t *sheet, size_t sheet_length, uint64_t out_length);
 
-/* The four calls that run, as they stand in the archive: the lent cells are a pair of address and length behind a pointer. The
+/* The five calls that run, as they stand in the archive: the lent cells are a pair of address and length behind a pointer. The
  * pair is as it was after the call, and must not overlap any buffer of the call. zifnora_run, zifnora_run_for_hirer,
- * zifnora_run_rows and zifnora_translate_and_run below make the pair; what they say of `cells` holds of the bytes that it names. */
+ * zifnora_run_rows, zifnora_find_reading and zifnora_translate_and_run below make the pair; what they say of `cells` holds of the
+ * bytes that it names. */
 struct zifnora_slice {
   uint8_t *data;
   size_t length;
@@ -209,6 +216,9 @@ uint64_t zifnora_run_for_hirer_slice(const uint8_t *translation, size_t translat
 uint64_t zifnora_run_rows_slice(const uint8_t *translation, size_t translation_length, uint32_t rows, const int32_t *readings,
                                 size_t readings_count, uint32_t steps, uint32_t nesting, uint32_t cells_allowed,
                                 struct zifnora_slice *cells, uint8_t *records, size_t records_length);
+uint64_t zifnora_find_reading_slice(const uint8_t *translation, size_t translation_length, const int32_t *readings,
+                                    size_t readings_count, uint32_t position, int32_t lowest, int32_t highest, int32_t wanted,
+                                    uint32_t steps, uint32_t nesting, uint32_t cells_allowed, struct zifnora_slice *cells);
 uint64_t zifnora_translate_and_run_slice(const uint8_t *sheet, size_t sheet_length, uint8_t *out, size_t out_length,
                                          const int32_t *readings, size_t readings_count, uint32_t steps, uint32_t nesting,
                                          uint32_t cells_allowed, struct zifnora_slice *cells, uint8_t *record,
@@ -272,6 +282,29 @@ static inline uint64_t zifnora_run_rows(const uint8_t *translation, size_t trans
   struct zifnora_slice lent = {cells, cells_length};
   return zifnora_run_rows_slice(translation, translation_length, rows, readings, readings_count, steps, nesting, cells_allowed,
                                 &lent, records, records_length);
+}
+
+/* Finds the smallest value from `lowest` to `highest` for the reading at `position` (from 0) with which the run of a translation, on
+ * `readings` with that value in that reading's place, ends in the number `wanted` (document 02, request 12). A run that stops or
+ * faults, or that ends with a constructor, is none of these. The runs are done in turn in the same cells, each with all of the
+ * allowances, from the lowest value to the one found, or to the highest. The readings are not written.
+ *
+ * ZIFNORA_REFUSAL of what comes back says which of three it is:
+ *   0: found; ZIFNORA_FOUND has the value, which may be negative.
+ *   24: none of the values does it. This is no refusal, and ZIFNORA_VALUE is 0.
+ *   any other: a refusal, with ZIFNORA_VALUE as its place: 1 to 5 of the translation, then 9, then 10, then 23 where `lowest` is
+ *   above `highest`, the values are more than ZIFNORA_VALUES, or `position` is not below the number of the translation's readings.
+ *   Where it has none, every search is refused. A refusal runs nothing and leaves `cells` as it was.
+ *
+ * `cells` is as these runs leave it, as for zifnora_run_rows. */
+#define ZIFNORA_FOUND(code) (zifnora_signed_bits(ZIFNORA_VALUE(code)))
+static inline uint64_t zifnora_find_reading(const uint8_t *translation, size_t translation_length, const int32_t *readings,
+                                            size_t readings_count, uint32_t position, int32_t lowest, int32_t highest,
+                                            int32_t wanted, uint32_t steps, uint32_t nesting, uint32_t cells_allowed,
+                                            uint8_t *cells, size_t cells_length) {
+  struct zifnora_slice lent = {cells, cells_length};
+  return zifnora_find_reading_slice(translation, translation_length, readings, readings_count, position, lowest, highest, wanted,
+                                    steps, nesting, cells_allowed, &lent);
 }
 
 /* Translates a sheet into `out` and runs the translation; the rest is as for zifnora_run. Any refusal (1 to 7 and 22 of the sheet, then

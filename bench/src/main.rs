@@ -1,6 +1,6 @@
 //! Costs of the interface beside plain Rust in the same process: of a step,
-//! of accepting a file, of translating, of rows in one call; and the stack
-//! that the calls take.
+//! of accepting a file, of translating, of rows in one call, of searching a
+//! reading; and the stack that the calls take.
 
 mod chains;
 mod largest;
@@ -10,7 +10,9 @@ mod pad;
 mod plain;
 mod programs;
 mod run;
+mod searches;
 mod stack;
+mod stack_table;
 mod tables;
 mod templates;
 
@@ -32,13 +34,14 @@ fn subject() -> (&'static dyn Interface, &'static str) {
 type Table = fn(&dyn Interface);
 
 /// The tables, by the words that choose them.
-const TABLES: [(&str, Table); 6] = [
+const TABLES: [(&str, Table); 7] = [
     ("steps", tables::steps),
     ("largest", largest::largest),
     ("sizes", tables::sizes),
     ("translations", tables::translations),
     ("rows", tables::rows),
-    ("stack", tables::stack),
+    ("search", searches::searches),
+    ("stack", stack_table::stack),
 ];
 
 fn main() {

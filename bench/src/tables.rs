@@ -1,24 +1,18 @@
 //! What is printed.
 
-use crate::measure::{
-    agreed, greatest, lent_cells, rows_cost, run_cost, translate_cost, translated, MOST_RECORDS,
-};
-use crate::plain::two_bytes;
-use crate::{chains, pad, programs, stack, templates};
-use compare::generate::{ceiling, damage::records, random::Random, typed_ceiling};
-use compare::interface::{count, Allowances, Interface};
-use compare::model::answer::{Answer, RECORD};
+use crate::measure::{greatest, rows_cost, run_cost, translate_cost, translated};
+use crate::{pad, programs, templates};
+use compare::generate::{ceiling, damage::records, random::Random};
+use compare::interface::{Allowances, Interface};
+use compare::model::answer::Answer;
 use compare::model::{correct, kept, plain as forgetful, translation, Correct};
 use zifnora::build_sheet::Program;
 use zifnora::numbers;
-use zifnora::sizes::{
-    LABEL_BYTES, MOST_CELLS, MOST_NESTING, MOST_NODES, MOST_ROWS, SHEET_BYTES, TRANSLATION_BYTES,
-    VIEW_BYTES,
-};
+use zifnora::sizes::{MOST_NESTING, MOST_NODES, MOST_ROWS, SHEET_BYTES};
 
 const MOST_STEPS: u32 = 20_000_000;
 
-fn nodes(program: &Program) -> usize {
+pub fn nodes(program: &Program) -> usize {
     let functions = program.functions.iter();
     functions.map(|function| function.1.size()).sum()
 }
@@ -168,13 +162,9 @@ pub fn translations(subject: &dyn Interface) {
     println!("the greatest ratio to the model's time: {greatest:.2} (goal: at most 3)");
 }
 
-fn greatest_sheet() -> Vec<u8> {
+/// A sheet at all limits.
+pub fn greatest_sheet() -> Vec<u8> {
     ceiling::greatest(&mut Random::new(1))
-}
-
-/// A typed sheet at all limits.
-fn greatest_typed_sheet() -> Vec<u8> {
-    typed_ceiling::greatest(&mut Random::new(1))
 }
 
 /// Rows in one call, beside single runs.
@@ -202,115 +192,4 @@ pub fn rows(subject: &dyn Interface) {
             );
         }
     }
-}
-
-/// Bytes of stack of the calls.
-pub fn stack(subject: &dyn Interface) {
-    println!("Stack in bytes; a visit: from 512 to 1,024 open visits");
-    println!("call               what nests             1 visit  1,024 visits  a visit");
-    let greatest = greatest_sheet();
-    let mut translations = chains::translations();
-    for (name, file) in &translations {
-        let end = agreed(subject, file);
-        assert_eq!(end.outcome, numbers::NO_NESTING, "{name} nests");
-    }
-    translations.push(("(file at all limits)", translated(subject, &greatest)));
-    let mut sheets = chains::sheets();
-    let at_limits = [
-        ("(sheet at all limits)", greatest),
-        ("(typed, all limits)", greatest_typed_sheet()),
-    ];
-    sheets.extend(at_limits.clone());
-    let (mut cells, mut out, mut record) = (lent_cells(), vec![0; TRANSLATION_BYTES], [0; RECORD]);
-    for (name, file) in &translations {
-        let readings = vec![0; two_bytes(file, 4) as usize];
-        stack_row("run", name, |allowances| {
-            subject.run(file, &readings, allowances, &mut cells, &mut record);
-        });
-    }
-    for (name, file) in &translations {
-        let readings = vec![0; two_bytes(file, 4) as usize];
-        let (cells, record) = (&mut cells, &mut record);
-        stack_row("run for a hirer", name, |allowances| {
-            subject.run_for_hirer(file, u32::MAX, &readings, allowances, cells, record);
-        });
-    }
-    for (name, file) in &translations {
-        rows_stack_row(subject, name, file);
-    }
-    for (name, sheet) in sheets {
-        let readings = vec![0; two_bytes(&sheet, 4) as usize];
-        let (cells, record) = (&mut cells, &mut record);
-        stack_row("translate and run", name, |allowances| {
-            subject.translate_and_run(&sheet, &mut out, &readings, allowances, cells, record);
-        });
-    }
-    for (name, sheet) in &at_limits {
-        stack_line("translate", name, &mut || {
-            subject.translate(sheet, &mut out);
-        });
-    }
-    for (name, sheet) in &at_limits {
-        stack_line("translated length", name, &mut || {
-            subject.translated_length(sheet, u64::MAX);
-        });
-    }
-    listing_stack_lines(subject);
-    view_stack_line(subject, &record);
-}
-
-/// Listing a context of one cell, and one of all cells.
-fn listing_stack_lines(subject: &dyn Interface) {
-    let cells = chains::context();
-    let mut out = vec![0; LABEL_BYTES * MOST_CELLS as usize];
-    for (name, cell) in [("(one cell)", 1), ("(all cells)", MOST_CELLS)] {
-        let labels = count(subject.list_context(&cells, cell, &mut out));
-        assert_eq!(labels, Some(cell as usize), "{name} listed");
-        stack_line("list context", name, &mut || {
-            subject.list_context(&cells, cell, &mut out);
-        });
-    }
-}
-
-/// The driver's view of a record that a run left.
-fn view_stack_line(subject: &dyn Interface, record: &[u8]) {
-    let mut out = [0; VIEW_BYTES];
-    let written = count(subject.driver_view(record, &mut out));
-    assert_eq!(written, Some(VIEW_BYTES), "viewed");
-    stack_line("driver's view", "(a run's record)", &mut || {
-        subject.driver_view(record, &mut out);
-    });
-}
-
-fn rows_stack_row(subject: &dyn Interface, name: &str, file: &[u8]) {
-    let readings = vec![0; MOST_ROWS as usize * two_bytes(file, 4) as usize];
-    let (mut cells, mut records) = (lent_cells(), [0; MOST_RECORDS]);
-    stack_row("run rows", name, |allowances| {
-        subject.run_rows(
-            file,
-            MOST_ROWS,
-            &readings,
-            allowances,
-            &mut cells,
-            &mut records,
-        );
-    });
-}
-
-/// One row of a call that visits nothing.
-fn stack_line(call: &str, name: &str, work: &mut dyn FnMut()) {
-    println!("{call:<18} {name:<21} {:>8}", stack::depth(work));
-}
-
-/// One row: the stack at nesting 1 and 1,024, and of a visit.
-fn stack_row(call: &str, name: &str, mut work: impl FnMut(Allowances)) {
-    let [least, half, whole] = [1, MOST_NESTING / 2, MOST_NESTING].map(|nesting| {
-        let allowances = Allowances {
-            nesting,
-            ..greatest(u32::MAX)
-        };
-        stack::depth(&mut || work(allowances))
-    });
-    let visit = (whole - half) as f64 / (MOST_NESTING / 2) as f64;
-    println!("{call:<18} {name:<21} {least:>8} {whole:>13} {visit:>8.1}");
 }

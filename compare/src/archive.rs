@@ -1,6 +1,6 @@
 //! The linked archive behind the calls that are compared.
 
-use crate::interface::{Allowances, Interface};
+use crate::interface::{Allowances, Interface, Search};
 use zifnora::raw;
 
 pub struct Archive;
@@ -47,6 +47,17 @@ impl Interface for Archive {
         records: &mut [u8],
     ) -> u64 {
         raw::run_rows(translation, rows, readings, allowances, cells, records)
+    }
+
+    fn find_reading(
+        &self,
+        translation: &[u8],
+        readings: &[i32],
+        search: Search,
+        allowances: Allowances,
+        cells: &mut [u8],
+    ) -> u64 {
+        raw::find_reading(translation, readings, search, allowances, cells)
     }
 
     fn translate_and_run(

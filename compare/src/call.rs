@@ -1,15 +1,18 @@
 //! One call of the interface with all its input, earlier bytes of the output
 //! buffers included; and what it leaves behind.
 
-use crate::interface::{refusal, Allowances, Interface};
+use crate::interface::{refusal, Allowances, Interface, Search};
 use crate::model::answer::{Answer, RECORD};
-use std::hint::black_box;
+use crate::perform::{
+    find_reading, joined, run, run_for_hirer, run_rows, translated_length, written, GUARD,
+};
 
 #[derive(Clone, Debug)]
 pub struct RunInput {
     pub readings: Vec<i32>,
     pub allowances: Allowances,
-    /// Lent cells and record, or records, with their earlier bytes.
+    /// Lent cells and record, or records, with their earlier bytes; a search has
+    /// no record.
     pub cells: Vec<u8>,
     pub record: Vec<u8>,
 }
@@ -45,6 +48,13 @@ pub enum Call {
         of: Option<Vec<u8>>,
         file: Vec<u8>,
         rows: u32,
+        input: RunInput,
+    },
+    /// `of` as in a run.
+    Search {
+        of: Option<Vec<u8>>,
+        file: Vec<u8>,
+        search: Search,
         input: RunInput,
     },
     Joined {
@@ -84,22 +94,6 @@ pub struct After {
     pub input_kept: bool,
 }
 
-const GUARD: usize = 16;
-const GUARD_BYTE: u8 = 0xA5;
-
-fn guarded(bytes: &[u8]) -> Vec<u8> {
-    let mut all = vec![GUARD_BYTE; GUARD];
-    all.extend_from_slice(bytes);
-    all.extend_from_slice(&[GUARD_BYTE; GUARD]);
-    all
-}
-
-/// The part of a guarded buffer that was lent.
-fn lent(buffer: &mut [u8]) -> &mut [u8] {
-    let end = buffer.len() - GUARD;
-    &mut buffer[GUARD..end]
-}
-
 /// The lent part of a buffer in an `After`.
 pub fn inner(buffer: &[u8]) -> &[u8] {
     if buffer.is_empty() {
@@ -116,6 +110,7 @@ impl Call {
             Call::Run { .. } => "run",
             Call::Hirer { .. } => "run_for_hirer",
             Call::Rows { .. } => "run_rows",
+            Call::Search { .. } => "find_reading",
             Call::Joined { .. } => "translate_and_run",
             Call::List { .. } => "list_context",
             Call::View { .. } => "driver_view",
@@ -136,6 +131,12 @@ impl Call {
             Call::Rows {
                 file, rows, input, ..
             } => run_rows(on, file, *rows, input),
+            Call::Search {
+                file,
+                search,
+                input,
+                ..
+            } => find_reading(on, file, *search, input),
             Call::Joined { sheet, out, input } => joined(on, sheet, out, input),
             Call::List { cells, cell, out } => {
                 written(cells, out, |cells, out| on.list_context(cells, *cell, out))
@@ -150,6 +151,7 @@ impl Call {
     pub fn source(&self) -> Option<&[u8]> {
         match self {
             Call::Run { of, .. } | Call::Rows { of, .. } | Call::Hirer { of, .. } => of.as_deref(),
+            Call::Search { of, .. } => of.as_deref(),
             Call::Joined { sheet, .. } => Some(sheet),
             Call::Translate { .. } | Call::Length { .. } => None,
             Call::List { .. } | Call::View { .. } => None,
@@ -157,10 +159,11 @@ impl Call {
     }
 
     /// The sheet that is run and whose runs are compared with its meaning; a
-    /// hirer's run is compared with the owner's instead.
+    /// hirer's run is compared with the owner's instead, and a search with single
+    /// runs.
     pub fn sheet(&self) -> Option<&[u8]> {
         match self {
-            Call::Hirer { .. } => None,
+            Call::Hirer { .. } | Call::Search { .. } => None,
             _ => self.source(),
         }
     }
@@ -172,7 +175,7 @@ impl Call {
                 (1, input)
             }
             Call::Rows { rows, input, .. } => (*rows as usize, input),
-            Call::Translate { .. } | Call::Length { .. } => return vec![],
+            Call::Translate { .. } | Call::Length { .. } | Call::Search { .. } => return vec![],
             Call::List { .. } | Call::View { .. } => return vec![],
         };
         if refusal(after.code) != 0 || rows == 0 {
@@ -188,110 +191,5 @@ impl Call {
             })
         });
         runs.collect()
-    }
-}
-
-/// A call that reads bytes and writes into an output.
-fn written(input: &[u8], out: &[u8], call: impl FnOnce(&[u8], &mut [u8]) -> u64) -> After {
-    let (copy, mut out) = (input.to_vec(), guarded(out));
-    let code = call(&copy, lent(&mut out));
-    After {
-        code,
-        out,
-        cells: vec![],
-        record: vec![],
-        input_kept: black_box(copy) == input,
-    }
-}
-
-fn translated_length(on: &dyn Interface, sheet: &[u8], room: u64) -> After {
-    let copy = sheet.to_vec();
-    let code = on.translated_length(&copy, room);
-    After {
-        code,
-        out: vec![],
-        cells: vec![],
-        record: vec![],
-        input_kept: black_box(copy) == sheet,
-    }
-}
-
-fn run(on: &dyn Interface, file: &[u8], input: &RunInput) -> After {
-    let (copy, readings) = (file.to_vec(), input.readings.clone());
-    let (mut cells, mut record) = (guarded(&input.cells), guarded(&input.record));
-    let code = on.run(
-        &copy,
-        &readings,
-        input.allowances,
-        lent(&mut cells),
-        lent(&mut record),
-    );
-    After {
-        code,
-        out: vec![],
-        cells,
-        record,
-        input_kept: black_box(copy) == file && black_box(readings) == input.readings,
-    }
-}
-
-fn run_for_hirer(on: &dyn Interface, file: &[u8], set: u32, input: &RunInput) -> After {
-    let (copy, readings) = (file.to_vec(), input.readings.clone());
-    let (mut cells, mut record) = (guarded(&input.cells), guarded(&input.record));
-    let code = on.run_for_hirer(
-        &copy,
-        set,
-        &readings,
-        input.allowances,
-        lent(&mut cells),
-        lent(&mut record),
-    );
-    After {
-        code,
-        out: vec![],
-        cells,
-        record,
-        input_kept: black_box(copy) == file && black_box(readings) == input.readings,
-    }
-}
-
-fn run_rows(on: &dyn Interface, file: &[u8], rows: u32, input: &RunInput) -> After {
-    let (copy, readings) = (file.to_vec(), input.readings.clone());
-    let (mut cells, mut records) = (guarded(&input.cells), guarded(&input.record));
-    let code = on.run_rows(
-        &copy,
-        rows,
-        &readings,
-        input.allowances,
-        lent(&mut cells),
-        lent(&mut records),
-    );
-    After {
-        code,
-        out: vec![],
-        cells,
-        record: records,
-        input_kept: black_box(copy) == file && black_box(readings) == input.readings,
-    }
-}
-
-fn joined(on: &dyn Interface, sheet: &[u8], out: &[u8], input: &RunInput) -> After {
-    let (copy, readings) = (sheet.to_vec(), input.readings.clone());
-    let (mut cells, mut record) = (guarded(&input.cells), guarded(&input.record));
-    let mut out = guarded(out);
-    let code = on.translate_and_run(
-        &copy,
-        lent(&mut out),
-        &readings,
-        input.allowances,
-        lent(&mut cells),
-        lent(&mut record),
-    );
-    After {
-        code,
-        out,
-        cells,
-        record,
-        input_kept: black_box(copy) == sheet && black_box(readings) == input.readings,
     }
 }

@@ -4,7 +4,8 @@
 //! call; every run with the same run that keeps all cells; a hirer's run with
 //! the same run on other closed readings, and with the owner's; a driver's view
 //! with that of another record; the calls of a typed sheet with those of the
-//! sheet with its types removed.
+//! sheet with its types removed; a search with single runs in turn, and the
+//! value found with call by name.
 
 use crate::all_kept::{by_kept_rule, Compared};
 use crate::call::{inner, After, Call};
@@ -13,12 +14,13 @@ use crate::interface::{shown, Interface};
 use crate::labelling::{differing_run, unshared};
 use crate::model::answer::{Answer, RECORD};
 use crate::own_answer::{by_name, by_plain_rule};
+use crate::searched::{by_single_runs, found_by_name, Searched};
 use crate::typed::{differing_untyped, typed_runs, TypedRuns};
 use crate::viewed::differing_pair;
 use std::fmt::Display;
 
-/// What a sheet's calls, a hirer's runs, and driver's views are compared with
-/// beside the other side's.
+/// What a sheet's calls, a hirer's runs, driver's views and searches are
+/// compared with beside the other side's.
 #[derive(Clone, Copy, Debug, PartialEq, Eq)]
 pub struct Yardsticks {
     pub call_by_name: bool,
@@ -31,6 +33,9 @@ pub struct Yardsticks {
     pub types_removed: bool,
     /// No run of a typed sheet ends with 14 or 15.
     pub typed_runs: bool,
+    pub single_runs: bool,
+    /// The value that a search has found.
+    pub found_by_name: bool,
 }
 
 impl Yardsticks {
@@ -44,6 +49,8 @@ impl Yardsticks {
         viewed_pairs: true,
         types_removed: true,
         typed_runs: true,
+        single_runs: true,
+        found_by_name: true,
     };
 
     pub const NONE: Yardsticks = Yardsticks {
@@ -56,6 +63,8 @@ impl Yardsticks {
         viewed_pairs: false,
         types_removed: false,
         typed_runs: false,
+        single_runs: false,
+        found_by_name: false,
     };
 }
 
@@ -77,13 +86,14 @@ pub struct Agreed {
     /// Whether the call was compared with one of the old labelling.
     pub old_labelling: bool,
     pub typed_runs: TypedRuns,
+    pub searched: Searched,
 }
 
 /// Performs the call on both sides, and where two calls of its sheet share a
 /// label also with a label for each. A hirer's run is done on the subject's
 /// side twice more, on other closed readings and as the owner's, a view once
-/// more, of the other record, and a call that translates a typed sheet once
-/// more, with its types removed.
+/// more, of the other record, a call that translates a typed sheet once more,
+/// with its types removed, and a search once more, as single runs in turn.
 pub fn check(
     call: &Call,
     subject: &dyn Interface,
@@ -115,6 +125,7 @@ pub fn check(
     if let Some(what) = differing_beside(call, &theirs, subject, by) {
         return Err(difference(what));
     }
+    let searched = searched(call, &theirs, subject, by).map_err(difference)?;
     Ok(Agreed {
         after: ours,
         by_name,
@@ -122,6 +133,24 @@ pub fn check(
         by_kept_rule,
         old_labelling: each.is_some(),
         typed_runs,
+        searched,
+    })
+}
+
+/// What a search was compared with, or what differs.
+fn searched(
+    call: &Call,
+    theirs: &After,
+    subject: &dyn Interface,
+    by: Yardsticks,
+) -> Result<Searched, String> {
+    let single = by
+        .single_runs
+        .then(|| by_single_runs(call, theirs, subject));
+    let named = by.found_by_name.then(|| found_by_name(call, theirs));
+    Ok(Searched {
+        by_name: named.unwrap_or(Ok(false))? as u64,
+        ..single.unwrap_or(Ok(Searched::default()))?
     })
 }
 

@@ -51,7 +51,7 @@ impl Examiner<'_> {
 }
 
 /// The readings that nodes of a translation name.
-fn used(file: &[u8]) -> u32 {
+pub(crate) fn used(file: &[u8]) -> u32 {
     let bit = |&(at, length): &(usize, usize)| match two_bytes(file, at + 2) {
         READING if length >= 6 => 1_u32.checked_shl(two_bytes(file, at + 4) as u32),
         _ => None,

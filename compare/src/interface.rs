@@ -1,11 +1,11 @@
 //! The calls that both sides offer. The archive's side is `archive::Archive`,
 //! the model's side is `model::Model`.
 
-pub use zifnora::Allowances;
+pub use zifnora::{Allowances, Search};
 
 /// The C interface, with slices in place of pointers and lengths. Every call
 /// returns a code: a number of the table in its bits from 32 on, and in its
-/// low 32 bits a length, a count or a place.
+/// low 32 bits a length, a count, a value or a place.
 pub trait Interface {
     fn translate(&self, sheet: &[u8], out: &mut [u8]) -> u64;
 
@@ -41,6 +41,15 @@ pub trait Interface {
         records: &mut [u8],
     ) -> u64;
 
+    fn find_reading(
+        &self,
+        translation: &[u8],
+        readings: &[i32],
+        search: Search,
+        allowances: Allowances,
+        cells: &mut [u8],
+    ) -> u64;
+
     fn translate_and_run(
         &self,
         sheet: &[u8],
@@ -56,7 +65,7 @@ pub trait Interface {
     fn driver_view(&self, record: &[u8], out: &mut [u8]) -> u64;
 }
 
-/// The table's number in a code, 0 where nothing is refused.
+/// The table's number in a code, 0 where nothing is refused; of a search also 24.
 pub fn refusal(code: u64) -> u16 {
     (code >> 32) as u16
 }
@@ -69,4 +78,9 @@ pub fn shown(code: u64) -> String {
 /// The length or count in a code, if nothing is refused.
 pub fn count(code: u64) -> Option<usize> {
     (refusal(code) == 0).then_some(code as u32 as usize)
+}
+
+/// The value in the code of a search that has found one.
+pub fn found(code: u64) -> Option<i32> {
+    (code >> 32 == 0).then_some(code as u32 as i32)
 }

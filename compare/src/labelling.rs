@@ -29,7 +29,7 @@ pub fn unshared(call: &Call) -> Option<Call> {
             rows: *rows,
             input: input.clone(),
         }),
-        Call::Hirer { .. } | Call::View { .. } => None,
+        Call::Hirer { .. } | Call::Search { .. } | Call::View { .. } => None,
         Call::Translate { .. } | Call::Length { .. } | Call::List { .. } => None,
     }
 }

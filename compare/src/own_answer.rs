@@ -6,10 +6,11 @@
 use crate::call::{After, Call, OneRun};
 use crate::interface::Allowances;
 use crate::model::answer::Answer;
+use crate::model::name::{self, Own};
 use crate::model::sheet::Sheet;
 use crate::model::translate::{translate, Labelling};
 use crate::model::translation::{self, Translation};
-use crate::model::{name, plain, Behaviour, Correct};
+use crate::model::{plain, Behaviour, Correct};
 
 /// What is worked out again may take very much longer, so not all of it is
 /// worked out to its end.
@@ -44,11 +45,16 @@ pub fn by_name(call: &Call, after: &After) -> Result<u64, String> {
     Ok(known)
 }
 
+/// The answer of call by name, within its budget.
+pub fn own(sheet: &Sheet, readings: &[i32]) -> Own {
+    name::answer(sheet, readings, ENOUGH.steps as u64, ENOUGH.nesting)
+}
+
 /// Whether call by name has an answer within its budget, which is then the
 /// run's.
 fn run_by_name(sheet: &Sheet, run: &OneRun) -> Result<bool, String> {
     let answer = &run.answer;
-    let own = name::answer(sheet, run.readings, ENOUGH.steps as u64, ENOUGH.nesting);
+    let own = own(sheet, run.readings);
     match own.outcome() {
         Some(outcome) if outcome != (answer.outcome, answer.value) => {
             Err(format!("call by name gives {own:?}, the run {answer:?}"))
@@ -82,7 +88,7 @@ pub fn translation_of(call: &Call) -> Option<Translation> {
             let sheet = Correct.read_sheet(sheet).ok()?;
             Some(translate(&Correct, &sheet, Labelling::EqualCalls))
         }
-        Call::Translate { .. } | Call::Length { .. } => None,
+        Call::Translate { .. } | Call::Length { .. } | Call::Search { .. } => None,
         Call::List { .. } | Call::View { .. } => None,
     }
 }

@@ -3,7 +3,7 @@
 
 use crate::call::{Call, RunInput};
 use crate::check::Difference;
-use crate::interface::Allowances;
+use crate::interface::{Allowances, Search};
 use std::collections::HashMap;
 use std::fs;
 use std::io::{Error, ErrorKind, Result};
@@ -19,31 +19,19 @@ pub fn write(folder: &Path, difference: &Difference, origin: &str) -> Result<()>
             put("sheet.bin", sheet)?;
             put("out.bin", out)?;
         }
-        Call::Length { sheet, room } => {
-            put("sheet.bin", sheet)?;
-            text += &format!("room {room}\n");
-        }
+        Call::Length { sheet, .. } => put("sheet.bin", sheet)?,
         Call::Run { of, file, input }
         | Call::Rows {
+            of, file, input, ..
+        }
+        | Call::Hirer {
+            of, file, input, ..
+        }
+        | Call::Search {
             of, file, input, ..
         } => {
             text += &write_input(folder, input)?;
             put("translation.bin", file)?;
-            if let Some(sheet) = of {
-                put("sheet.bin", sheet)?;
-            }
-        }
-        Call::Hirer {
-            of,
-            file,
-            set,
-            input,
-            other,
-        } => {
-            text += &write_input(folder, input)?;
-            text += &format!("set {set}\n");
-            put("translation.bin", file)?;
-            put("other.bin", &bytes_of(other))?;
             if let Some(sheet) = of {
                 put("sheet.bin", sheet)?;
             }
@@ -53,10 +41,9 @@ pub fn write(folder: &Path, difference: &Difference, origin: &str) -> Result<()>
             put("sheet.bin", sheet)?;
             put("out.bin", out)?;
         }
-        Call::List { cells, cell, out } => {
+        Call::List { cells, out, .. } => {
             put("cells.bin", cells)?;
             put("out.bin", out)?;
-            text += &format!("cell {cell}\n");
         }
         Call::View { record, out, other } => {
             put("record.bin", record)?;
@@ -64,12 +51,33 @@ pub fn write(folder: &Path, difference: &Difference, origin: &str) -> Result<()>
             put("other.bin", other)?;
         }
     }
-    if let Call::Rows { rows, .. } = &*difference.call {
-        text += &format!("rows {rows}\n");
+    if let Call::Hirer { other, .. } = &*difference.call {
+        put("other.bin", &bytes_of(other))?;
     }
+    text += &own_words(&difference.call);
     text += &format!("origin {origin}\n");
     text += &format!("difference {}\n", difference.what);
     fs::write(folder.join("call.txt"), text)
+}
+
+/// The words that only one kind of call has.
+fn own_words(call: &Call) -> String {
+    match call {
+        Call::Length { room, .. } => format!("room {room}\n"),
+        Call::Rows { rows, .. } => format!("rows {rows}\n"),
+        Call::Hirer { set, .. } => format!("set {set}\n"),
+        Call::List { cell, .. } => format!("cell {cell}\n"),
+        Call::Search { search, .. } => {
+            let Search {
+                position,
+                lowest,
+                highest,
+                wanted,
+            } = search;
+            format!("position {position}\nlowest {lowest}\nhighest {highest}\nwanted {wanted}\n")
+        }
+        _ => String::new(),
+    }
 }
 
 fn bytes_of(readings: &[i32]) -> Vec<u8> {
@@ -121,6 +129,15 @@ fn read_input(folder: &Path, words: &Words) -> Result<RunInput> {
     })
 }
 
+fn read_search(words: &Words) -> Result<Search> {
+    Ok(Search {
+        position: number(words, "position")?,
+        lowest: number(words, "lowest")?,
+        highest: number(words, "highest")?,
+        wanted: number(words, "wanted")?,
+    })
+}
+
 pub fn read(folder: &Path) -> Result<Call> {
     let text = fs::read_to_string(folder.join("call.txt"))?;
     let words: Words = text
@@ -153,6 +170,12 @@ pub fn read(folder: &Path) -> Result<Call> {
             of: get("sheet.bin").ok(),
             file: get("translation.bin")?,
             rows: number(&words, "rows")?,
+            input: read_input(folder, &words)?,
+        }),
+        Some("find_reading") => Ok(Call::Search {
+            of: get("sheet.bin").ok(),
+            file: get("translation.bin")?,
+            search: read_search(&words)?,
             input: read_input(folder, &words)?,
         }),
         Some("translate_and_run") => Ok(Call::Joined {
@@ -200,9 +223,8 @@ mod tests {
         });
     }
 
-    #[test]
-    fn a_hirers_run_is_read_back() {
-        let input = RunInput {
+    fn input() -> RunInput {
+        RunInput {
             readings: vec![-1, 2],
             allowances: Allowances {
                 steps: 3,
@@ -211,13 +233,32 @@ mod tests {
             },
             cells: vec![6, 7],
             record: vec![8],
-        };
+        }
+    }
+
+    #[test]
+    fn a_hirers_run_is_read_back() {
         is_read_back(Call::Hirer {
             of: Some(vec![9]),
             file: vec![10],
             set: 11,
-            input,
+            input: input(),
             other: vec![-12, 2],
+        });
+    }
+
+    #[test]
+    fn a_search_is_read_back() {
+        is_read_back(Call::Search {
+            of: Some(vec![9]),
+            file: vec![10],
+            search: Search {
+                position: u32::MAX,
+                lowest: i32::MIN,
+                highest: -11,
+                wanted: i32::MAX,
+            },
+            input: input(),
         });
     }
 }

@@ -7,6 +7,7 @@ use crate::faulty::listed::{all, AGAINST_LABELLING, AGAINST_MEANING};
 use crate::faulty::listed_giving::AGAINST_KEPT;
 use crate::faulty::listed_hirer::{AGAINST_CLOSED, AGAINST_OWNER};
 use crate::faulty::listed_remembering::AGAINST_PLAIN;
+use crate::faulty::listed_search::{AGAINST_FOUND, AGAINST_SINGLE};
 use crate::faulty::listed_typing::{AGAINST_TYPED_RUNS, AGAINST_TYPES_REMOVED};
 use crate::faulty::listed_view::AGAINST_PAIRS;
 use crate::faulty::{fault::Fault, Faulty};
@@ -31,13 +32,15 @@ pub fn examine(
         by,
         tally,
         answers: vec![],
+        translations: vec![],
     };
     match case {
         Case::Sheet(file) => examiner.sheet(&mut random, &file)?,
         Case::Translation(file) => examiner.translation(&mut random, &file, None)?,
     }
     // The last draws, so that those of the other calls stay the same.
-    examiner.views(&mut random)
+    examiner.views(&mut random)?;
+    examiner.searches(&mut random)
 }
 
 /// Looks for the first case that differs, among `limit` sheets and as many
@@ -64,10 +67,10 @@ const BOTH_WRONG: u64 = 20_000;
 
 /// The yardsticks that find faults with both sides wrong alike: in words, the
 /// one alone, and its faults.
-fn alone() -> [(&'static str, Yardsticks, &'static [Fault]); 9] {
+fn alone() -> [(&'static str, Yardsticks, &'static [Fault]); 11] {
     let [mut name, mut plain, mut kept, mut labelling] = [Yardsticks::NONE; 4];
     let [mut closed, mut owner, mut pairs] = [Yardsticks::NONE; 3];
-    let [mut removed, mut typed] = [Yardsticks::NONE; 2];
+    let [mut removed, mut typed, mut single, mut found] = [Yardsticks::NONE; 4];
     name.call_by_name = true;
     plain.plain_rule = true;
     kept.kept_rule = true;
@@ -77,6 +80,8 @@ fn alone() -> [(&'static str, Yardsticks, &'static [Fault]); 9] {
     pairs.viewed_pairs = true;
     removed.types_removed = true;
     typed.typed_runs = true;
+    single.single_runs = true;
+    found.found_by_name = true;
     [
         ("call by name", name, AGAINST_MEANING),
         ("the rule without remembering", plain, AGAINST_PLAIN),
@@ -91,6 +96,8 @@ fn alone() -> [(&'static str, Yardsticks, &'static [Fault]); 9] {
             AGAINST_TYPES_REMOVED,
         ),
         ("the runs of typed sheets", typed, AGAINST_TYPED_RUNS),
+        ("single runs in turn", single, AGAINST_SINGLE),
+        ("call by name of the value found", found, AGAINST_FOUND),
     ]
 }
 

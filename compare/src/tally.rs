@@ -5,11 +5,12 @@ use crate::call::Call;
 use crate::check::Agreed;
 use crate::hired::{is_closed, is_pair};
 use crate::interface::refusal;
+use crate::searched::Searched;
 use crate::typed::{has_types_to_remove, TypedRuns};
 use crate::viewed::{self, in_table};
 use zifnora::numbers::SHORT_OUTPUT;
 
-const KINDS: [&str; 8] = [
+const KINDS: [&str; 9] = [
     "translate",
     "translated_length",
     "run",
@@ -18,6 +19,7 @@ const KINDS: [&str; 8] = [
     "translate_and_run",
     "list_context",
     "driver_view",
+    "find_reading",
 ];
 
 /// How many numbers are counted one by one, and those above together.
@@ -53,6 +55,7 @@ pub struct Tally {
     /// with their types removed.
     pub types_removed: u64,
     pub typed_runs: TypedRuns,
+    pub searched: Searched,
 }
 
 impl Default for Tally {
@@ -72,6 +75,7 @@ impl Default for Tally {
             viewed_pairs: [0; 3],
             types_removed: 0,
             typed_runs: TypedRuns::default(),
+            searched: Searched::default(),
         }
     }
 }
@@ -88,6 +92,7 @@ impl Tally {
             Call::Joined { .. } => 5,
             Call::List { .. } => 6,
             Call::View { .. } => 7,
+            Call::Search { .. } => 8,
         };
         if let Call::Hirer { .. } = call {
             let closed = is_closed(after);
@@ -106,6 +111,7 @@ impl Tally {
         self.by_kept_rule.add(agreed.by_kept_rule);
         self.types_removed += has_types_to_remove(call, after) as u64;
         self.typed_runs.add(agreed.typed_runs);
+        self.searched.add(agreed.searched);
         let mut number = refusal(after.code) as usize;
         for run in call.runs(after) {
             let outcome = run.answer.outcome as usize;
@@ -186,5 +192,27 @@ impl Tally {
         );
         let TypedRuns { runs, values } = self.typed_runs;
         println!("  runs of typed sheets {runs}, {values} of them with a number or a constructor, none with 14 or 15");
+        self.print_searched();
+    }
+
+    fn print_searched(&self) {
+        let Searched {
+            searches,
+            tried,
+            runs,
+            passed_over,
+            most,
+            found: [found, lowest, highest],
+            by_name,
+        } = self.searched;
+        println!(
+            "  searches compared with single runs in turn {searches}, {tried} of them not refused, {most} of 1,024 values"
+        );
+        println!(
+            "  runs in these searches {runs}, {passed_over} of them a stop, a fault or a constructor with the wanted number in its record"
+        );
+        println!(
+            "  values found {found}, {lowest} of them the lowest, {highest} the highest, {by_name} compared with call by name"
+        );
     }
 }

@@ -37,7 +37,7 @@ fn accepted<'a>(call: &'a Call, after: &After) -> Option<&'a [u8]> {
         Call::Translate { sheet, .. } | Call::Length { sheet, .. } => (sheet, refusal(after.code)),
         Call::Joined { sheet, .. } => (sheet, call.runs(after).first()?.answer.outcome),
         Call::Run { .. } | Call::Hirer { .. } | Call::Rows { .. } => return None,
-        Call::List { .. } | Call::View { .. } => return None,
+        Call::Search { .. } | Call::List { .. } | Call::View { .. } => return None,
     };
     let refused = (TRUNCATED..=BAD_ARGUMENTS).contains(&number) || number == ILL_TYPED;
     (is_typed(sheet) && !refused).then_some(sheet)

@@ -6,7 +6,7 @@ use crate::call::{inner, After, Call};
 use crate::interface::{count, shown, Interface};
 use crate::model::answer::Answer;
 use crate::model::driver_view::viewed_answer;
-use zifnora::numbers::{is_fault, is_refusal, is_stop, is_value, NUMBER};
+use zifnora::numbers::{is_fault, is_none, is_refusal, is_stop, is_value, NUMBER};
 use zifnora::sizes::VIEW_BYTES;
 
 /// What two accepted records are to each other.
@@ -70,7 +70,8 @@ pub fn outcome(call: &Call) -> Option<u16> {
 
 /// Whether an outcome is one of the table's numbers or a value.
 pub fn in_table(outcome: u16) -> bool {
-    is_value(outcome) || is_refusal(outcome) || is_stop(outcome) || is_fault(outcome)
+    let ended = is_value(outcome) || is_stop(outcome) || is_fault(outcome);
+    ended || is_refusal(outcome) || is_none(outcome)
 }
 
 /// What a record says whose view is not refused.

@@ -2,12 +2,13 @@
 //! remember are in `listed_remembering.rs`, those in giving cells back in
 //! `listed_giving.rs`, those in the run for a hirer in `listed_hirer.rs`, those
 //! in the driver's view in `listed_view.rs`, those in typed sheets in
-//! `listed_typing.rs`.
+//! `listed_typing.rs`, those in a search in `listed_search.rs`.
 
 use super::fault::Fault;
 use super::listed_giving::GIVING;
 use super::listed_hirer::HIRER;
 use super::listed_remembering::REMEMBERING;
+use super::listed_search::SEARCH;
 use super::listed_typing::TYPING;
 use super::listed_view::VIEW;
 
@@ -60,7 +61,8 @@ pub type Listed = (Fault, &'static str, u64);
 
 pub fn all() -> impl Iterator<Item = Listed> {
     let runs = OWNER.iter().chain(REMEMBERING).chain(GIVING);
-    runs.chain(HIRER).chain(VIEW).chain(TYPING).copied()
+    let calls = runs.chain(HIRER).chain(VIEW).chain(TYPING);
+    calls.chain(SEARCH).copied()
 }
 
 const OWNER: &[Listed] = &[

@@ -3,7 +3,7 @@
 
 use super::random::Random;
 use crate::model::answer::{Answer, RECORD};
-use zifnora::numbers::{CONSTRUCTOR, ILL_TYPED, NUMBER, TRUNCATED};
+use zifnora::numbers::{CONSTRUCTOR, NO_VALUE, NUMBER, TRUNCATED};
 
 /// An answer that need not be one of any run.
 pub fn any(random: &mut Random) -> Answer {
@@ -19,14 +19,14 @@ pub fn any(random: &mut Random) -> Answer {
 
 /// A number of the table, or near to one, or any; often that of a number.
 fn outcome(random: &mut Random) -> u16 {
-    let known = random.between(TRUNCATED as usize, ILL_TYPED as usize) as u16;
+    let known = random.between(TRUNCATED as usize, NO_VALUE as usize) as u16;
     match random.below(16) {
         0..=5 => NUMBER,
         6 | 7 => CONSTRUCTOR,
         8..=10 => known,
         11 => known.swap_bytes(),
         12 => CONSTRUCTOR.swap_bytes(),
-        13 => random.pick(&[23, 99, 101, 255, 256, 0x7FFF, 0x8000, u16::MAX]),
+        13 => random.pick(&[25, 99, 101, 255, 256, 0x7FFF, 0x8000, u16::MAX]),
         14 => (random.bits() as u16) << 8,
         _ => random.bits() as u16,
     }

@@ -126,7 +126,8 @@ fn few_bytes(random: &mut Random) -> Vec<u8> {
     random.bytes(length)
 }
 
-fn translated(sheet: &[u8]) -> Vec<u8> {
+/// The translation of a sheet.
+pub fn translated(sheet: &[u8]) -> Vec<u8> {
     let mut out = vec![0; TRANSLATION_BYTES];
     let length = Correct.translate_into(sheet, &mut out);
     out.truncate(length.expect("generated sheets are accepted"));

@@ -1,5 +1,5 @@
-//! Random input: sheets, typed or not, translations, damage, allowances, buffers
-//! and answer records.
+//! Random input: sheets, typed or not, translations, damage, allowances, buffers,
+//! answer records and searches.
 
 pub mod answer_record;
 pub mod case;
@@ -15,6 +15,8 @@ pub mod random;
 pub mod reached;
 pub mod regroup;
 pub mod repeat;
+pub mod search;
+pub mod search_sheet;
 pub mod sheet;
 pub mod sizes;
 pub mod targeted;
@@ -25,6 +27,8 @@ mod typed_break;
 pub mod typed_ceiling;
 pub mod typed_damage;
 
+#[cfg(test)]
+mod search_tests;
 #[cfg(test)]
 mod tests;
 #[cfg(test)]

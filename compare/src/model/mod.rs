@@ -1,7 +1,8 @@
 //! The independent implementation of document 01. Each of its steps stands in
 //! one of these files as the papers have it; `Behaviour`, `TypeBehaviour`,
-//! `CellBehaviour`, `BatchBehaviour`, `HirerBehaviour` and `ViewBehaviour` name
-//! the steps that a deliberately faulty model (`crate::faulty`) does otherwise.
+//! `CellBehaviour`, `BatchBehaviour`, `HirerBehaviour`, `SearchBehaviour` and
+//! `ViewBehaviour` name the steps that a deliberately faulty model
+//! (`crate::faulty`) does otherwise.
 
 pub mod answer;
 pub mod batch;
@@ -21,6 +22,8 @@ pub mod port;
 pub mod records;
 pub mod rules;
 pub mod run;
+pub mod search;
+pub mod search_behaviour;
 pub mod sheet;
 pub mod translate;
 pub mod translation;
@@ -35,6 +38,7 @@ mod tests;
 use crate::interface::Interface;
 pub use behaviour::{BatchBehaviour, Behaviour, Correct, HirerBehaviour, ViewBehaviour};
 pub use cell_behaviour::CellBehaviour;
+pub use search_behaviour::SearchBehaviour;
 pub use type_behaviour::TypeBehaviour;
 pub use zifnora::Refusal;
 

@@ -3,11 +3,13 @@
 use super::answer::RECORD;
 use super::batch::Rows;
 use super::hirer::Hire;
-use super::{run, BatchBehaviour, HirerBehaviour, Model, Refusal, ViewBehaviour};
-use crate::interface::{Allowances, Interface};
+use super::search::Given;
+use super::{run, BatchBehaviour, HirerBehaviour, Model, Refusal};
+use super::{SearchBehaviour, ViewBehaviour};
+use crate::interface::{Allowances, Interface, Search};
 use zifnora::numbers::SHORT_OUTPUT;
 
-fn packed(refusal: Refusal) -> u64 {
+pub fn packed(refusal: Refusal) -> u64 {
     (refusal.number as u64) << 32 | refusal.place as u64
 }
 
@@ -19,7 +21,7 @@ fn code(result: Result<usize, Refusal>) -> u64 {
     }
 }
 
-impl<B: BatchBehaviour + HirerBehaviour + ViewBehaviour> Interface for Model<B> {
+impl<B: BatchBehaviour + HirerBehaviour + SearchBehaviour + ViewBehaviour> Interface for Model<B> {
     fn translate(&self, sheet: &[u8], out: &mut [u8]) -> u64 {
         code(self.0.translate_into(sheet, out))
     }
@@ -81,6 +83,23 @@ impl<B: BatchBehaviour + HirerBehaviour + ViewBehaviour> Interface for Model<B> 
             allowances,
         };
         code(self.0.run_rows(translation, rows, cells, records))
+    }
+
+    fn find_reading(
+        &self,
+        translation: &[u8],
+        readings: &[i32],
+        search: Search,
+        allowances: Allowances,
+        cells: &mut [u8],
+    ) -> u64 {
+        let given = Given {
+            readings,
+            search,
+            allowances,
+        };
+        let found = self.0.find_reading(translation, given, cells);
+        self.0.found_code(found)
     }
 
     fn translate_and_run(

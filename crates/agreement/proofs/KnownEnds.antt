@@ -1,19 +1,20 @@
 -- The rule ends with a number, a constructor, a stop or one of the run faults, whatever the file; its value is among any
 -- numbers that hold the file's literals and tags, the readings and what operators make of them; it makes no more cells than
 -- allowed, and each has its eight entries.
-use mathlib.Core.Path.{_≡_, refl}
+use mathlib.Core.Path.{_≡_, refl, sym, _∙_}
 use Prim.Native.Nat.{ℕ, suc, _≤_, _<_}
 use mathlib.Core.List.{List}
-use mathlib.Core.Bool.{true, _||_, or-true}
+use mathlib.Core.Bool.{Bool, true, false, _||_, or-true, true≢false}
 use native.Mathlib.Omega.{arith}
 use lib.IntN.{ℤ, pos}
 use lib.ListN.{length, getD}
-use Rattle.definitions.specs.Numbers.{isStop, isFault, isAnswer}
+use Rattle.definitions.specs.Numbers.{isNumber, isStop, isFault, isAnswer}
+use Rattle.definitions.specs.Ranges.{within}
 use Rattle.definitions.specs.Layouts.{bodyOf}
 use Rattle.definitions.specs.Operators.{gives, computed}
 use Rattle.definitions.specs.Outcomes.{numberOutcome, constructorOutcome, endOutcome}
 use Rattle.definitions.specs.TranslationNodes.{number, translationNodeOf, tagOf}
-use Rattle.definitions.specs.Rule.{Value, constructor, Ending, value, State}
+use Rattle.definitions.specs.Rule.{Value, constructor, Ending, value, ended, State}
 use Rattle.definitions.specs.Cells.{newCell}
 use Rattle.definitions.specs.LiveCells.{LiveCells, noLiveCells, keepingLive, withLiveCell, liveAfter, closing, liveEvaluation}
 use Rattle.definitions.specs.Run.{endingOutcome, ruleEnd}
@@ -27,15 +28,21 @@ use Rattle.rule_laws.specs.Keeps.{Keeps, Proper, an-integer, a-constructor, an-
 use Rattle.cell_rules.proofs.LiveKept.{LiveKept, live-keep}
 use Rattle.agreement.proofs.KnownCells.{Among, a-number, any-constructor, LiveKnown, none-known, written-known, value-known}
 
--- the number of an answer or a stop
+-- the number of a run fault or a stop
 abbrev Known : ℕ → Type 0
-Known n = (isAnswer n || isStop n) ≡ true
+Known n = (isFault n || isStop n) ≡ true
 
 stop-known : (n : ℕ) → isStop n ≡ true → Known n
 stop-known n h = rw (h, or-true) refl
 
 fault-known : (n : ℕ) → isFault n ≡ true → Known n
-fault-known n h = rw (fault-answer n h) refl
+fault-known n h = rw h refl
+
+-- it is that of an answer or a stop
+known-by : (n : ℕ) (x y : Bool) → isFault n ≡ x → isStop n ≡ y → (x || y) ≡ true → (isAnswer n || isStop n) ≡ true
+known-by n true y e f h = rw (fault-answer n e) refl
+known-by n false true e f h = rw (f, or-true) refl
+known-by n false false e f h = absurd (true≢false (sym h))
 
 -- numbers that a visit stays among
 pub record Closed (b : List ℕ) (rs : List ℤ) : Type 1 where
@@ -48,6 +55,9 @@ pub record Closed (b : List ℕ) (rs : List ℤ) : Type 1 where
 any-numbers : (b : List ℕ) (rs : List ℤ) → Closed b rs
 any-numbers b rs =
     record { Number = λ z. Unit {0}; literals = λ k e. tt; readings = λ i. tt; tags = λ k. tt; operators = λ o p q e. tt }
+
+ended-no-value : {v : Value ℕ} {n : ℕ} → value v ≡ ended n → ⊥
+ended-no-value e = let z : _≡_ {A = ℕ} 0 1 = cc in omega arith
 
 module _ (b : List ℕ) (rs : List ℤ) (cellsAllowed : ℕ) (N : Closed b rs) where
   -- cells that are known stay so, and none is taken away
@@ -146,11 +156,18 @@ module _ (b : List ℕ) (rs : List ℤ) (cellsAllowed : ℕ) (N : Closed b rs) w
   unfolding ruleEnd liveEvaluation
   rule-keeps steps nesting = live-keep known cellsAllowed cells-stay-known nesting .keeps (bodyOf Translation b 0) 0 _ no-cells-known
 
-  outcome-known : {m : LiveCells} {e : Ending ℕ} → Proper known m e → Known (endingOutcome b e .outcome)
+  outcome-known : {m : LiveCells} {e : Ending ℕ} → Proper known m e → (isAnswer (endingOutcome b e .outcome) || isStop (endingOutcome b e .outcome)) ≡ true
   unfolding endingOutcome numberOutcome constructorOutcome endOutcome isAnswer
   outcome-known (an-integer z) = refl
   outcome-known (a-constructor t) = refl
-  outcome-known (an-end h) = h
+  outcome-known (an-end {n} h) = known-by n (isFault n) (isStop n) refl refl h
+
+  -- an end that is no value is no number's
+  end-nonzero : {m : LiveCells} {e : Ending ℕ} → Proper known m e → (n : ℕ) → e ≡ ended n → ¬ (n ≡ isNumber)
+  unfolding isFault isStop within
+  end-nonzero (an-integer z) n e = absurd (ended-no-value e)
+  end-nonzero (a-constructor t) n e = absurd (ended-no-value e)
+  end-nonzero (an-end {n = k} h) n e = λ z. let s : k ≡ n = cc e in true≢false (sym h ∙ rw (s, z) refl)
 
   value-among : N .Number (pos 0) → {m : LiveCells} {e : Ending ℕ} → Proper known m e → N .Number (endingOutcome b e .value)
   unfolding endingOutcome numberOutcome constructorOutcome endOutcome
@@ -165,6 +182,9 @@ module _ (b : List ℕ) (rs : List ℤ) (cellsAllowed steps nesting : ℕ) where
   pub rule-known : (isAnswer (endingOutcome b (ruleEnd b rs steps nesting cellsAllowed .ending) .outcome)
       || isStop (endingOutcome b (ruleEnd b rs steps nesting cellsAllowed .ending) .outcome)) ≡ true
   rule-known = outcome-known b rs cellsAllowed (any-numbers b rs) (rule-keeps b rs cellsAllowed (any-numbers b rs) steps nesting .proper)
+
+  pub rule-end-nonzero : (n : ℕ) → ruleEnd b rs steps nesting cellsAllowed .ending ≡ ended n → ¬ (n ≡ isNumber)
+  rule-end-nonzero = end-nonzero b rs cellsAllowed (any-numbers b rs) (rule-keeps b rs cellsAllowed (any-numbers b rs) steps nesting .proper)
 
   cells-known : LiveKnown (any-numbers b rs .Number) cellsAllowed (ruleEnd b rs steps nesting cellsAllowed .state .store)
   cells-known = rule-keeps b rs cellsAllowed (any-numbers b rs) steps nesting .becomes .known (no-cells-known b rs cellsAllowed (any-numbers b rs))

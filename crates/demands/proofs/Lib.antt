@@ -26,3 +26,6 @@ pub mod GivenBack
 pub mod DriverView
 pub mod Typed
 pub mod TypedSheets
+pub mod Searched
+pub mod SearchedInC
+pub mod FoundReadings

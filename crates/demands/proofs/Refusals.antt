@@ -5,7 +5,7 @@ use mathlib.Core.List.{List}
 use mathlib.Core.Bool.{Bool, true, false, cond}
 use lib.IntN.{ℤ}
 use Rattle.definitions.specs.Ranges.{within}
-use Rattle.definitions.specs.Numbers.{truncated, oversize, badRecord, badCount, outOfRange, badTree, badArguments, shortOutput, badReadings, badAllowance, closedReading, illTyped, isRefusal}
+use Rattle.definitions.specs.Numbers.{truncated, oversize, badRecord, badCount, outOfRange, badTree, badArguments, shortOutput, badReadings, badAllowance, closedReading, illTyped, badRange, isRefusal}
 use Rattle.definitions.specs.Verdicts.{_andThen_, require, firstOf}
 use Rattle.definitions.specs.Layouts.{isTyped, due, nodes}
 use Rattle.definitions.specs.Shape.{shapeAt, shape, fileShape}
@@ -20,6 +20,7 @@ use Rattle.definitions.specs.declared.Layout.the-variants.{Sheet, Translation}
 use Rattle.definitions.specs.declared.Verdict.{Verdict}
 use Rattle.definitions.specs.declared.Verdict.the-variants.{Accepted, Refused}
 use Rattle.definitions.specs.Hirer.{closedAt, closedVerdict}
+use Rattle.definitions.specs.ReadingSearch.{Query, searchVerdict}
 use Rattle.batch.specs.Promise.{rowsChecks, rowsVerdict}
 use Rattle.join.specs.Promise.{joinVerdict}
 use Rattle.definitions.specs.DriverView.{viewVerdict}
@@ -107,6 +108,10 @@ unfolding closedVerdict closedAt isRefusal within
 hiring-numbered b set rs nesting cellsAllowed lent =
     either _ _ (either _ _ (either _ _ (translation-numbered b) (each (nodes b) _ (λ k. required _ closedReading _ refl))) (required _ badReadings 0 refl))
     (required _ badAllowance 0 refl)
+
+pub searching-numbered : (b : List ℕ) (rs : List ℤ) (q : Query) (nesting cellsAllowed lent : ℕ) → NumberedIn (searchVerdict b rs q nesting cellsAllowed lent)
+unfolding searchVerdict isRefusal within
+searching-numbered b rs q nesting cellsAllowed lent = either _ _ (running-numbered b rs nesting cellsAllowed lent) (required _ badRange 0 refl)
 
 pub viewing-numbered : (b : List ℕ) (room : ℕ) → NumberedIn (viewVerdict b room)
 unfolding viewVerdict isRefusal within

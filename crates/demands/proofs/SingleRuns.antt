@@ -1,6 +1,6 @@
 -- Single runs done in turn in one buffer leave what the definition of runs in turn says.
 use mathlib.Core.Path.{_≡_, refl, _∙_}
-use Prim.Native.Nat.{ℕ, zero, suc, _*_, _≤_, _<_}
+use Prim.Native.Nat.{ℕ, suc, _*_, _≤_, _<_}
 use mathlib.Core.List.{List, _++_}
 use native.Mathlib.Omega.{arith}
 use lib.IntN.{ℤ}
@@ -18,13 +18,12 @@ use Rattle.answer.specs.Answers.{answerOf}
 use Rattle.run.specs.Promise.{Runs}
 use Rattle.batch.specs.Promise.{rowsVerdict, rowsCells, rowsRecords}
 use Rattle.batch.proofs.InTurn.{records-length}
+use Rattle.runs_in_turn.proofs.InTurn.{single-cells}
 
 module _ (b : List ℕ) (rows : ℕ) (rs : List ℤ) (steps nesting cellsAllowed : ℕ) (before room : List ℕ) (answers : ℕ → Answer) (cells : ℕ → List ℕ)
     (first : cells 0 ≡ before) (runs : (i : ℕ) → i < rows → Runs b (rowOf b rs i) steps nesting cellsAllowed (cells i) (answers i) (cells (suc i))) where
   cells-in-turn : (n : ℕ) → n ≤ rows → cells n ≡ cellsInTurn b (rowOf b rs) steps nesting cellsAllowed n before
-  unfolding cellsInTurn
-  cells-in-turn zero h = first
-  cells-in-turn (suc n) h = runs n h .cells ∙ rw (cells-in-turn n (omega arith)) refl
+  cells-in-turn n h = single-cells b (rowOf b rs) steps nesting cellsAllowed before cells first n (λ i l. runs i (omega (arith, l, h)) .cells)
 
   answer-in-turn : (i : ℕ) → i < rows → answerOf (answers i) ≡ answerInTurn b (rowOf b rs) steps nesting cellsAllowed i before
   unfolding answerInTurn

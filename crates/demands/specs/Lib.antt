@@ -4,3 +4,4 @@ pub mod Rows
 pub mod Hirer
 pub mod DriverView
 pub mod TypedSheets
+pub mod FoundReadings

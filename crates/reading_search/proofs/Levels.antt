@@ -64,6 +64,12 @@ module _ (size : ℕ) where
   lt-level (negsuc a) (pos b) p h = omega (arith, p)
   lt-level (negsuc a) (negsuc b) p h = omega (arith, ltb→lt b a (h .lt), p)
 
+  level-lt : (x y : ℤ) → mag y < size → level x < level y → x <ℤ y
+  level-lt (pos a) (pos b) q h = record { lt = lt→ltb a b (omega (arith, h)) }
+  level-lt (pos a) (negsuc b) q h = absurd (omega (arith, h, q))
+  level-lt (negsuc a) (pos b) q h = record { lt = tt }
+  level-lt (negsuc a) (negsuc b) q h = record { lt = lt→ltb b a (omega (arith, h, q)) }
+
   level-same : (x y : ℤ) → mag x < size → mag y < size → level x ≡ level y → x ≡ y
   level-same (pos a) (pos b) p q h = ap pos (omega (arith, h))
   level-same (pos a) (negsuc b) p q h = absurd (omega (arith, h, q))
@@ -71,7 +77,7 @@ module _ (size : ℕ) where
   level-same (negsuc a) (negsuc b) p q h = ap negsuc (omega (arith, h, p, q))
 
   -- a number between two others is no larger than both
-  between-size : (x y z : ℤ) → mag x < size → mag z < size → x ≤ℤ y → y ≤ℤ z → mag y < size
+  pub between-size : (x y z : ℤ) → mag x < size → mag z < size → x ≤ℤ y → y ≤ℤ z → mag y < size
   between-size x (pos b) (pos c) p q h k = omega (arith, leb→le b c (k .le), q)
   between-size x (pos b) (negsuc c) p q h k = absurd (k .le)
   between-size (pos a) (negsuc b) z p q h k = absurd (h .le)
@@ -95,6 +101,10 @@ module _ (size : ℕ) where
     | yes l ↦ rw (lt-ltb i (suc a) l) (omega (arith, l, p))
     | no l ↦ rw (le-ltb i (suc a) (omega (arith, l))) (omega (arith, h, l, p))
   ]
+
+  pub value-same : (x : ℤ) → mag x < size → (i j : ℕ) → valueAt x i ≡ valueAt x j → i ≡ j
+  unfolding valueAt
+  value-same x p i j e = omega (arith, ap level e, more-level x i p, more-level x j p)
 
   pub sum-size : (x : ℤ) (i : ℕ) → mag x < size → mag (x +ℤ pos i) < size + size + i
   sum-size x i p = rw (more-is x i p) (sub-size (level x + i) size (omega (arith, level-limit x p)) (omega (arith, p)))
@@ -152,3 +162,18 @@ module _ (size : ℕ) where
             is = level-same y _ r (value-size _ inside) (omega (arith, above, from));
             before = λ j l s. omega (arith, lt-level y (valueAt x j) r s, more-level x j p, from);
           }
+
+-- a range whose lowest value is above its highest has none, any other has one
+pub none-above : (x z : ℤ) → z <ℤ x → valueCount x z < 1
+none-above x z h =
+    let size = suc (mag x + mag z) in
+    let p : mag x < size = omega arith in
+    let q : mag z < size = omega arith in
+    omega (arith, count-is size x z p q, lt-level size z x q h)
+
+pub some-from : (x z : ℤ) → ¬ (z <ℤ x) → 1 ≤ valueCount x z
+some-from x z h =
+    let size = suc (mag x + mag z) in
+    let p : mag x < size = omega arith in
+    let q : mag z < size = omega arith in
+    elim (decLt (level size z) (level size x)) [ yes l ↦ absurd (h (level-lt size z x p l)) | no l ↦ omega (arith, count-is size x z p q, l) ]

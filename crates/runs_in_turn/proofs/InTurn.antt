@@ -1,6 +1,6 @@
 -- Runs in turn in one buffer keep its length; and where the first could not be refused, none is, and each is the rule's.
 use mathlib.Core.Path.{_≡_, refl, _∙_}
-use Prim.Native.Nat.{ℕ, zero, suc}
+use Prim.Native.Nat.{ℕ, zero, suc, _<_}
 use mathlib.Core.List.{List}
 use mathlib.Core.Bool.{true}
 use native.Mathlib.Omega.{arith}
@@ -39,6 +39,13 @@ module _ (b : List ℕ) (row : ℕ → List ℤ) (steps nesting cellsAllowed : �
   unfolding cellsInTurn
   turn-kept zero = refl
   turn-kept (suc n) = cells-kept b (row n) steps nesting cellsAllowed _ ∙ turn-kept n
+
+  -- whoever makes the runs one by one, each in the cells that the run before it left
+  pub single-cells : (cells : ℕ → List ℕ) → cells 0 ≡ before → (n : ℕ) → ((i : ℕ) → i < n → cells (suc i) ≡ runCells b (row i) steps nesting cellsAllowed (cells i))
+      → cells n ≡ cellsInTurn b row steps nesting cellsAllowed n before
+  unfolding cellsInTurn
+  single-cells cells first zero each = first
+  single-cells cells first (suc n) each = each n (omega arith) ∙ rw (single-cells cells first n (λ i h. each i (omega (arith, h)))) refl
 
   -- run i, on as many readings as an accepted file asks for, with allowances that fit
   module _ (accepted : translationVerdict b ≡ Accepted) (fit : allowancesFit nesting cellsAllowed (length before) ≡ true) (i : ℕ) (asked : length (row i) ≡ readings b) where

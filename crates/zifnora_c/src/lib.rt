@@ -1,12 +1,14 @@
 // The calls for programs in C and Rust: numbers, slices of numbers, and a reference to a slice of cells, which stays the same
 // slice. include/zifnora.h says the same for C.
 ghost use mathlib.Core.Path.{_≡_};
-ghost use Rattle.zifnora_c.specs.Promise.{translationCode, TranslatesC, RunsC, RunsForHirerC, RunsRowsC, JoinsC, ListsC, WritesViewC};
+ghost use Rattle.definitions.specs.ReadingSearch.{query};
+ghost use Rattle.zifnora_c.specs.Promise.{translationCode, TranslatesC, RunsC, RunsForHirerC, RunsRowsC, FindsReadingC, JoinsC, ListsC, WritesViewC};
 
 mod codes;
 
 use crate::codes::listed_code;
 use crate::codes::record_code;
+use crate::codes::searched_code;
 use crate::codes::written_code;
 use answer::write_answer;
 use batch::run_rows;
@@ -14,6 +16,7 @@ use cells::listing::list_context;
 use driver_view::write_view;
 use hirer::run_for_hirer;
 use join::translate_and_run;
+use reading_search::find_reading;
 use run::run;
 use translation_length::translated_length;
 use translator::translate;
@@ -109,6 +112,39 @@ pub extern "C" fn zifnora_run_rows_slice(
         records,
     );
     written_code(written)
+}
+
+// Finds the smallest value of a range for a reading with which the run of a translation ends in a wanted number.
+#[no_mangle]
+pub extern "C" fn zifnora_find_reading_slice(
+    file: &[u8],
+    readings: &[i32],
+    position: u32,
+    lowest: i32,
+    highest: i32,
+    wanted: i32,
+    steps: u32,
+    nesting: u32,
+    cells_allowed: u32,
+    cells: &mut &mut [u8],
+) -> u64
+    ensures { λ r. ⌜ FindsReadingC (now (file .entry)) (now (readings .entry)) (query position lowest highest wanted) steps nesting «cells_allowed» (now (now (cells .entry))) r
+        (now (now (cells .exit)))
+        × (now (cells .exit) .ptr ≡ now (cells .entry) .ptr) ⌝ }
+{
+    let searched = find_reading(
+        file,
+        readings,
+        position,
+        lowest,
+        highest,
+        wanted,
+        steps,
+        nesting,
+        cells_allowed,
+        cells,
+    );
+    searched_code(searched)
 }
 
 // Translates a sheet and runs the translation, and writes the answer's record.

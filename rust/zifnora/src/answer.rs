@@ -15,7 +15,7 @@ pub struct Allowances {
 }
 
 /// A refusal's number with its place: the record's number from 0, the cell's
-/// number for a listing, and 0 for the numbers 2, 8, 9 and 10.
+/// number for a listing, and 0 for the numbers 2, 8, 9, 10 and 23.
 #[derive(Clone, Copy, Debug, PartialEq, Eq)]
 pub struct Refusal {
     pub number: u16,
@@ -147,8 +147,8 @@ impl Record {
         })
     }
 
-    /// What the outcome and its fields say; none for an outcome that is not
-    /// in document 01's table.
+    /// What the outcome and its fields say; none for an outcome that is in no
+    /// record of a run.
     pub fn answer(&self) -> Option<Answer> {
         match self.outcome {
             numbers::NUMBER => Some(Answer::Number(self.value)),
@@ -171,8 +171,8 @@ impl Record {
         }
     }
 
-    /// The typed form of the record; none for an outcome that is not in
-    /// document 01's table.
+    /// The typed form of the record; none for an outcome that is in no record
+    /// of a run.
     pub fn ended(&self) -> Option<Ended> {
         Some(Ended {
             answer: self.answer()?,
@@ -209,9 +209,19 @@ mod tests {
                 }
                 Some(Answer::Stopped(stop)) => numbers::is_stop(number) && stop.number() == number,
                 Some(Answer::Fault(fault)) => numbers::is_fault(number) && fault.number() == number,
-                None => number > numbers::ILL_TYPED && !value,
+                None => number > numbers::BAD_RANGE && !value,
             };
             assert!(expected, "number {number}");
+            let classes = [
+                value,
+                numbers::is_refusal(number),
+                numbers::is_stop(number),
+                numbers::is_fault(number),
+                numbers::is_none(number),
+            ];
+            let listed = number <= numbers::NO_VALUE || number == numbers::CONSTRUCTOR;
+            let count = classes.into_iter().filter(|&class| class).count();
+            assert_eq!(count, listed as usize, "number {number}");
         }
     }
 

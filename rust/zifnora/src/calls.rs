@@ -4,6 +4,7 @@ use crate::allowed::Allowed;
 use crate::answer::{Allowances, Answer, Ended, Record, Refusal};
 use crate::kinds::view;
 use crate::raw;
+use crate::search::Search;
 use crate::sizes::{ANSWER_BYTES, CELL_BYTES, LABEL_BYTES, MOST_ROWS, VIEW_BYTES};
 
 /// Translates a sheet; the translation's length. `out` starts with the
@@ -67,6 +68,31 @@ pub fn run_rows(
     let code = raw::run_rows(translation, rows, readings, allowances, cells, &mut records);
     let written = &records[..raw::result(code)?];
     Ok(written.chunks_exact(ANSWER_BYTES).map(decoded).collect())
+}
+
+/// The smallest of the values for one reading with which the run of a
+/// translation, at these allowances, ends in the wanted number; none where no
+/// value in the range does it. A run that stops, faults or ends with a
+/// constructor does not count. The values are tried from the lowest on in the same
+/// lent cells, each with all of the allowances, and `cells` is left as these runs
+/// leave it, that of the value found the last; a refusal runs nothing and leaves
+/// all of it as it was. `numbers::BAD_RANGE` where the lowest value is above the
+/// highest, the values are more than `sizes::MOST_VALUES`, or there is no reading
+/// at the position.
+pub fn find_reading(
+    translation: &[u8],
+    readings: &[i32],
+    search: Search,
+    allowances: Allowances,
+    cells: &mut [u8],
+) -> Result<Option<i32>, Refusal> {
+    raw::found(raw::find_reading(
+        translation,
+        readings,
+        search,
+        allowances,
+        cells,
+    ))
 }
 
 /// Translates a sheet into `out` and runs the translation. Any refusal leaves

@@ -28,6 +28,9 @@ pub const BAD_ALLOWANCE: u16 = 10;
 pub const CLOSED_READING: u16 = 21;
 /// Refusal: "ill typed". A node of a typed sheet breaks a rule of types.
 pub const ILL_TYPED: u16 = 22;
+/// Refusal: "bad range". In a search, the lowest value is above the highest, the
+/// values are too many, or there is no reading at the position.
+pub const BAD_RANGE: u16 = 23;
 
 /// Stop: "steps".
 pub const NO_STEP: u16 = 11;
@@ -51,6 +54,9 @@ pub const NO_FIELD: u16 = 19;
 /// Run fault: "overflow". A product outside signed 32 bits.
 pub const OVERFLOW: u16 = 20;
 
+/// Outcome of a search: "none". No value in the range does it.
+pub const NO_VALUE: u16 = 24;
+
 /// The outcome of a number.
 pub const NUMBER: u16 = 0;
 /// The outcome of a constructor.
@@ -59,7 +65,7 @@ pub const CONSTRUCTOR: u16 = 100;
 /// A call or a run of this outcome was refused.
 pub fn is_refusal(outcome: u16) -> bool {
     (TRUNCATED..=BAD_ALLOWANCE).contains(&outcome)
-        || (CLOSED_READING..=ILL_TYPED).contains(&outcome)
+        || (CLOSED_READING..=BAD_RANGE).contains(&outcome)
 }
 
 /// A run of this outcome was stopped by an allowance.
@@ -75,4 +81,9 @@ pub fn is_fault(outcome: u16) -> bool {
 /// A run of this outcome ended with a number or a constructor.
 pub fn is_value(outcome: u16) -> bool {
     outcome == NUMBER || outcome == CONSTRUCTOR
+}
+
+/// A search of this outcome has found that no value does it.
+pub fn is_none(outcome: u16) -> bool {
+    outcome == NO_VALUE
 }

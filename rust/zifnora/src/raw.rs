@@ -1,110 +1,17 @@
 //! The calls as the archive has them, over slices. Each returns one number of
-//! 64 bits, which `result` opens; the answer of a run is the record that it
-//! writes. `include/zifnora.h` says what each call writes and what it leaves.
+//! 64 bits, which `result` opens, or `found` for a search; the answer of a run is
+//! the record that it writes. `include/zifnora.h` says what each call writes and what it leaves.
 
 use crate::answer::{Allowances, Refusal};
+use crate::declared::{
+    zifnora_driver_view, zifnora_find_reading_slice, zifnora_list_context,
+    zifnora_run_for_hirer_slice, zifnora_run_rows_slice, zifnora_run_slice, zifnora_translate,
+    zifnora_translate_and_run_slice, zifnora_translated_length, Lent,
+};
+use crate::numbers::{NO_VALUE, NUMBER};
+use crate::search::Search;
 
-/// A lent buffer as the four calls that run take it: address and length,
-/// behind a pointer. It is as it was after the call.
-#[repr(C)]
-#[derive(PartialEq)]
-struct Lent {
-    data: *mut u8,
-    length: usize,
-}
-
-impl Lent {
-    fn of(bytes: &mut [u8]) -> Lent {
-        Lent {
-            data: bytes.as_mut_ptr(),
-            length: bytes.len(),
-        }
-    }
-}
-
-extern "C" {
-    fn zifnora_translate(
-        sheet: *const u8,
-        sheet_length: usize,
-        out: *mut u8,
-        out_length: usize,
-    ) -> u64;
-
-    fn zifnora_translated_length(sheet: *const u8, sheet_length: usize, room: u64) -> u64;
-
-    fn zifnora_run_slice(
-        translation: *const u8,
-        translation_length: usize,
-        readings: *const i32,
-        readings_count: usize,
-        steps: u32,
-        nesting: u32,
-        cells_allowed: u32,
-        cells: *mut Lent,
-        record: *mut u8,
-        record_length: usize,
-    ) -> u64;
-
-    fn zifnora_run_for_hirer_slice(
-        translation: *const u8,
-        translation_length: usize,
-        set: u32,
-        readings: *const i32,
-        readings_count: usize,
-        steps: u32,
-        nesting: u32,
-        cells_allowed: u32,
-        cells: *mut Lent,
-        record: *mut u8,
-        record_length: usize,
-    ) -> u64;
-
-    fn zifnora_run_rows_slice(
-        translation: *const u8,
-        translation_length: usize,
-        rows: u32,
-        readings: *const i32,
-        readings_count: usize,
-        steps: u32,
-        nesting: u32,
-        cells_allowed: u32,
-        cells: *mut Lent,
-        records: *mut u8,
-        records_length: usize,
-    ) -> u64;
-
-    fn zifnora_translate_and_run_slice(
-        sheet: *const u8,
-        sheet_length: usize,
-        out: *mut u8,
-        out_length: usize,
-        readings: *const i32,
-        readings_count: usize,
-        steps: u32,
-        nesting: u32,
-        cells_allowed: u32,
-        cells: *mut Lent,
-        record: *mut u8,
-        record_length: usize,
-    ) -> u64;
-
-    fn zifnora_list_context(
-        cells: *const u8,
-        cells_length: usize,
-        cell: u32,
-        out: *mut u8,
-        out_length: usize,
-    ) -> u64;
-
-    fn zifnora_driver_view(
-        record: *const u8,
-        record_length: usize,
-        out: *mut u8,
-        out_length: usize,
-    ) -> u64;
-}
-
-// Safety of the eight calls: every pointer comes from a live slice of the
+// Safety of the nine calls: every pointer comes from a live slice of the
 // stated length; slices that are written are borrowed mutably, so that they
 // overlap no other; the pair of the cells is a local variable.
 
@@ -210,6 +117,37 @@ pub fn run_rows(
     code
 }
 
+/// Looks for the smallest value of a reading with which the run ends in a number;
+/// `found` opens the code.
+#[inline]
+pub fn find_reading(
+    translation: &[u8],
+    readings: &[i32],
+    search: Search,
+    allowances: Allowances,
+    cells: &mut [u8],
+) -> u64 {
+    let mut lent = Lent::of(cells);
+    let code = unsafe {
+        zifnora_find_reading_slice(
+            translation.as_ptr(),
+            translation.len(),
+            readings.as_ptr(),
+            readings.len(),
+            search.position,
+            search.lowest,
+            search.highest,
+            search.wanted,
+            allowances.steps,
+            allowances.nesting,
+            allowances.cells,
+            &mut lent,
+        )
+    };
+    assert!(lent == Lent::of(cells), "the pair is as it was");
+    code
+}
+
 /// Translates a sheet into `out`, runs the translation and writes the answer
 /// record.
 #[inline]
@@ -262,10 +200,20 @@ pub fn driver_view(record: &[u8], out: &mut [u8]) -> u64 {
     unsafe { zifnora_driver_view(record.as_ptr(), record.len(), out.as_mut_ptr(), out.len()) }
 }
 
-/// Opens what a call returned: a length or a count, or the refusal.
+/// Opens what any call but `find_reading` returned: a length or a count, or the
+/// refusal.
 pub fn result(code: u64) -> Result<usize, Refusal> {
     match (code >> 32) as u16 {
         0 => Ok(code as u32 as usize),
+        number => Err(Refusal::new(number, code as u32)),
+    }
+}
+
+/// Opens what `find_reading` returned: the value found, none, or the refusal.
+pub fn found(code: u64) -> Result<Option<i32>, Refusal> {
+    match (code >> 32) as u16 {
+        NUMBER => Ok(Some(code as u32 as i32)),
+        NO_VALUE => Ok(None),
         number => Err(Refusal::new(number, code as u32)),
     }
 }

@@ -28,6 +28,9 @@ pub const MOST_CELLS: u32 = 960;
 /// Of the rows of a batch, which start at 0.
 pub const MOST_ROWS: u32 = 16;
 
+/// Of the values that a search tries, which start at 1.
+pub const MOST_VALUES: u32 = 1024;
+
 /// Bytes lent for each cell: a label, the number of the previous cell, and an
 /// entry for each position of a parameter.
 pub const CELL_BYTES: usize = 68;

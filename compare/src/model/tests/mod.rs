@@ -7,6 +7,7 @@ mod hirer;
 mod labels;
 mod refusals;
 mod remembering;
+mod search;
 mod typed;
 
 use super::answer::Answer;
