@@ -1,5 +1,6 @@
 -- `reading_search::checks::range_fits` meets its contract.
 use mathlib.Core.Path.{_∙_}
+use native.Mathlib.Omega.{arith}
 use mir.Syntax.{w32}
 use Rattle.definitions.specs.ReadingSearch.{valueCount}
 use Rattle.operators.proofs.Answers.{read-both}
@@ -19,7 +20,7 @@ returns c =
 returns-2 : tie.Need-returns-2
 returns-2 c =
     let fits = c .before .before .before .before .fits in
-    many-values _ _ _ _ (c .before .before .value-count .ensures ∙ read-both w32 _ _ (fits .lowest) (fits .highest) valueCount) (c .if2 .taken)
+    many-values _ _ _ _ (c .before .before .value-count .ensures ∙ read-both w32 _ _ (fits .lowest) (fits .highest) valueCount) (omega (arith, c .if2 .taken))
 
 wide32-requires : tie.Need-wide32-requires
 wide32-requires c κs = search needs
@@ -37,7 +38,7 @@ returns-3 c =
     let if1 = c .before .before .before .before .if1 in
     let if2 = c .before .before .before .if2 in
     let counted = value-count .ensures ∙ read-both w32 _ _ (fits .lowest) (fits .highest) valueCount in
-    by-position _ _ _ _ counted (if1 .left) (if2 .left) (c .before .before .wide32 .ensures .0) (c .wide .ensures .0) (c .before .readings .ensures)
+    by-position _ _ _ _ counted (if1 .left) (omega (arith, if2 .left)) (c .before .before .wide32 .ensures .0) (c .wide .ensures .0) (c .before .readings .ensures)
 
 pub range-fits-spec : {M : Type 1} → statement M
 range-fits-spec =

@@ -42,7 +42,7 @@ sub-i c = omega (arith, c .before .loop .inv .reached, c .before .before .value-
 value-at-requires : tie.Need-value-at-requires Inv-loop μ-loop
 value-at-requires c κs =
     let fits = c .before .before .before .before .before .before .fits in
-    value-fits (c .before .loop .inv) (read-fits (fits .lowest)) (read-fits (fits .highest)) (c .loop-test .taken) (rw (c .before .before .value-count .ensures) refl)
+    value-fits (c .before .loop .inv) (read-fits (fits .lowest)) (read-fits (fits .highest)) (omega (arith, c .loop-test .taken)) (omega (arith, c .before .before .value-count .ensures))
 
 try-value-requires : tie.Need-try-value-requires Inv-loop μ-loop
 try-value-requires c κs =
@@ -58,13 +58,13 @@ returns c =
     let try-value = c .before .try-value in
     let fits = c .before .before .before .before .before .before .before .before .before .before .before .fits in
     let value = toZ-ofZ w32 _ (record { sfits = search needs }) ∙ value-at .ensures in
-    let found = value-found (loop .inv) (loop-test .taken) (rw (value-count .ensures) refl) value (try-value .ensures .0) (c .if1 .taken) in
+    let found = value-found (loop .inv) (omega (arith, loop-test .taken)) (omega (arith, value-count .ensures)) value (try-value .ensures .0) (c .if1 .taken) in
     (rw (toZ-ofZ w32 _ (fits .lowest), toZ-ofZ w32 _ (fits .highest), toZ-ofZ w32 _ (fits .wanted)) at found, try-value .ensures .1 ∙ loop .inv .stays)
 
 sub-left : tie.Need-sub-left Inv-loop μ-loop
 sub-left c =
     let loop-test = c .before .before .before .before .before .loop-test in
-    loop-test .taken
+    omega (arith, loop-test .taken)
 
 loop-less : tie.Need-loop-less Inv-loop μ-loop
 loop-less c =
@@ -79,13 +79,13 @@ loop-again c =
     let value-count = c .before .before .before .before .before .before .before .value-count in
     let try-value = c .before .try-value in
     let value = toZ-ofZ w32 _ (record { sfits = search needs }) ∙ value-at .ensures in
-    searching-goes-on (loop .inv) (loop-test .taken) (rw (value-count .ensures) refl) value (try-value .ensures .0) (c .if1 .left) refl (try-value .ensures .1)
+    searching-goes-on (loop .inv) (omega (arith, loop-test .taken)) (omega (arith, value-count .ensures)) value (try-value .ensures .0) (c .if1 .left) refl (try-value .ensures .1)
 
 returns-2 : tie.Need-returns-2 Inv-loop μ-loop
 returns-2 c =
     let fits = c .before .before .before .before .before .before .fits in
     let loop = c .before .loop in
-    (rw (toZ-ofZ w32 _ (fits .lowest), toZ-ofZ w32 _ (fits .highest), toZ-ofZ w32 _ (fits .wanted)) at (none-found (loop .inv) (c .loop-test .left)), loop .inv .stays)
+    (rw (toZ-ofZ w32 _ (fits .lowest), toZ-ofZ w32 _ (fits .highest), toZ-ofZ w32 _ (fits .wanted)) at (none-found (loop .inv) (omega (arith, c .loop-test .left))), loop .inv .stays)
 
 pub search-range-spec : {M : Type 1} → statement M
 search-range-spec =
