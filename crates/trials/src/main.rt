@@ -1,10 +1,10 @@
-// The readers, the translator, the length that is asked, the run, the run on rows, the hirer's run, the driver's view and the
-// context listing on the files that standard input lists.
+// The readers, the translator, the length that is asked, the run, the run on rows, the hirer's run, the search for a reading's
+// value, the driver's view and the context listing on the files that standard input lists.
 //
 // The file `stdin` beside src/ has the trials: files for the two readers; sheets and the translations that they should have, and
-// their runs; translations that no translator writes, and their runs, also on rows and for a hirer; answer records and their views; cells and their listings. The
+// their runs; translations that no translator writes, and their runs, also on rows, for a hirer and in searches; answer records and their views; cells and their listings. The
 // file `stdout` has what each should answer by document 01, and by document 02 for rows (request 1), products (2), the length that is
-// asked (3), labels (4), hirers (5), what cells remember (7), cells given back (9), the driver's view (10) and types (11). Files and translations are worked out by hand from
+// asked (3), labels (4), hirers (5), what cells remember (7), cells given back (9), the driver's view (10), types (11) and searches (12). Files and translations are worked out by hand from
 // these and document 002, and so are the readers' answers; those for types, the runs with their steps and cells, and of the trials for labels
 // the translations too, were worked out by models written from the documents alone. A record is its length, its kind and its fields; in a change, word 0 of a
 // record is its length, word 1 its kind, and the fields follow. A comment in quotation marks is the sentence that decides the trials
@@ -29,12 +29,15 @@
 //   w  the translation is run on rows, in one call and in single runs: rows, steps, nesting, cells, bytes lent for cells, bytes
 //      of the translation, bytes lent for records, changes, and the readings of all rows
 //   h  the translation is run for a hirer, and by the owner's run: the set, whose bit i is reading i, as a number, and then as `u`
+//   f  a reading's value is searched, and by single runs in turn: the position, the lowest and the highest value, the wanted number,
+//      each with a minus before it where it is negative, and then as `u`
 //   l  a context is listed: the cell, bytes of cells, bytes of output
 //   v  an answer record is viewed: bytes of it, bytes of output, changes
 // A run shows its answer's record of kind 64. As many cells as it counts are to be those of `c`, and all bytes past them, and those
 // of the output past the translation, are to be as they were before; where the run is refused, all bytes of both are. Of rows each
 // shows its record. `c` then has the cells as the last row leaves them: as many as any row counts are to be those, and all bytes past
-// them, and those past the last record, are to be as they were before; where the rows are refused, all bytes of both are.
+// them, and those past the last record, are to be as they were before; where the rows are refused, all bytes of both are. Of a search
+// `c` has the cells as its last run leaves them, in the same way.
 // Words, cells and readings after `xN` are written N times, and one with `+k` after it grows by k from turn to turn. A reading has a
 // minus before it where it is negative. What follows a comma says what a trial is. Any other line is a comment. `stdin` has less than
 // 131,072 bytes. What does not fit its space, a number too large or a file too long, is shown as `DOES NOT FIT`, which `stdout` never
@@ -47,6 +50,7 @@ mod listing_trial;
 mod reader_trial;
 mod rows_trial;
 mod run_trial;
+mod search_trial;
 mod shown;
 mod text;
 mod translator_trial;
@@ -61,6 +65,7 @@ use crate::reader_trial::try_reader;
 use crate::rows_trial::try_rows;
 use crate::run_trial::try_joined;
 use crate::run_trial::try_run;
+use crate::search_trial::try_search;
 use crate::shown::show_misfit;
 use crate::shown::show_named;
 use crate::text::line_starts;
@@ -167,6 +172,9 @@ fn tried(
     }
     if letter == b'h' {
         try_for_hirer(text, from, translation, cells);
+    }
+    if letter == b'f' {
+        try_search(text, from, translation, cells);
     }
     if letter == b'l' {
         try_listing(text, from, cells);
