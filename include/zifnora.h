@@ -8,12 +8,12 @@
  * Platform: x86-64, System V calling convention; the archive is ELF. Build it with `rt staticlib zifnora_c`, and link
  * target/staticlib/libzifnora_c.a. It needs `memcpy` and `memset` from what it is linked with, and nothing else (`nm -u`).
  *
- * Stack: a run takes less than 112 KiB, for an owner or a hirer, on one row of readings or on several and in the joined call, the
- * other calls less than 32 KiB. These bounds are measured, not proved. `bench` measures on files that nest in each way in which
- * visits can nest, to 1,024 open visits, and prints: a run 13,768 bytes, 96 more for each visit that stays open, 107,224 at nesting
- * 1,024; for a hirer 13,800 and 107,256; on several rows 13,816 and 107,272; the joined call 30,088 and 107,336; translating 21,304;
- * asking for a translation's length 18,744; listing a context 24, of one cell as of 960; a driver's view 0. Another build of the
- * archive has to be measured again.
+ * Stack: a run takes less than 112 KiB, for an owner or a hirer, on one row of readings or on several, in a search and in the joined
+ * call, the other calls less than 32 KiB. These bounds are measured, not proved. `bench` measures on files that nest in each way in which
+ * visits can nest, to 1,024 open visits, and prints: a run 13,768 bytes, 96 more for each visit that stays open, 107,272 at nesting
+ * 1,024; for a hirer 13,800 and 107,304; on several rows 13,816 and 107,320; a search 13,848 and 107,240; the joined call 30,088 and
+ * 107,384; translating 21,304; asking for a translation's length 18,744; listing a context 24, of one cell as of 960; a driver's view
+ * 0. Another build of the archive has to be measured again.
  */
 #ifndef ZIFNORA_H
 #define ZIFNORA_H
@@ -289,14 +289,15 @@ static inline uint64_t zifnora_run_rows(const uint8_t *translation, size_t trans
  * faults, or that ends with a constructor, is none of these. The runs are done in turn in the same cells, each with all of the
  * allowances, from the lowest value to the one found, or to the highest. The readings are not written.
  *
- * ZIFNORA_REFUSAL of what comes back says which of three it is:
- *   0: found; ZIFNORA_FOUND has the value, which may be negative.
- *   24: none of the values does it. This is no refusal, and ZIFNORA_VALUE is 0.
+ * ZIFNORA_SEARCHED of what comes back says which of three it is:
+ *   ZIFNORA_NUMBER: found; ZIFNORA_FOUND has the value, which may be negative.
+ *   ZIFNORA_NO_VALUE: none of the values does it. This is no refusal, and ZIFNORA_VALUE is 0.
  *   any other: a refusal, with ZIFNORA_VALUE as its place: 1 to 5 of the translation, then 9, then 10, then 23 where `lowest` is
  *   above `highest`, the values are more than ZIFNORA_VALUES, or `position` is not below the number of the translation's readings.
  *   Where it has none, every search is refused. A refusal runs nothing and leaves `cells` as it was.
  *
  * `cells` is as these runs leave it, as for zifnora_run_rows. */
+#define ZIFNORA_SEARCHED(code) ((uint32_t)((code) >> 32))
 #define ZIFNORA_FOUND(code) (zifnora_signed_bits(ZIFNORA_VALUE(code)))
 static inline uint64_t zifnora_find_reading(const uint8_t *translation, size_t translation_length, const int32_t *readings,
                                             size_t readings_count, uint32_t position, int32_t lowest, int32_t highest,

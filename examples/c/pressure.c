@@ -1,5 +1,5 @@
-/* Runs a sheet with two readings and prints what the cab shows of the answer, and the answer record; status 1 where the run has no
- * answer.
+/* Runs a sheet with two readings and prints what the cab shows of the answer, the answer record, and which pressure would give the
+ * figure 850; status 1 where the run has no answer.
  *
  *   result = cold(r0, r1)
  *   cold(p, t) = if t < 20 then p else p - (t - 20) * 2
@@ -14,6 +14,12 @@
 #define STEPS 1000u
 #define NESTING 100u
 #define CELLS 100u
+
+/* Which reading is the pressure, the pressures that are tried, and the figure that is wanted. */
+#define PRESSURE 0u
+#define LOWEST 0
+#define HIGHEST 1023
+#define WANTED 850
 
 /* A record's length and kind, then its fields, two bytes each. */
 #define WORD(w) (uint8_t)((w) & 255), (uint8_t)((w) >> 8)
@@ -75,12 +81,33 @@ static void show_cab(const uint8_t *record) {
   }
 }
 
+/* Prints the smallest pressure that gives the wanted figure. */
+static void show_fill(const int32_t *readings, size_t readings_count) {
+  const uint64_t length = zifnora_translate(sheet, sizeof sheet, translation, sizeof translation);
+  uint64_t code;
+
+  if (ZIFNORA_REFUSAL(length) != 0) {
+    printf("refused %u place %u\n", ZIFNORA_REFUSAL(length), ZIFNORA_VALUE(length));
+    return;
+  }
+  code = zifnora_find_reading(translation, ZIFNORA_VALUE(length), readings, readings_count, PRESSURE, LOWEST, HIGHEST, WANTED, STEPS,
+                              NESTING, CELLS, cells, sizeof cells);
+  if (zifnora_is_number(ZIFNORA_SEARCHED(code))) {
+    printf("fill %d for %d\n", ZIFNORA_FOUND(code), WANTED);
+  } else if (zifnora_is_none(ZIFNORA_SEARCHED(code))) {
+    printf("no fill for %d\n", WANTED);
+  } else {
+    printf("refused %u place %u\n", ZIFNORA_SEARCHED(code), ZIFNORA_VALUE(code));
+  }
+}
+
 int main(int count, char **arguments) {
   int32_t readings[ZIFNORA_READINGS] = {845, 31};
   size_t readings_count = 2;
   uint8_t record[ZIFNORA_RECORD_BYTES];
   struct zifnora_record answer;
   uint64_t code;
+  int status;
 
   if (count > 1) {
     for (readings_count = 0; readings_count < ZIFNORA_READINGS && (int)readings_count + 1 < count; readings_count++) {
@@ -98,5 +125,7 @@ int main(int count, char **arguments) {
     return 1;
   }
   show_cab(record);
-  return show(&answer);
+  status = show(&answer);
+  show_fill(readings, readings_count);
+  return status;
 }

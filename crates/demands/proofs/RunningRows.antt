@@ -1,26 +1,22 @@
 -- The rows of a batch that is not refused: each is a run that is not refused, and its record stands in its place.
 use mathlib.Core.Path.{_≡_, refl, sym, _∙_}
-use Prim.Native.Nat.{ℕ, zero, suc, _*_, _<_}
+use Prim.Native.Nat.{ℕ, suc, _*_, _<_}
 use mathlib.Core.List.{List, _++_, append-assoc}
 use native.Mathlib.Omega.{arith}
 use native.Mathlib.Nat.{le-of-eq}
 use lib.IntN.{ℤ}
 use lib.ListN.{length, drop, length-drop}
 use lib.Seq.{length-take-le, take-append-seam, drop-append-seam}
-use borrow.Author.Tests.{eq-eqb}
 use Rattle.definitions.specs.Sizes.{answerSize}
-use Rattle.definitions.specs.Numbers.{badAllowance}
 use Rattle.definitions.specs.Lists.{joined}
 use Rattle.definitions.specs.Layouts.{readings}
-use Rattle.definitions.specs.Verdicts.{_andThen_, require}
 use Rattle.definitions.specs.Output.{outputOf}
 use Rattle.definitions.specs.Checks.{translationVerdict}
-use Rattle.definitions.specs.Run.{runVerdict, ruleAnswer, ruleCells, answerAfter, bytesAfter, runAnswer, runCells}
+use Rattle.definitions.specs.Run.{ruleAnswer, ruleCells}
 use Rattle.definitions.specs.AnswerRecord.{answerBytes}
 use Rattle.definitions.specs.RunsInTurn.{rowOf, cellsInTurn, answerInTurn, recordsInTurn}
-use Rattle.definitions.specs.declared.Verdict.{Verdict}
-use Rattle.definitions.specs.declared.Verdict.the-variants.{Accepted, Refused}
-use Rattle.laws.proofs.Verdicts.{both-accepted, required}
+use Rattle.definitions.specs.declared.Verdict.the-variants.{Accepted}
+use Rattle.laws.proofs.Verdicts.{both-accepted}
 use Rattle.laws.proofs.Joined.{joined-split}
 use Rattle.runs_in_turn.proofs.InTurn.{turn-answer, turn-cells}
 use Rattle.answer.proofs.Records.{answer-length}

@@ -1,17 +1,17 @@
 -- A search: how it is met, what a value that it found is, what it says where it found none, and what it leaves in the lent cells.
 use mathlib.Core.Path.{_≡_, refl, sym, ap, _∙_}
-use Prim.Native.Nat.{ℕ, zero, suc, _+_, _≤_, _<_}
+use Prim.Native.Nat.{ℕ, suc, _+_, _≤_, _<_}
 use mathlib.Core.List.{List}
 use mathlib.Core.Bool.{Bool, true, false, cond, and-false, true≢false}
 use native.Mathlib.Omega.{arith}
 use native.Mathlib.Decide.{decLt}
-use lib.IntN.{ℤ, pos}
+use lib.IntN.{ℤ}
 use lib.ListN.{length, set, length-set, take}
-use lib.Signed.{mag, _≤ℤ_, _<ℤ_}
+use lib.Signed.{mag}
 use lib.Dec.{ltb}
 use borrow.Author.Tests.{le-ltb, lt-ltb, ltb-true, ltb-false, eq-eqb, eqb-true}
 use Rattle.definitions.specs.Sizes.{mostValues}
-use Rattle.definitions.specs.Numbers.{isNumber, isConstructor, badReadings, badAllowance, badRange, isRefusal, isAnswer}
+use Rattle.definitions.specs.Numbers.{isNumber, isConstructor, badReadings, badRange, isAnswer}
 use Rattle.definitions.specs.Verdicts.{_andThen_, require}
 use Rattle.definitions.specs.Ranges.{within}
 use Rattle.definitions.specs.Layouts.{readings}
@@ -19,7 +19,7 @@ use Rattle.definitions.specs.Checks.{translationVerdict}
 use Rattle.definitions.specs.Translate.{translation}
 use Rattle.definitions.specs.Outcomes.{Outcome, numberOutcome, constructorOutcome, endOutcome}
 use Rattle.definitions.specs.Rule.{integer, constructor, Ending, value, ended}
-use Rattle.definitions.specs.Run.{endingOutcome, answerAt, reachedAnswer, ruleEnd, ruleAnswer, refusal, allowancesFit, runVerdict, answerAfter, bytesAfter, runAnswer, runCells}
+use Rattle.definitions.specs.Run.{endingOutcome, answerAt, reachedAnswer, ruleEnd, ruleAnswer, refusal, allowancesFit, runVerdict, answerAfter, bytesAfter, runAnswer}
 use Rattle.definitions.specs.RunsInTurn.{cellsInTurn}
 use Rattle.definitions.specs.ReadingSearch.{Query, valueAt, valueCount, rangeFits, readingsTried, endsIn, runFinds, firstFinding, searchVerdict, searchedBy}
 use Rattle.definitions.specs.ReadingSearch.{searchedAfter, searchAnswer, runsMade, searchCells}
@@ -38,8 +38,6 @@ use Rattle.agreement.specs.Meaning.{OwnAnswer}
 use Rattle.agreement.proofs.KnownEnds.{rule-end-nonzero}
 use Rattle.agreement.proofs.Shared.{rule-gives-own}
 use Rattle.answer.specs.declared.Answer.{Answer}
-use Rattle.answer.specs.Answers.{answerOf}
-use Rattle.run.specs.Promise.{Runs}
 use Rattle.reading_search.specs.Promise.{FindsReading}
 use Rattle.reading_search.proofs.Levels as Levels
 use Rattle.runs_in_turn.proofs.InTurn.{single-cells}

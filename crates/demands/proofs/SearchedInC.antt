@@ -12,7 +12,7 @@ use Rattle.definitions.specs.Operators.{residue, reduced}
 use Rattle.definitions.specs.Outcomes.{numberOutcome, endOutcome}
 use Rattle.definitions.specs.ReadingSearch.{Query, searchedOutcome}
 use Rattle.definitions.specs.declared.Searched.{Searched}
-use Rattle.definitions.specs.declared.Searched.the-variants.{Found, NoValue, Refused}
+use Rattle.definitions.specs.declared.Searched.the-variants.{Found, NoValue}
 use Rattle.operators.proofs.Residues.{residue-below, reduced-held}
 use Rattle.reading_search.proofs.Levels.{between-size}
 use Rattle.zifnora_c.specs.Codes.{codeNumber, codeValue}

@@ -1,6 +1,6 @@
 -- Ranges of signed numbers. A number below a size, on either side of 0, stands at a level in ℕ: the order, sums and differences are those
 -- of the levels, and so is how many values a range has.
-use mathlib.Core.Path.{_≡_, refl, sym, ap, _∙_}
+use mathlib.Core.Path.{_≡_, ap}
 use Prim.Native.Nat.{ℕ, zero, suc, _+_, _-_, _≤_, _<_}
 use native.Mathlib.Omega.{arith}
 use native.Mathlib.Decide.{decLt}

@@ -2,11 +2,11 @@
 use mathlib.Core.Path.{_≡_, refl, sym, _∙_}
 use Prim.Native.Nat.{ℕ, _≤_, _<_}
 use mathlib.Core.List.{List}
-use mathlib.Core.Bool.{Bool, true, false, _&&_, and-eq-true-iff}
+use mathlib.Core.Bool.{Bool, false, and-eq-true-iff}
 use lib.IntN.{ℤ}
 use lib.ListN.{length}
-use lib.Dec.{leb, ltb, eqb}
-use borrow.Author.Tests.{le-leb, lt-leb, leb-true, ltb-true, eqb-true}
+use lib.Dec.{ltb, eqb}
+use borrow.Author.Tests.{le-leb, ltb-true, eqb-true}
 use Rattle.definitions.specs.Sizes.{mostValues}
 use Rattle.definitions.specs.Numbers.{badReadings, badAllowance, badRange}
 use Rattle.definitions.specs.Ranges.{within}

@@ -1,5 +1,5 @@
 -- Laws of the runs of a search: one value tried, and the loop over the values.
-use mathlib.Core.Path.{_≡_, refl, sym, ap, _∙_}
+use mathlib.Core.Path.{_≡_, refl, sym, _∙_}
 use Prim.Native.Nat.{ℕ, suc, _-_, _≤_, _<_}
 use mathlib.Core.List.{List}
 use mathlib.Core.Bool.{Bool, true, false, true≢false}
@@ -17,7 +17,7 @@ use lib.Dec.{eqb}
 use Rattle.definitions.specs.Sizes.{mostValues}
 use Rattle.definitions.specs.Layouts.{readings}
 use Rattle.definitions.specs.Rule as Rule
-use Rattle.definitions.specs.Run.{allowancesFit, ruleEnd, ruleCells}
+use Rattle.definitions.specs.Run.{ruleCells}
 use Rattle.definitions.specs.RunsInTurn.{cellsInTurn}
 use Rattle.definitions.specs.ReadingSearch.{Query, valueAt, valueCount, readingsTried, endsIn, runFinds, firstFinding, searchedBy, runsMade}
 use Rattle.definitions.specs.declared.Searched.the-variants.{Found, NoValue}

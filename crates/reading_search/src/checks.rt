@@ -40,10 +40,7 @@ pub(crate) fn check_search(
 ) -> Verdict
     ensures { λ v. ⌜ v ≡ searchChecks (now (file .entry)) given position lowest highest nesting «cells_allowed» lent ⌝ }
 {
-    let counted = required(
-        given == wide(layout::readings(file)),
-        numbers::BAD_READINGS,
-    );
+    let counted = required(given == wide(layout::readings(file)), numbers::BAD_READINGS);
     let within = required(
         allowed(nesting, cells_allowed, lent),
         numbers::BAD_ALLOWANCE,

@@ -3,7 +3,6 @@ ghost use mathlib.Core.Path.{_≡_};
 ghost use Rattle.definitions.specs.ReadingSearch.{query, endsIn};
 ghost use Rattle.run.specs.States.{valueOf, endingOf};
 ghost use Rattle.definitions.specs.Rule.{value};
-ghost use Rattle.run.specs.NodeTable.{Readable};
 ghost use Rattle.reading_search.specs.Search.{Triable, Tried, Searchable, Searches};
 use crate::values::value_at;
 use crate::values::value_count;

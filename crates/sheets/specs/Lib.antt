@@ -7,6 +7,7 @@ pub mod Orders
 pub mod TypedSheets
 pub mod EqualCalls
 pub mod ClosedReadings
+pub mod Searches
 pub mod Remembering
 pub mod GivingBack
 pub mod ActualVisits

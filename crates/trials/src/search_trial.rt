@@ -118,13 +118,7 @@ fn larger(a: u16, b: u16) -> u16 {
 
 // Makes at most `count` single runs in turn in the same new cells, from the lowest value on, to the first that gives the number. The
 // readings are those of the last of them then.
-fn ran_in_turn(
-    file: &Space,
-    readings: &mut Readings,
-    q: Query,
-    count: u32,
-    g: Given,
-) -> RanInTurn {
+fn ran_in_turn(file: &Space, readings: &mut Readings, q: Query, count: u32, g: Given) -> RanInTurn {
     let mut cells = filled();
     let mut most: u16 = 0;
     let mut runs: u32 = 0;

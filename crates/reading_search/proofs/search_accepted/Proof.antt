@@ -1,9 +1,7 @@
 -- `reading_search::search_accepted` meets its contract: the refusals in their order, or the search.
-use mathlib.Core.Path.{refl, _∙_}
+use mathlib.Core.Path.{refl}
 use mir.Syntax.{w32}
 use mir.ValLaws.{toZ-ofZ}
-use Rattle.operators.proofs.Answers.{read-both}
-use Rattle.reading_search.specs.Promise.{searchChecks}
 use Rattle.reading_search.proofs.Refusals.{searchable, checks-refused, range-searched}
 use borrow.Author.Needs.{needs}
 use Rattle.reading_search.proofs.search_accepted.Statement.{statement}

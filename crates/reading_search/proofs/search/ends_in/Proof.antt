@@ -1,5 +1,4 @@
 -- `reading_search::search::ends_in` meets its contract, case by case.
-use mathlib.Core.Path.{_∙_}
 use mir.Syntax.{w32}
 use mir.ValLaws.{toZ-ofZ}
 use Rattle.reading_search.proofs.Searching.{value-wanted, end-unwanted}

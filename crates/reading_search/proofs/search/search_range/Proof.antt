@@ -34,7 +34,9 @@ loop-holds c =
     let pre = c .before .before .before .before .pre in
     let set-readings = c .before .set-readings in
     let counted = c .value-count .ensures ∙ read-both w32 _ _ (fits .lowest) (fits .highest) valueCount in
-    rw (toZ-ofZ w32 _ (fits .lowest), toZ-ofZ w32 _ (fits .highest), toZ-ofZ w32 _ (fits .wanted)) (searching-begins pre (still-readable (pre .readable) (set-readings .ensures)) (set-held _ (set-readings .ensures) (pre .given)) counted)
+    let readable = still-readable (pre .readable) (set-readings .ensures) in
+    let held = set-held _ (set-readings .ensures) (pre .given) in
+    rw (toZ-ofZ w32 _ (fits .lowest), toZ-ofZ w32 _ (fits .highest), toZ-ofZ w32 _ (fits .wanted)) (searching-begins pre readable held counted)
 
 sub-i : tie.Need-sub-i Inv-loop μ-loop
 sub-i c = omega (arith, c .before .loop .inv .reached, c .before .before .value-count .ensures)

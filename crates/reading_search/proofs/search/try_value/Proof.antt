@@ -1,7 +1,6 @@
 -- `reading_search::search::try_value` meets its contract: the reading is set, and the run is that of the table.
 use mir.Syntax.{w32}
 use mir.ValLaws.{toZ-ofZ}
-use mathlib.Core.Path.{_∙_}
 use native.Mathlib.Omega.{arith}
 use Rattle.definitions.specs.declared.Layout.the-variants.{Translation}
 use Rattle.accepted.proofs.Head.{readings-limit}
