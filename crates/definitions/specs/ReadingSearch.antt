@@ -29,6 +29,7 @@ pub record Query : Type 0 where
   pub highest : ℤ
   pub wanted : ℤ
 
+-- the same, as the call takes it
 abbrev pub query : ℕ → ℤ → ℤ → ℤ → Query
 query position lowest highest wanted = record { position = position; lowest = lowest; highest = highest; wanted = wanted }
 

@@ -21,9 +21,9 @@ use Rattle.definitions.specs.declared.Searched.{Searched}
 use Rattle.definitions.specs.declared.Searched.the-variants as searched
 use Rattle.laws.proofs.Verdicts.{both-accepted, required}
 use Rattle.laws.proofs.Ranges.{within-by, within-below, within-above}
-use Rattle.run.specs.NodeTable.{FileRead, Readable}
+use Rattle.run.specs.NodeTable.{FileRead}
 use Rattle.reading_search.specs.Promise.{searchChecks, FindsReading}
-use Rattle.reading_search.specs.Search.{Searchable, Searches}
+use Rattle.reading_search.specs.Search.{SearchFits, Searches}
 
 -- the range
 module _ (b : List ℕ) (position : ℕ) (lowest highest : ℤ) {count : ℕ} (counted : count ≡ valueCount lowest highest) where
@@ -53,44 +53,41 @@ checks-verdict : (b : List ℕ) (rs : List ℤ) (q : Query) (nesting cellsAllowe
 unfolding searchVerdict searchChecks runVerdict _andThen_
 checks-verdict b rs q nesting cellsAllowed lent accepted = rw accepted refl
 
-module _ {b : List ℕ} {rs : List ℤ} {q : Query} {nesting cellsAllowed : ℕ} {before : List ℕ} where
-  -- what their acceptance says
-  pub searchable : {tab : List ℕ} {v : Verdict} → Readable b tab
-      → v ≡ searchChecks b (length rs) (q .position) (q .lowest) (q .highest) nesting cellsAllowed (length before) → v ≡ Accepted
-      → Searchable b tab rs q nesting cellsAllowed before
-  unfolding searchChecks rangeFits
-  searchable readable is accepting =
-      let all = both-accepted _ _ (sym is ∙ accepting) in
-      let two = both-accepted _ _ (all .0) in
-      let range = and-eq-true-iff _ _ .0 (required _ badRange 0 (all .1)) in
-      record {
-        readable = readable;
-        given = eqb-true (length rs) (readings b) (required _ badReadings 0 (two .0));
-        there = ltb-true (q .position) (readings b) (range .1);
-        few = within-by 1 mostValues (valueCount (q .lowest) (q .highest)) (range .0) .greatest;
-        fit = required _ badAllowance 0 (two .1);
-      }
+-- what their acceptance says
+pub search-fits : {b : List ℕ} {rs : List ℤ} {q : Query} {nesting cellsAllowed lent : ℕ} {v : Verdict}
+    → v ≡ searchChecks b (length rs) (q .position) (q .lowest) (q .highest) nesting cellsAllowed lent → v ≡ Accepted → SearchFits b rs q nesting cellsAllowed lent
+unfolding searchChecks rangeFits
+search-fits {b} {rs} {q} is accepting =
+    let all = both-accepted _ _ (sym is ∙ accepting) in
+    let two = both-accepted _ _ (all .0) in
+    let range = and-eq-true-iff _ _ .0 (required _ badRange 0 (all .1)) in
+    record {
+      given = eqb-true (length rs) (readings b) (required _ badReadings 0 (two .0));
+      there = ltb-true (q .position) (readings b) (range .1);
+      few = within-by 1 mostValues (valueCount (q .lowest) (q .highest)) (range .0) .greatest;
+      fit = required _ badAllowance 0 (two .1);
+    }
 
-  module _ {steps : ℕ} where
-    refused-by : {n p : ℕ} → searchVerdict b rs q nesting cellsAllowed (length before) ≡ Refused n p
-        → FindsReading b rs q steps nesting cellsAllowed before (searched.Refused n p) before
+module _ {b : List ℕ} {rs : List ℤ} {q : Query} {steps nesting cellsAllowed : ℕ} {before : List ℕ} where
+  refused-by : {n p : ℕ} → searchVerdict b rs q nesting cellsAllowed (length before) ≡ Refused n p
+      → FindsReading b rs q steps nesting cellsAllowed before (searched.Refused n p) before
+  unfolding searchAnswer searchCells searchedAfter bytesAfter
+  refused-by e = record { answer = rw e refl; cells = rw e refl }
+
+  pub file-refused : {v : Verdict} {tab : List ℕ} {n p : ℕ} → FileRead b v tab → v ≡ Refused n p
+      → FindsReading b rs q steps nesting cellsAllowed before (searched.Refused n p) before
+  unfolding searchVerdict runVerdict _andThen_
+  file-refused t e = refused-by (rw (← t .verdict, e) refl)
+
+  module _ {v : Verdict} (accepted : translationVerdict b ≡ Accepted)
+      (is : v ≡ searchChecks b (length rs) (q .position) (q .lowest) (q .highest) nesting cellsAllowed (length before)) where
+    pub checks-refused : {n p : ℕ} → v ≡ Refused n p → FindsReading b rs q steps nesting cellsAllowed before (searched.Refused n p) before
+    checks-refused e = refused-by (checks-verdict b rs q nesting cellsAllowed (length before) accepted ∙ sym is ∙ e)
+
+    -- the range was searched
+    pub range-searched : {r : Searched} {after : List ℕ} → v ≡ Accepted → Searches b rs q steps nesting cellsAllowed before r after
+        → FindsReading b rs q steps nesting cellsAllowed before r after
     unfolding searchAnswer searchCells searchedAfter bytesAfter
-    refused-by e = record { answer = rw e refl; cells = rw e refl }
-
-    pub file-refused : {v : Verdict} {tab : List ℕ} {n p : ℕ} → FileRead b v tab → v ≡ Refused n p
-        → FindsReading b rs q steps nesting cellsAllowed before (searched.Refused n p) before
-    unfolding searchVerdict runVerdict _andThen_
-    file-refused t e = refused-by (rw (← t .verdict, e) refl)
-
-    module _ {v : Verdict} (accepted : translationVerdict b ≡ Accepted)
-        (is : v ≡ searchChecks b (length rs) (q .position) (q .lowest) (q .highest) nesting cellsAllowed (length before)) where
-      pub checks-refused : {n p : ℕ} → v ≡ Refused n p → FindsReading b rs q steps nesting cellsAllowed before (searched.Refused n p) before
-      checks-refused e = refused-by (checks-verdict b rs q nesting cellsAllowed (length before) accepted ∙ sym is ∙ e)
-
-      -- the range was searched
-      pub range-searched : {r : Searched} {after : List ℕ} → v ≡ Accepted → Searches b rs q steps nesting cellsAllowed before r after
-          → FindsReading b rs q steps nesting cellsAllowed before r after
-      unfolding searchAnswer searchCells searchedAfter bytesAfter
-      range-searched accepting s =
-          let e : searchVerdict b rs q nesting cellsAllowed (length before) ≡ Accepted = checks-verdict b rs q nesting cellsAllowed (length before) accepted ∙ sym is ∙ accepting in
-          record { answer = s .answer ∙ rw e refl; cells = s .cells ∙ rw e refl }
+    range-searched accepting s =
+        let e : searchVerdict b rs q nesting cellsAllowed (length before) ≡ Accepted = checks-verdict b rs q nesting cellsAllowed (length before) accepted ∙ sym is ∙ accepting in
+        record { answer = s .answer ∙ rw e refl; cells = s .cells ∙ rw e refl }

@@ -34,7 +34,7 @@ use Rattle.run.specs.NodeTable.{readingSet, readingsHeld, Readable}
 use Rattle.run.specs.Promise.{RunsHeld}
 use Rattle.run.proofs.ReadingEntries.{one-readable, one-held}
 use Rattle.runs_in_turn.proofs.InTurn.{turn-kept, turn-cells}
-use Rattle.reading_search.specs.Search.{Triable, Tried, Searchable, Searches}
+use Rattle.reading_search.specs.Search.{Triable, Tried, SearchFits, Searches}
 use Rattle.reading_search.proofs.Levels.{value-size}
 
 -- a number as it is read back
@@ -42,10 +42,10 @@ pub read-fits : {x : ℤ} → SFits w32 x → SFits w32 (toZ w32 (ofZ w32 x))
 read-fits {x} f = rw (toZ-ofZ w32 x f) f
 
 -- how a run ended, case by case
-pub number-wanted : {v : Value} {z : ℤ} (wanted : ℤ) → v ≡ Number z → SFits w32 z → SFits w32 wanted
+pub number-wanted : {v : Value} {z wanted : ℤ} → v ≡ Number z → SFits w32 z → SFits w32 wanted
     → eqb (ofZ w32 z) (ofZ w32 wanted) ≡ endsIn wanted (Rule.value (valueOf v))
 unfolding endsIn valueOf
-number-wanted {z = z} wanted e f g = equal-bits w32 z wanted f g ∙ rw e refl
+number-wanted {z = z} {wanted} e f g = equal-bits w32 z wanted f g ∙ rw e refl
 
 pub constructor-unwanted : {v : Value} {k w : ℕ} (wanted : ℤ) → v ≡ Constructor k w → false ≡ endsIn wanted (Rule.value (valueOf v))
 unfolding endsIn valueOf
@@ -60,12 +60,12 @@ unfolding endsIn endingOf
 end-unwanted wanted e = rw e refl
 
 -- one value tried
-pub tried : {b tab : List ℕ} {position i : ℕ} {z : ℤ} (wanted : ℤ) {steps nesting cellsAllowed : ℕ} {before tab′ after : List ℕ} {end : State} {r : Bool}
+pub tried : {b tab : List ℕ} {position i : ℕ} {z wanted : ℤ} {steps nesting cellsAllowed : ℕ} {before tab′ after : List ℕ} {end : State} {r : Bool}
     → Triable b tab position nesting cellsAllowed before → SFits w32 z → i ≡ position → tab′ ≡ readingSet tab i z
     → RunsHeld b tab′ steps nesting cellsAllowed before end after → r ≡ endsIn wanted (endingOf (end .outcome))
     → Tried b tab position z wanted steps nesting cellsAllowed before r tab′ after
 unfolding ruleCells
-tried {b} {tab} {position} {z = z} wanted {tab′ = tab′} t f ei et run er =
+tried {b} {tab} {position} {z = z} {tab′ = tab′} t f ei et run er =
     let set-is : tab′ ≡ readingSet tab position z = et ∙ rw ei refl in
     let held : readingsHeld b tab′ ≡ set (readingsHeld b tab) position z = rw set-is (one-held position z (t .readable) (t .there) f) in
     record {
@@ -82,21 +82,23 @@ tried-length rs q i = length-set rs (q .position) (valueAt (q .lowest) i)
 -- the loop over the values, with those before the last `left` tried
 pub record Searching (b tab : List ℕ) (rs : List ℤ) (q : Query) (steps nesting cellsAllowed : ℕ) (cells₀ cells : RefT (List ℕ)) (left : ℕ) : Type 0 where
   pub reached : left ≤ valueCount (q .lowest) (q .highest)
-  pub able : Searchable b tab rs q nesting cellsAllowed (cells₀ .now)
+  pub readable : Readable b tab
+  pub fits : SearchFits b rs q nesting cellsAllowed (length (cells₀ .now))
   pub others : (z : ℤ) → set (readingsHeld b tab) (q .position) z ≡ set rs (q .position) z
   pub ran : cells .now ≡ cellsInTurn b (readingsTried rs q) steps nesting cellsAllowed (valueCount (q .lowest) (q .highest) - left) (cells₀ .now)
   pub unfound : (i : ℕ) → i < valueCount (q .lowest) (q .highest) - left → runFinds b rs q steps nesting cellsAllowed i ≡ false
   pub stays : cells .ptr ≡ cells₀ .ptr
 
 module _ {b : List ℕ} {rs : List ℤ} {q : Query} {steps nesting cellsAllowed : ℕ} {cells₀ : RefT (List ℕ)} where
-  pub searching-begins : {tab tab′ : List ℕ} {count : ℕ} → Searchable b tab rs q nesting cellsAllowed (cells₀ .now) → Readable b tab′ → readingsHeld b tab′ ≡ rs
-      → count ≡ valueCount (q .lowest) (q .highest) → Searching b tab′ rs q steps nesting cellsAllowed cells₀ cells₀ count
+  pub searching-begins : {tab : List ℕ} {count : ℕ} → SearchFits b rs q nesting cellsAllowed (length (cells₀ .now)) → Readable b tab → readingsHeld b tab ≡ rs
+      → count ≡ valueCount (q .lowest) (q .highest) → Searching b tab rs q steps nesting cellsAllowed cells₀ cells₀ count
   unfolding cellsInTurn
-  searching-begins able readable held counted =
+  searching-begins fits readable held counted =
       let none : valueCount (q .lowest) (q .highest) - valueCount (q .lowest) (q .highest) ≡ 0 = omega arith in
       record {
         reached = omega (arith, counted);
-        able = record { readable = readable; given = able .given; there = able .there; few = able .few; fit = able .fit };
+        readable = readable;
+        fits = fits;
         others = λ z. rw held refl;
         ran = rw (counted, none) refl;
         unfound = λ i h. absurd (omega (arith, h, counted));
@@ -110,16 +112,16 @@ module _ {b : List ℕ} {rs : List ℤ} {q : Query} {steps nesting cellsAllowed 
     pub triable : Triable b tab (q .position) nesting cellsAllowed (cells .now)
     triable =
         record {
-          readable = w .able .readable;
-          there = w .able .there;
-          fit = rw (w .ran, turn-kept b (readingsTried rs q) steps nesting cellsAllowed (cells₀ .now) (count - left)) (w .able .fit);
+          readable = w .readable;
+          there = w .fits .there;
+          fit = rw (w .ran, turn-kept b (readingsTried rs q) steps nesting cellsAllowed (cells₀ .now) (count - left)) (w .fits .fit);
         }
 
     -- the value of the next run is one of the range
     pub value-fits : SFits w32 (q .lowest) → SFits w32 (q .highest) → {i : ℕ} → 0 < left → i ≡ count - left → (i ≤ mostValues) × SFits w32 (valueAt (q .lowest) i)
     value-fits f g {i} more next =
         let inside : i < count = omega (arith, more, next, w .reached) in
-        (omega (arith, inside, w .able .few), record { sfits = value-size 2147483648 (q .lowest) (q .highest) (f .sfits) (g .sfits) i inside })
+        (omega (arith, inside, w .fits .few), record { sfits = value-size 2147483648 (q .lowest) (q .highest) (f .sfits) (g .sfits) i inside })
 
     module _ {i : ℕ} {z : ℤ} (more : 0 < left) (next : i ≡ count - left) (value : z ≡ valueAt (q .lowest) i) {r : Bool} {tab′ after : List ℕ}
         (t : Tried b tab (q .position) z (q .wanted) steps nesting cellsAllowed (cells .now) r tab′ after) where
@@ -136,9 +138,9 @@ module _ {b : List ℕ} {rs : List ℤ} {q : Query} {steps nesting cellsAllowed 
 
       one-more : after ≡ cellsInTurn b (readingsTried rs q) steps nesting cellsAllowed (suc i) (cells₀ .now)
       one-more =
-          let asked : length (readingsTried rs q i) ≡ readings b = tried-length rs q i ∙ w .able .given in
+          let asked : length (readingsTried rs q i) ≡ readings b = tried-length rs q i ∙ w .fits .given in
           t .cells ∙ rw (tried-is, w .ran, ← next) refl
-          ∙ sym (turn-cells b (readingsTried rs q) steps nesting cellsAllowed (cells₀ .now) (w .able .readable .accepted) (w .able .fit) i asked)
+          ∙ sym (turn-cells b (readingsTried rs q) steps nesting cellsAllowed (cells₀ .now) (w .readable .accepted) (w .fits .fit) i asked)
 
       -- it is the one that is looked for
       pub value-found : r ≡ true → Searches b rs q steps nesting cellsAllowed (cells₀ .now) (Found z) after
@@ -163,7 +165,8 @@ module _ {b : List ℕ} {rs : List ℤ} {q : Query} {steps nesting cellsAllowed 
           let n : count - (left - 1) ≡ suc i = omega (arith, more, next, w .reached) in
           record {
             reached = omega (arith, w .reached);
-            able = record { readable = t .readable; given = w .able .given; there = w .able .there; few = w .able .few; fit = w .able .fit };
+            readable = t .readable;
+            fits = w .fits;
             others = λ y. rw (t .held) (set-set (readingsHeld b tab) (q .position) z y ∙ w .others y);
             ran = e ∙ one-more ∙ rw n refl;
             unfound = λ j l. below-suc (λ m. runFinds b rs q steps nesting cellsAllowed m ≡ false) i

@@ -26,13 +26,12 @@ pub record Tried (b tab : List ℕ) (position : ℕ) (z wanted : ℤ) (steps nes
   pub found : r ≡ endsIn wanted (ruleEnd b (set (readingsHeld b tab) position z) steps nesting cellsAllowed .ending)
   pub cells : after ≡ ruleCells b (set (readingsHeld b tab) position z) steps nesting cellsAllowed before
 
--- readings and a range that may be searched
-pub record Searchable (b tab : List ℕ) (rs : List ℤ) (q : Query) (nesting cellsAllowed : ℕ) (before : List ℕ) : Type 0 where
-  pub readable : Readable b tab
+-- readings, a range and allowances for which a search of an accepted file is not refused; `lent` is how many cell bytes are lent
+pub record SearchFits (b : List ℕ) (rs : List ℤ) (q : Query) (nesting cellsAllowed lent : ℕ) : Type 0 where
   pub given : length rs ≡ readings b
   pub there : q .position < readings b
   pub few : valueCount (q .lowest) (q .highest) ≤ mostValues
-  pub fit : allowancesFit nesting cellsAllowed (length before) ≡ true
+  pub fit : allowancesFit nesting cellsAllowed lent ≡ true
 
 -- the search of an accepted file that is not refused
 pub record Searches (b : List ℕ) (rs : List ℤ) (q : Query) (steps nesting cellsAllowed : ℕ) (before : List ℕ) (r : Searched) (after : List ℕ) : Type 0 where

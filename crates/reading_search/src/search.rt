@@ -1,9 +1,11 @@
 // The runs of a search, from the lowest value on.
 ghost use mathlib.Core.Path.{_≡_};
+ghost use lib.ListN.{length};
 ghost use Rattle.definitions.specs.ReadingSearch.{query, endsIn};
 ghost use Rattle.run.specs.States.{valueOf, endingOf};
 ghost use Rattle.definitions.specs.Rule.{value};
-ghost use Rattle.reading_search.specs.Search.{Triable, Tried, Searchable, Searches};
+ghost use Rattle.run.specs.NodeTable.{Readable};
+ghost use Rattle.reading_search.specs.Search.{Triable, Tried, SearchFits, Searches};
 use crate::values::value_at;
 use crate::values::value_count;
 use definitions::Searched;
@@ -75,7 +77,8 @@ pub(crate) fn search_range(
     cells_allowed: u32,
     cells: &mut &mut [u8],
 ) -> Searched
-    requires { ⌜ Searchable (now file) (now table) (now readings) (query position lowest highest wanted) nesting «cells_allowed» (now (now cells)) ⌝ }
+    requires { ⌜ Readable (now file) (now table)
+        × SearchFits (now file) (now readings) (query position lowest highest wanted) nesting «cells_allowed» (length (now (now cells))) ⌝ }
     ensures { λ r. ⌜ Searches (now (file .entry)) (now (readings .entry)) (query position lowest highest wanted) steps nesting «cells_allowed» (now (now (cells .entry))) r
         (now (now (cells .exit)))
         × (now (cells .exit) .ptr ≡ now (cells .entry) .ptr) ⌝ }

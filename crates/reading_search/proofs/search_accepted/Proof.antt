@@ -2,7 +2,7 @@
 use mathlib.Core.Path.{refl}
 use mir.Syntax.{w32}
 use mir.ValLaws.{toZ-ofZ}
-use Rattle.reading_search.proofs.Refusals.{searchable, checks-refused, range-searched}
+use Rattle.reading_search.proofs.Refusals.{search-fits, checks-refused, range-searched}
 use borrow.Author.Needs.{needs}
 use Rattle.reading_search.proofs.search_accepted.Statement.{statement}
 use Rattle.reading_search.proofs.search_accepted.Tie as tie
@@ -22,7 +22,8 @@ search-range-requires c κs =
     let check-search = c .before .before .before .before .check-search in
     let pre = c .before .before .before .before .before .before .pre in
     let checks = rw (toZ-ofZ w32 _ (fits .lowest), toZ-ofZ w32 _ (fits .highest)) at (check-search .ensures) in
-    rw (toZ-ofZ w32 _ (fits .lowest), toZ-ofZ w32 _ (fits .highest), toZ-ofZ w32 _ (fits .wanted)) (searchable pre checks (c .before .before .enum-told .given .1))
+    let search = search-fits checks (c .before .before .enum-told .given .1) in
+    rw (toZ-ofZ w32 _ (fits .lowest), toZ-ofZ w32 _ (fits .highest), toZ-ofZ w32 _ (fits .wanted)) (pre, search)
 
 returns : tie.Need-returns
 returns c =

@@ -13,7 +13,7 @@ enum-told c = search needs
 returns : tie.Need-returns
 returns c =
     let fits = c .before .before .before .fits in
-    number-wanted _ (c .before .v .given .1) (record { sfits = search needs }) (fits .wanted)
+    number-wanted (c .before .v .given .1) (record { sfits = search needs }) (fits .wanted)
 
 returns-2 : tie.Need-returns-2
 returns-2 c = constructor-unwanted _ (c .enum-told .given .1)

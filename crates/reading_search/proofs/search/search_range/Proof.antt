@@ -23,7 +23,7 @@ abbrev μ-loop : tie.MeasureT-loop
 set-readings-requires : tie.Need-set-readings-requires Inv-loop μ-loop
 set-readings-requires c κs =
     let pre = c .before .before .pre in
-    (pre .readable .room, readings-room _ (c .before .before .args .readings .now) (pre .readable .accepted) (pre .given))
+    (pre .0 .room, readings-room _ (c .before .before .args .readings .now) (pre .0 .accepted) (pre .1 .given))
 
 value-count-requires : tie.Need-value-count-requires Inv-loop μ-loop
 value-count-requires c κs = search needs
@@ -34,9 +34,9 @@ loop-holds c =
     let pre = c .before .before .before .before .pre in
     let set-readings = c .before .set-readings in
     let counted = c .value-count .ensures ∙ read-both w32 _ _ (fits .lowest) (fits .highest) valueCount in
-    let readable = still-readable (pre .readable) (set-readings .ensures) in
-    let held = set-held _ (set-readings .ensures) (pre .given) in
-    rw (toZ-ofZ w32 _ (fits .lowest), toZ-ofZ w32 _ (fits .highest), toZ-ofZ w32 _ (fits .wanted)) (searching-begins pre readable held counted)
+    let readable = still-readable (pre .0) (set-readings .ensures) in
+    let held = set-held _ (set-readings .ensures) (pre .1 .given) in
+    rw (toZ-ofZ w32 _ (fits .lowest), toZ-ofZ w32 _ (fits .highest), toZ-ofZ w32 _ (fits .wanted)) (searching-begins (pre .1) readable held counted)
 
 sub-i : tie.Need-sub-i Inv-loop μ-loop
 sub-i c = omega (arith, c .before .loop .inv .reached, c .before .before .value-count .ensures)

@@ -37,7 +37,7 @@ returns c =
     let run-held = c .before .run-held in
     let put = rw (toZ-ofZ w32 _ (fits .z)) at (set-reading .ensures) in
     let found = rw (toZ-ofZ w32 _ (fits .wanted)) at (c .ends-in .ensures) in
-    (tried _ pre (fits .z) (wide32 .ensures .0) put (run-held .ensures .0) found, run-held .ensures .1)
+    (tried pre (fits .z) (wide32 .ensures .0) put (run-held .ensures .0) found, run-held .ensures .1)
 
 pub try-value-spec : {M : Type 1} → statement M
 try-value-spec =
