@@ -5,7 +5,8 @@ use mathlib.Core.List.{List}
 use mathlib.Core.Bool.{Bool, true, false, cond}
 use lib.IntN.{ℤ}
 use Rattle.definitions.specs.Ranges.{within}
-use Rattle.definitions.specs.Numbers.{truncated, oversize, badRecord, badCount, outOfRange, badTree, badArguments, shortOutput, badReadings, badAllowance, closedReading, illTyped, badRange, isRefusal}
+use Rattle.definitions.specs.Numbers.{truncated, oversize, badRecord, badCount, outOfRange, badTree, badArguments, shortOutput, badReadings, badAllowance}
+use Rattle.definitions.specs.Numbers.{closedReading, illTyped, badRange, isRefusal}
 use Rattle.definitions.specs.Verdicts.{_andThen_, require, firstOf}
 use Rattle.definitions.specs.Layouts.{isTyped, due, nodes}
 use Rattle.definitions.specs.Shape.{shapeAt, shape, fileShape}

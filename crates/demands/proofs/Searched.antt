@@ -275,7 +275,8 @@ module _ (b : List ℕ) (rs : List ℤ) (q : Query) (steps nesting cellsAllowed 
           refused-by verdict (ltb first count) _ n p (then-accepted _ _ passes ∙ rw (good-range fine) refl) (sym (search .answer) ∙ e)
 
 -- demand 3: a number that was found is the sheet's own
-pub found-own : (sheet : List ℕ) {n : ℕ} {out′ : List ℕ} → Handed sheet n out′ → (rs : List ℤ) (q : Query) (steps nesting cellsAllowed : ℕ) (before : List ℕ) (z : ℤ) (after : List ℕ)
+pub found-own : (sheet : List ℕ) {n : ℕ} {out′ : List ℕ} → Handed sheet n out′
+    → (rs : List ℤ) (q : Query) (steps nesting cellsAllowed : ℕ) (before : List ℕ) (z : ℤ) (after : List ℕ)
     → FindsReading (take n out′) rs q steps nesting cellsAllowed before (Found z) after → OwnAnswer sheet (set rs (q .position) z) (numberOutcome (q .wanted))
 unfolding isAnswer numberOutcome
 found-own sheet h rs q steps nesting cellsAllowed before z after search =

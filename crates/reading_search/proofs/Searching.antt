@@ -69,7 +69,7 @@ tried {b} {tab} {position} {z = z} {tab′ = tab′} t f ei et run er =
     let set-is : tab′ ≡ readingSet tab position z = et ∙ rw ei refl in
     let held : readingsHeld b tab′ ≡ set (readingsHeld b tab) position z = rw set-is (one-held position z (t .readable) (t .there) f) in
     record {
-      readable = rw set-is (one-readable position z (t .readable) (t .there));
+      readable = rw set-is (one-readable position z (t .readable));
       held = held;
       found = er ∙ rw (run .ends .ending, held) refl;
       cells = run .ends .bytes ∙ rw held refl;

@@ -25,7 +25,7 @@ use Rattle.accepted.proofs.Checks.{translation-shape}
 use Rattle.lent_rule.specs.Standing.{Narrow, NarrowReadings}
 use Rattle.lent_rule.proofs.Narrow.{narrow-read}
 use Rattle.operators.proofs.Residues.{residue-below}
-use Rattle.run.specs.NodeTable.{tableEntries, readingIn, readingSet, readingsHeld, NodeTable, ReadingsIn, ReadingsSet, Readable}
+use Rattle.run.specs.NodeTable.{tableEntries, readingIn, readingSet, readingsHeld, ReadingsIn, ReadingsSet, Readable}
 use Rattle.run.specs.States.{Equipped}
 use Rattle.run.proofs.Entries.{bits-back}
 
@@ -41,46 +41,42 @@ pub setting-begins : (tab : List ℕ) (rs : List ℤ) → length tab ≡ tableEn
 setting-begins tab rs e h =
     record { reached = omega arith; narrow = h; room = e; kept = λ k l. refl; set = λ j l. absurd (not-suc-le-zero l) }
 
--- a reading that is set, and the others beside it
-module _ (tab : List ℕ) (i : ℕ) (z : ℤ) (room : length tab ≡ tableEntries) (h : i < mostReadings) where
-  pub set-read : SFits w32 z → readingIn (readingSet tab i z) i ≡ z
-  set-read f = rw (getD-set-same tab (mostNodes + i) (residue w32 z) 0 (omega (arith, room, h)), mod-eq-of-lt (residue-below w32 z)) (bits-back z f)
+-- a reading that is set, beside the other entries
+module _ (tab : List ℕ) (i : ℕ) (z : ℤ) where
+  set-read : length tab ≡ tableEntries → i < mostReadings → SFits w32 z → readingIn (readingSet tab i z) i ≡ z
+  set-read room h f = rw (getD-set-same tab (mostNodes + i) (residue w32 z) 0 (omega (arith, room, h)), mod-eq-of-lt (residue-below w32 z)) (bits-back z f)
 
-  pub set-beside : (j : ℕ) → (j ≡ i → ⊥) → readingIn (readingSet tab i z) j ≡ readingIn tab j
+  set-beside : (j : ℕ) → (j ≡ i → ⊥) → readingIn (readingSet tab i z) j ≡ readingIn tab j
   set-beside j d = ap (λ v. toZ w32 (v % 4294967296)) (getD-set-other tab (mostNodes + i) (mostNodes + j) (residue w32 z) 0 (λ q. d (omega (arith, q))))
 
-  pub set-nodes : (k : ℕ) → k < mostNodes → getD (readingSet tab i z) k 0 ≡ getD tab k 0
+  set-nodes : (k : ℕ) → k < mostNodes → getD (readingSet tab i z) k 0 ≡ getD tab k 0
   set-nodes k l = getD-set-other tab (mostNodes + i) k (residue w32 z) 0 (λ q. omega (arith, q, l))
-
-  set-room : length (readingSet tab i z) ≡ tableEntries
-  set-room = length-set tab (mostNodes + i) (residue w32 z) ∙ room
 
 module _ (tab : List ℕ) (rs : List ℤ) (tab′ : List ℕ) (i : ℕ) (w : SettingReadings tab rs tab′ i) where
   pub setting-goes-on : (z : ℤ) → i < length rs → SFits w32 z → z ≡ getD rs i (pos 0) → SettingReadings tab rs (readingSet tab′ i z) (i + 1)
   setting-goes-on z h f e =
-      let l : i < mostReadings = omega (arith, h, w .narrow) in
       record {
         reached = omega (arith, h);
         narrow = w .narrow;
-        room = set-room tab′ i z (w .room) l;
-        kept = λ k b. set-nodes tab′ i z (w .room) l k b ∙ w .kept k b;
+        room = length-set tab′ (mostNodes + i) (residue w32 z) ∙ w .room;
+        kept = λ k b. set-nodes tab′ i z k b ∙ w .kept k b;
         set = λ j b.
             below-suc (λ m. readingIn (readingSet tab′ i z) m ≡ getD rs m (pos 0)) i
-            (λ m c. set-beside tab′ i z (w .room) l m (λ q. omega (arith, q, c)) ∙ w .set m c)
-            (set-read tab′ i z (w .room) l f ∙ e) j (rw (add-one i) at b);
+            (λ m c. set-beside tab′ i z m (λ q. omega (arith, q, c)) ∙ w .set m c)
+            (set-read tab′ i z (w .room) (omega (arith, h, w .narrow)) f ∙ e) j (rw (add-one i) at b);
       }
 
   pub setting-ends : length rs ≤ i → ReadingsSet tab rs tab′
   setting-ends h = record { room = w .room; kept = w .kept; set = λ j l. w .set j (omega arith) }
 
--- a table that holds the nodes of a translation holds them beside the readings too
-pub nodes-kept : (b : List ℕ) (rs : List ℤ) (tab tab′ : List ℕ) → Readable b tab → ReadingsSet tab rs tab′ → NodeTable b tab′
-nodes-kept b rs tab tab′ r s =
+-- a table that keeps the nodes of another holds the same translation
+kept-readable : {b tab tab′ : List ℕ} → Readable b tab → length tab′ ≡ tableEntries → ((k : ℕ) → k < mostNodes → getD tab′ k 0 ≡ getD tab k 0) → Readable b tab′
+kept-readable {b} r room kept =
     let n = nodes-limit Translation b (translation-shape b (r .accepted)) in
-    record { entry = λ k h. rw (s .kept k (omega arith)) (r .table .entry k h) }
+    record { accepted = r .accepted; room = room; table = record { entry = λ k h. rw (kept k (omega (arith, h, n))) (r .table .entry k h) } }
 
 pub still-readable : {b : List ℕ} {rs : List ℤ} {tab tab′ : List ℕ} → Readable b tab → ReadingsSet tab rs tab′ → Readable b tab′
-still-readable r s = record { accepted = r .accepted; room = s .room; table = nodes-kept _ _ _ _ r s }
+still-readable r s = kept-readable r (s .room) (s .kept)
 
 -- the readings that a table holds: it holds them, they have 32 bits, and it is equipped with them
 pub held-in : (b tab : List ℕ) → ReadingsIn b (readingsHeld b tab) tab
@@ -114,18 +110,12 @@ set-held b {rs} {tab′ = tab′} s e =
     ext-getD (pos 0) _ rs (n ∙ sym e) (λ i h. let l : i < readings b = rw n at h in listed-at (readings b) (readingIn tab′) (pos 0) i l ∙ s .set i (rw e l))
 
 -- one more reading set among them
+pub one-readable : {b tab : List ℕ} (i : ℕ) (z : ℤ) → Readable b tab → Readable b (readingSet tab i z)
+one-readable {tab = tab} i z r = kept-readable r (length-set tab (mostNodes + i) (residue w32 z) ∙ r .room) (set-nodes tab i z)
+
 module _ {b tab : List ℕ} (i : ℕ) (z : ℤ) (r : Readable b tab) (h : i < readings b) where
   asked : i < mostReadings
   asked = omega (arith, h, readings-limit Translation b (translation-shape b (r .accepted)))
-
-  pub one-readable : Readable b (readingSet tab i z)
-  one-readable =
-      let n = nodes-limit Translation b (translation-shape b (r .accepted)) in
-      record {
-        accepted = r .accepted;
-        room = set-room tab i z (r .room) asked;
-        table = record { entry = λ k l. rw (set-nodes tab i z (r .room) asked k (omega (arith, l, n))) (r .table .entry k l) };
-      }
 
   pub one-held : SFits w32 z → readingsHeld b (readingSet tab i z) ≡ set (readingsHeld b tab) i z
   unfolding readingsHeld
@@ -140,7 +130,7 @@ module _ {b tab : List ℕ} (i : ℕ) (z : ℤ) (r : Readable b tab) (h : i < re
           listed-at (readings b) (readingIn (readingSet tab i z)) (pos 0) j l
           ∙ rw e (set-read tab i z (r .room) asked f ∙ sym (getD-set-same (listed (readings b) (readingIn tab)) i z (pos 0) (rw n h)))
       by j l (no d) =
-          listed-at (readings b) (readingIn (readingSet tab i z)) (pos 0) j l ∙ set-beside tab i z (r .room) asked j d
+          listed-at (readings b) (readingIn (readingSet tab i z)) (pos 0) j l ∙ set-beside tab i z j d
           ∙ sym (getD-set-other (listed (readings b) (readingIn tab)) i j z (pos 0) d ∙ listed-at (readings b) (readingIn tab) (pos 0) j l)
 
 -- as many readings as the file asks for have room

@@ -23,7 +23,7 @@ run-held-requires : tie.Need-run-held-requires
 run-held-requires c κs =
     let wide32 = c .before .before .before .wide32 in
     let pre = c .before .before .before .before .before .before .pre in
-    (rw (c .before .before .set-reading .ensures, wide32 .ensures .0) (one-readable _ _ (pre .readable) (pre .there)), pre .fit)
+    (rw (c .before .before .set-reading .ensures, wide32 .ensures .0) (one-readable _ _ (pre .readable)), pre .fit)
 
 ends-in-requires : tie.Need-ends-in-requires
 ends-in-requires c κs = search needs
