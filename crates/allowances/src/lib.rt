@@ -1,4 +1,6 @@
 // The allowances crate: whether the allowances of a run are within their ceilings (document 01, "Allowances").
+#![tactic(auto)]
+
 ghost use Rattle.std.specs.Prelude.{◌≡◌};
 ghost use Rattle.definitions.specs.Run.{allowances_fit};
 

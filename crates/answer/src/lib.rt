@@ -1,4 +1,6 @@
 // The answer of a run, and its record of kind 64.
+#![tactic(auto)]
+
 ghost use Rattle.std.specs.Prelude.{◌≡◌};
 ghost use Rattle.std.specs.Int.{w32};
 ghost use Rattle.definitions.specs.Operators.{residue};
@@ -11,7 +13,7 @@ use file_fields::writing::{put_word, put_word32};
 use operators::bits::bits_of;
 
 // How a run ends: a number, a constructor with node and context, a stop or a fault, or a refusal.
-#[derive(Drop)]
+#[derive(Clone, Copy)]
 pub enum Outcome {
     Number(i32),
     Constructor { tag: u16, node: u16, context: u16 },
@@ -20,7 +22,7 @@ pub enum Outcome {
 }
 
 // The outcome, with the steps taken and the most cells alive together.
-#[derive(Drop)]
+#[derive(Clone, Copy)]
 pub struct Answer {
     pub outcome: Outcome,
     pub steps: u32,

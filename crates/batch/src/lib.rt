@@ -1,4 +1,6 @@
 // The run of a translation on several rows of readings in one call (document 02, request 1).
+#![tactic(auto)]
+
 ghost use Rattle.std.specs.Prelude.{◌≡◌};
 ghost use Rattle.run.specs.NodeTable.{Readable};
 ghost use Rattle.batch.specs.Promise.{RunsRows};

@@ -1,4 +1,6 @@
 // The labels of a sheet's calls, and how many labels each function has (document 01, "Translation"; document 02, request 4).
+#![tactic(auto)]
+
 ghost use Rattle.std.specs.Prelude.{◌+◌};
 ghost use Rattle.definitions.specs.Layouts.{nodes};
 ghost use Rattle.call_labels.specs.Tables.{Labels, Counts, Classed, CallToLabel, LabelledOne, LabelAt};

@@ -1,4 +1,6 @@
 // The canonical form of a sheet: a sheet's bytes in, the bytes of its canonical form out (document 02, request 13).
+#![tactic(auto)]
+
 ghost use Rattle.tree_classes.specs.Classes.{EndedSheet};
 ghost use Rattle.canonical_writer.specs.Promise.{WritesCanonical};
 

@@ -10,7 +10,7 @@ use file_fields::writing::put_word;
 use widths::wide;
 
 // What a listing answers: how many labels it has, or the refusal's number and place.
-#[derive(Drop)]
+#[derive(Clone, Copy)]
 pub enum Listed {
     Count(usize),
     Refused { number: u16, place: usize },

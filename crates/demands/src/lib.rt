@@ -1,1 +1,2 @@
 // The owner's three demands over what the calls promise: proofs/Demands.antt.
+#![tactic(auto)]

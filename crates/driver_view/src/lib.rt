@@ -1,4 +1,6 @@
 // The driver's view of an answer record (document 02, request 10): the number, or nothing.
+#![tactic(auto)]
+
 ghost use Rattle.std.specs.Prelude.{◌≡◌, ◌∷◌};
 ghost use Rattle.std.proofs.lemmas.List.Edits.{sets};
 ghost use Rattle.definitions.specs.Bytes.{words32, bytes_of};

@@ -1,4 +1,6 @@
 // The table of kinds: least, step and greatest length, by kind. A number that is no kind allows no length.
+#![tactic(auto)]
+
 ghost use Rattle.std.specs.Prelude.{◌≡◌};
 ghost use Rattle.definitions.specs.Kinds.{row_of, allows};
 ghost use Rattle.file_kinds.specs.Rows.{RowsOf};

@@ -1,4 +1,6 @@
 // The file_runs crate: the runs of nodes that functions own (document 01, "Files"): where each ends, and which function owns a node.
+#![tactic(auto)]
+
 ghost use Rattle.file_records.specs.Index.{Opened};
 ghost use Rattle.file_runs.specs.Runs.{RunEndTable, Owners, owner_after};
 ghost use Rattle.std.specs.Prelude.{◌<◌, ◌≡◌, length};

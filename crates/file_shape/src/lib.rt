@@ -1,4 +1,6 @@
 // The checks of both files up to the left-over bytes, in one walk that also fills the index.
+#![tactic(auto)]
+
 mod types;
 
 ghost use Rattle.std.specs.Prelude.{◌≡◌, ◌+◌, ◌≤◌, length};

@@ -1,5 +1,7 @@
 // Files of records in memory: words of two bytes, the lower byte first; a record's first word is its length. Every function is
 // total: what does not fit is not written.
+#![tactic(auto)]
+
 ghost use Rattle.std.specs.Prelude.{◌≡◌, ◌+◌, ◌*◌, ◌<◌};
 ghost use Rattle.file_writer.specs.Writing.{walk_end, word_bytes, written, Written, skipped, start_of};
 

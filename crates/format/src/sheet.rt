@@ -24,7 +24,7 @@ use sheet_types::types;
 
 // What reading a sheet gives: the verdict, where its records start, where the runs of its functions end, and which
 // function owns each node. Of a refused file only the verdict counts.
-#[derive(Drop)]
+#[derive(Clone, Copy)]
 pub struct SheetRead {
     pub verdict: Verdict,
     pub starts: Starts,

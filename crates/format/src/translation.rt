@@ -19,7 +19,7 @@ use file_shape::file_shape;
 
 // What reading a translation gives: the verdict, where its records start, and where the runs of its functions end. Of a
 // refused file only the verdict counts.
-#[derive(Drop)]
+#[derive(Clone, Copy)]
 pub struct TranslationRead {
     pub verdict: Verdict,
     pub starts: Starts,

@@ -1,4 +1,6 @@
 // The hirer's run of a translation, with a set of allowed readings (document 02, request 5).
+#![tactic(auto)]
+
 ghost use Rattle.std.specs.Prelude.{◌≡◌};
 ghost use Rattle.run.specs.NodeTable.{Readable};
 ghost use Rattle.hirer.specs.Promise.{RunsForHirer};

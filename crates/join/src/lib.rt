@@ -1,4 +1,6 @@
 // Translating a sheet and running it, in one call.
+#![tactic(auto)]
+
 ghost use Rattle.std.specs.Prelude.{◌≡◌, length};
 ghost use Rattle.join.specs.Fitting.{Fits};
 ghost use Rattle.join.specs.Promise.{Joins};

@@ -1,1 +1,2 @@
 // Laws of the definitions, for the crates above: proofs/.
+#![tactic(auto)]

@@ -1,5 +1,7 @@
 // The counts of a run, and what calls do to them: a call opened, a call closed, which may give cells back, and a constructor that was
 // remembered. Giving back writes no byte.
+#![tactic(auto)]
+
 ghost use Rattle.std.specs.Prelude.{◌≡◌, cond, suc, ◌<◌, min, max, length, get_or};
 ghost use Rattle.definitions.specs.Sizes.{most_cells};
 ghost use Rattle.live_counts.specs.Counts.{call_opened, gives_back, call_closed, constructor_noted};

@@ -1,4 +1,6 @@
 // The operators on signed 32-bit numbers (document 01, "Operators on signed 32 bits").
+#![tactic(auto)]
+
 ghost use Rattle.std.specs.Prelude.{◌≡◌};
 ghost use Rattle.definitions.specs.Operators.{computed};
 ghost use Rattle.operators.specs.Results.{computed_of};
@@ -9,7 +11,7 @@ pub mod bits;
 use definitions::operator_codes;
 
 // What an operator gives: a number, or the number of a run fault.
-#[derive(Drop)]
+#[derive(Clone, Copy)]
 pub enum Computed {
     Number(i32),
     Fault(u16),

@@ -1,4 +1,6 @@
 // The search for the value of a reading with which a translation's run ends in a wanted number (document 02, request 12).
+#![tactic(auto)]
+
 ghost use Rattle.std.specs.Prelude.{◌≡◌};
 ghost use Rattle.definitions.specs.ReadingSearch.{query};
 ghost use Rattle.run.specs.NodeTable.{Readable};

@@ -1,4 +1,6 @@
 // The line that the program prints for an answer (document 01, "The program reads a sheet on standard input ..").
+#![tactic(auto)]
+
 ghost use Rattle.report.specs.Decimals.{signed};
 ghost use Rattle.report.specs.Lines.{counts, counted_line, refusal_line};
 ghost use Rattle.report.specs.Promise.{WritesLine};

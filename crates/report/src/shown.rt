@@ -6,7 +6,7 @@ use answer::Outcome;
 use definitions::numbers::{CONSTRUCTOR, NUMBER};
 
 // The outcome's number, and the sign and the size of its value.
-#[derive(Drop)]
+#[derive(Clone, Copy)]
 pub(crate) struct Shown {
     pub number: u16,
     pub negative: bool,

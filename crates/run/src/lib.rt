@@ -1,4 +1,6 @@
 // The run of a translation (document 01, "Run").
+#![tactic(auto)]
+
 ghost use Rattle.std.specs.Prelude.{◌≡◌, true, length};
 ghost use Rattle.definitions.specs.Run.{allowances_fit};
 ghost use Rattle.run.specs.NodeTable.{table_entries, FileRead, Readable};

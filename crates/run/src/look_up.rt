@@ -22,7 +22,7 @@ use file_records::records::{field, indexed, record};
 use widths::wide;
 
 // A node that was looked up, or none.
-#[derive(Drop)]
+#[derive(Clone, Copy)]
 pub enum Found {
     Node(u16),
     Nothing,

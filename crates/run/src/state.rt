@@ -6,20 +6,20 @@ ghost use Rattle.run.specs.States.{ending_of, given_of};
 use operators::Computed;
 
 // A value: a number, or a constructor with node and context.
-#[derive(Drop)]
+#[derive(Clone, Copy)]
 pub enum Value {
     Number(i32),
     Constructor { node: u16, context: u16 },
 }
 
 // How a visit ends: with a value, or with the number of a stop or a run fault.
-#[derive(Drop)]
+#[derive(Clone, Copy)]
 pub enum Outcome {
     Value(Value),
     Ended(u16),
 }
 
-#[derive(Drop)]
+#[derive(Clone, Copy)]
 pub struct State {
     pub outcome: Outcome,
     pub left: u32,

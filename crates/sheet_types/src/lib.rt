@@ -1,4 +1,6 @@
 // The sheet_types crate: the types of a typed sheet's nodes, and the rules of types (document 02, request 11).
+#![tactic(auto)]
+
 ghost use Rattle.std.specs.Prelude.{◌≡◌, ◌+◌, ◌≤◌, true, cond, ◌||◌, eqb};
 ghost use Rattle.definitions.specs.Records.{field, field_count};
 ghost use Rattle.definitions.specs.Lists.{all_of};

@@ -1,5 +1,7 @@
 // How long a sheet's translation would be (document 02, request 3): what translating into an output of a stated length would
 // answer, with no output lent. The length is counted; no byte of the translation is made.
+#![tactic(auto)]
+
 ghost use Rattle.std.specs.Prelude.{◌≡◌};
 ghost use Rattle.definitions.specs.Translate.{translation_answer};
 ghost use Rattle.tree_classes.specs.Classes.{ReadTables};

@@ -1,5 +1,7 @@
 // Words written into the output, two bytes each, and records of them. Places count bytes. A byte past the output's end is
 // dropped, and no place is counted past the greatest length of a translation.
+#![tactic(auto)]
+
 ghost use Rattle.std.specs.Prelude.{[], ◌∷◌, ◌+◌, ◌*◌, ◌≤◌};
 ghost use Rattle.definitions.specs.Records.{kind_of, field_count};
 ghost use Rattle.definitions.specs.Translate.{record_words};

@@ -1,4 +1,6 @@
 // The translator: a sheet's bytes in, its translation's bytes out (document 01, "Translation").
+#![tactic(auto)]
+
 ghost use Rattle.definitions.specs.Trees.{equal_trees};
 ghost use Rattle.definitions.specs.Translate.{translation_words};
 ghost use Rattle.translation_words.specs.Writing.{WroteWords};

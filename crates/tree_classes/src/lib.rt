@@ -1,4 +1,6 @@
 // The class of each node's tree: the first node with an equal tree (document 02, request 4).
+#![tactic(auto)]
+
 ghost use Rattle.std.specs.Prelude.{◌≡◌, length};
 ghost use Rattle.definitions.specs.Sizes.{most_nodes};
 ghost use Rattle.tree_classes.specs.Classes.{ReadTables, FirstNodes};

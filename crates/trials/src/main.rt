@@ -47,6 +47,8 @@
 // 131,072 bytes. What does not fit its space, a number too large or a file too long, is shown as `DOES NOT FIT`, which `stdout` never
 // has.
 // The interpreter with which `rt try` begins ends at its limit of steps, and the compiled runs go through.
+#![tactic(auto)]
+
 mod canonical_trial;
 mod files;
 mod hirer_trial;
@@ -81,7 +83,7 @@ use file_writer::{SPACE_BYTES, Space};
 const TEXT_BYTES: usize = 131072;
 
 // How many bytes are written of the sheet, of the translation and of the cells.
-#[derive(Drop)]
+#[derive(Clone, Copy)]
 struct Sizes {
     sheet: usize,
     translation: usize,

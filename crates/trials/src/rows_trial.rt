@@ -17,14 +17,14 @@ use widths::wide32;
 const CELL_COUNT: usize = 18;
 
 // The records and the cells that were lent.
-#[derive(Drop)]
+#[derive(Clone, Copy)]
 struct Lent {
     records: Space,
     cells: Space,
 }
 
 // What running rows answered, and what was lent for it.
-#[derive(Drop)]
+#[derive(Clone, Copy)]
 struct RowsAnswered {
     answer: Written,
     lent: Lent,

@@ -14,7 +14,7 @@ use widths::wide;
 
 // What a run is given beside its file: the allowances, how many bytes are lent for cells, how many bytes the file and the
 // output have, and how many readings there are.
-#[derive(Drop)]
+#[derive(Clone, Copy)]
 pub(crate) struct Given {
     pub(crate) steps: u32,
     pub(crate) nesting: u32,
@@ -42,7 +42,7 @@ pub(crate) fn read_given(text: &[u8], from: usize, count: usize) -> Given {
 }
 
 // What a run answered, and the cells that were lent for it.
-#[derive(Drop)]
+#[derive(Clone, Copy)]
 pub(crate) struct Answered {
     pub(crate) answer: Answer,
     pub(crate) cells: Space,

@@ -14,7 +14,7 @@ use std::num::{wrapping_add_u32, wrapping_sub_u32};
 use widths::wide32;
 
 // What is asked for: a position, the ends of a range by their bits, and the wanted number.
-#[derive(Drop)]
+#[derive(Clone, Copy)]
 struct Query {
     position: u32,
     lowest: u32,
@@ -23,14 +23,14 @@ struct Query {
 }
 
 // What a search answered, and the cells that were lent for it.
-#[derive(Drop)]
+#[derive(Clone, Copy)]
 struct SearchAnswered {
     answer: Searched,
     cells: Space,
 }
 
 // How many single runs there were, whether the last gave the wanted number, the most cells that any counts, and the cells that they left.
-#[derive(Drop)]
+#[derive(Clone, Copy)]
 struct RanInTurn {
     runs: u32,
     found: bool,

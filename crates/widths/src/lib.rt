@@ -1,4 +1,6 @@
 // Numbers of 8, 16 and 32 bits as numbers of the machine's width. The promises say their ranges, which the toolchain knows of a
+#![tactic(auto)]
+
 // parameter and not of an element that is read from a lent array.
 ghost use Rattle.std.specs.Prelude.{◌≡◌, ◌≤◌};
 

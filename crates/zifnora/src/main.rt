@@ -1,5 +1,7 @@
 // The program: it reads a sheet on standard input, translates and runs it without readings, and prints the answer's line
 // (document 01, "The program reads a sheet on standard input ..").
+#![tactic(auto)]
+
 ghost use Rattle.zifnora.specs.Program.{ShowsAnswer};
 
 use definitions::sizes::{CELL_BYTES, SHEET_BYTES, TRANSLATION_BYTES};

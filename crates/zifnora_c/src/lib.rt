@@ -1,5 +1,7 @@
 // The calls for programs in C and Rust: numbers, slices of numbers, and a reference to a slice of cells, which stays the same
 // slice. include/zifnora.h says the same for C.
+#![tactic(auto)]
+
 ghost use Rattle.std.specs.Prelude.{◌≡◌};
 ghost use Rattle.definitions.specs.ReadingSearch.{query};
 ghost use Rattle.zifnora_c.specs.Promise.{translation_code, TranslatesC, WritesCanonicalC, RunsC, RunsForHirerC, RunsRowsC, FindsReadingC, JoinsC, ListsC, WritesViewC};
