@@ -12,7 +12,7 @@ use Rattle.definitions.specs.NodeFields.{Clause, fields_from, clause_list}
 use Rattle.definitions.specs.SheetNodes.{SheetNode, operator, conditional, case_of}
 use Rattle.accepted.specs.Child.{Child, left, right, condition, if_nonzero, if_zero, argument, component, scrutinee, clause}
 use Rattle.accepted.proofs.Elements.{Listed, listed_element, listed_found}
-use Rattle.accepted.proofs.SheetRecords.{SheetRecord, is_operator, is_conditional, is_call, is_build, is_case_law}
+use Rattle.accepted.proofs.SheetRecords.{SheetRecord, is_operator, is_conditional, is_call, is_build, is_case_law, is_number, is_reading, is_parameter, is_pattern_variable}
 
 -- how many there are, and which field holds each, by kind
 module _ (rec : List ℕ) where
@@ -115,3 +115,7 @@ module _ (rec : List ℕ) where
       let s = clause_found rec j p in
       child_of _ (suc j) (suc (clauses rec)) (case_children rec e c) (omega (arith, s.below))
       (case_child rec e (suc j) ∙ clause_field j ∙ s.leads ∙ q)
+  child_place {n = n} (is_number _ _) x7 = elim x7 [ ]
+  child_place {n = n} (is_reading _ _) x8 = elim x8 [ ]
+  child_place {n = n} (is_parameter _ _) x9 = elim x9 [ ]
+  child_place {n = n} (is_pattern_variable _ _) x10 = elim x10 [ ]

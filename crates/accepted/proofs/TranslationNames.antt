@@ -24,7 +24,7 @@ use Rattle.accepted.specs.Mention.{Mention, selected, left, right, condition, if
 use Rattle.accepted.proofs.Elements.{listed_found}
 use Rattle.accepted.proofs.Sections.{formal_kind}
 use Rattle.accepted.proofs.Children.{ChildOf, child_of, clause_field, clause_found, argument_found}
-use Rattle.accepted.proofs.TranslationRecords.{TranslationRecord, is_reading, is_formal, is_select, is_operator, is_conditional, is_call, is_tuple, is_case_law, translation_node_is}
+use Rattle.accepted.proofs.TranslationRecords.{TranslationRecord, is_reading, is_formal, is_select, is_operator, is_conditional, is_call, is_tuple, is_case_law, translation_node_is, is_number}
 use Rattle.accepted.proofs.Checks.{translation_shape, translation_in_range}
 
 -- how many nodes a record names, and which field names each, by kind
@@ -93,6 +93,10 @@ module _ (rec : List ℕ) where
       let s = clause_found rec j p in
       child_of rec _ (suc j) (suc (clauses rec)) (case_mentions e c) (omega (arith, s.below))
       (case_mention e (suc j) ∙ clause_field rec j ∙ s.leads ∙ q)
+  mention_place {n = n} (is_number _ _) x7 = elim x7 [ ]
+  mention_place {n = n} (is_reading _ _) x8 = elim x8 [ ]
+  mention_place {n = n} (is_formal _ _) x9 = elim x9 [ ]
+  mention_place {n = n} (is_call _ _) x10 = elim x10 [ ]
 
 -- over one record
 module _ (b rec : List ℕ) (r : ℕ) (h : names_in_range b r rec ≡ true) where

@@ -20,7 +20,7 @@ use Rattle.rule_laws.proofs.Mentions.{branch_mentioned, clause_mentioned}
 use Rattle.rule_laws.proofs.Computing.{Result, a_number, out_of_range, no_divisor, computed_result}
 
 module _ {t : List ℕ} {rs : List ℤ} {C S : Type 0} (K : Keeps t rs C S) where
-  open K use {Becomes, stays, onward, At, at_Onward, at_mentioned, Built, built_tuple, built_field_law, Number, number_literal, number_reading, number_tag, number_computed, stop_ends, fault_ends}
+  open K use {Becomes, stays, onward, At, at_onward, at_mentioned, Built, built_tuple, built_field_law, Number, number_literal, number_reading, number_tag, number_computed, stop_ends, fault_ends}
 
   -- an end where the visit is
   pub kept_here : (s : State S) {e : Ending C} → Proper K s.store e → Kept K s (reach e s)
@@ -98,17 +98,17 @@ module _ {t : List ℕ} {rs : List ℤ} {C S : Type 0} (K : Keeps t rs C S) wher
     kept_evaluated n ih (operator o x y) k c s e a =
         kept_number _ (ih.keeps x c s (at_mentioned e Mention.left a))
         (λ i p b.
-        kept_number _ (ih.keeps y c _ (at_mentioned e Mention.right (at_Onward b a)))
+        kept_number _ (ih.keeps y c _ (at_mentioned e Mention.right (at_onward b a)))
         (λ j q d. kept_result _ (computed_result o i j) (λ z f. number_computed o p q f)))
     kept_evaluated n ih (conditional x p q) k c s e a =
         kept_number _ (ih.keeps x c s (at_mentioned e Mention.condition a))
-        (λ z h b. ih.keeps _ c _ (at_mentioned e (branch_mentioned (is_zero z)) (at_Onward b a)))
+        (λ z h b. ih.keeps _ c _ (at_mentioned e (branch_mentioned (is_zero z)) (at_onward b a)))
     kept_evaluated n ih (call l f) k c s e a = hooks.call_keeps n ih k l f c s e a
     kept_evaluated n ih (tuple x ns) k c s e a = kept_here s (a_constructor (built_tuple e a))
     kept_evaluated n ih (case_of x cs) k c s e a =
         kept_constructor _ (ih.keeps x c s (at_mentioned e Mention.scrutinee a))
         (λ m d b o. kept_node _ (chosen cs (tag_of t m)) no_clause _ refl
-        (λ j f. ih.keeps j c _ (at_mentioned e (clause_mentioned cs (tag_of t m) f) (at_Onward o a))))
+        (λ j f. ih.keeps j c _ (at_mentioned e (clause_mentioned cs (tag_of t m) f) (at_onward o a))))
 
     -- a step counted, or none left
     kept_step : (n : ℕ) (m : S) (go : State S → Reached C S)

@@ -18,7 +18,7 @@ use Rattle.rule_laws.specs.SideBySide.{selects, operators, conditionals, calls, 
 use Rattle.rule_laws.proofs.Mentions.{clause_mentioned}
 
 module _ {C S D T : Type 0} (B : SideBySide C S D T) where
-  open B use {World, here, there, Leads, stays, onward, steps_lead, At, at_Onward, Built, AtFormal, AtCall, Nested, cut_back, cut_number, cut_constructor}
+  open B use {World, here, there, Leads, stays, onward, steps_lead, At, at_onward, Built, AtFormal, AtCall, Nested, cut_back, cut_number, cut_constructor}
 
   -- from an earlier world
   pub both_back : {w v : World} {r : Reached C S} {q : Reached D T} → Leads w v → Both B v r q → Both B w r q
@@ -71,7 +71,7 @@ module _ {C S D T : Type 0} (B : SideBySide C S D T) where
 
   due_onward : {w v : World} {c : C} {d : D} {o o' : Option ℕ} → Leads w v → Due B w c d o o' → Due B v c d o o'
   due_onward l neither = neither
-  due_onward l (each h) = each (at_Onward l h)
+  due_onward l (each h) = each (at_onward l h)
 
   -- in one file, a node is alike itself where the nodes that it names are
   pub due_itself : (w : World) (c : C) (d : D) (o : Option ℕ) → ((n : ℕ) → o ≡ some n → At w n n c d) → Due B w c d o o
@@ -117,10 +117,10 @@ module _ {C S D T : Type 0} (B : SideBySide C S D T) where
     both_evaluated n n' g f w v s k m c d (operators {o} h i) =
         both_back (steps_lead s)
         (both_number v _ _ (f.both v _ _ c d h) (λ z x l.
-        both_number z _ _ (f.both z _ _ c d (at_Onward l i)) (λ r y q. both_result r (computed o x y))))
+        both_number z _ _ (f.both z _ _ c d (at_onward l i)) (λ r y q. both_result r (computed o x y))))
     both_evaluated n n' g f w v s k m c d (conditionals h i j) =
         both_back (steps_lead s)
-        (both_number v _ _ (f.both v _ _ c d h) (λ z x l. both_branch z c d (is_zero x) f (at_Onward l i) (at_Onward l j)))
+        (both_number v _ _ (f.both v _ _ c d h) (λ z x l. both_branch z c d (is_zero x) f (at_onward l i) (at_onward l j)))
     both_evaluated n n' g f w v s k m c d (calls h) = L.calls_both n n' g f w v s h
     both_evaluated n n' g f w v s k m c d (tuples h) = both_back (steps_lead s) (both_here v (constructors h))
     both_evaluated n n' g f w v s k m c d (cases h i) =
@@ -135,7 +135,7 @@ module _ {C S D T : Type 0} (B : SideBySide C S D T) where
     stepped n n' g f =
         record {
           both = λ w k m c d h.
-              L.step w _ _ (λ v s. both_evaluated n n' g f w v s k m c d (L.alike (at_Onward (steps_lead s) h)));
+              L.step w _ _ (λ v s. both_evaluated n n' g f w v s k m c d (L.alike (at_onward (steps_lead s) h)));
         }
 
     -- at all nestings that go together

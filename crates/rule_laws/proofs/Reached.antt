@@ -49,12 +49,14 @@ module _ {t : List ℕ} {C S : Type 0} (R : Reads t C S) where
     unfolding number_due
     number_fails go (a_constructor b) constructor_came f = arrives_ended R f
     number_fails go an_end ended_before f = arrives_ended R f
+    number_fails {y = y} go (an_integer {z = z}) x8 f = elim x8 [ ]
 
     constructor_fails : {x : Ending C} {e : Ending (List ℕ)} {y : ℕ} (go : ℕ → C → State S → Reached C S) → Shows (Built r.state.store) x e → NotConstructor e y
         → Arrives R n s a e r → Arrives R n s a (ended y) (constructor_due x r.state go)
     unfolding constructor_due
     constructor_fails go an_integer number_came f = arrives_ended R f
     constructor_fails go an_end ended_first f = arrives_ended R f
+    constructor_fails {y = y} go (a_constructor {k = k} {w = w} {ws = ws} _) x9 f = elim x9 [ ]
 
   module _ (rs : List ℤ) (cells_allowed : ℕ) where
     -- the room that a node's visit leaves for the visits that it asks for

@@ -3,12 +3,8 @@ use Rattle.definitions.specs.Kinds.{row, rows, row_in, row_of}
 use Rattle.definitions.specs.Lists.{all_of}
 use Rattle.file_kinds.proofs.KindTable.{holds, rows_held}
 use mathlib.Core.Path.{refl}
-use Rattle.file_kinds.proofs.rows.Statement.{statement}
-use Rattle.file_kinds.proofs.rows.Tie as tie
+use Rattle.file_kinds.proofs.rows.Goals as goal
 
-returns : tie.Need-returns
+pub returns : goal.returns
 unfolding all_of holds row rows row_in row_of
 returns c = rows_held _ refl
-
-pub rows-spec : {M : Type 1} → statement M
-rows-spec = tie.close (tie.spec returns)

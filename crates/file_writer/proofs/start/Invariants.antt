@@ -1,0 +1,14 @@
+-- The loop has walked over `i` records. Assumes nothing.
+use borrow.Author.Rules.{rules}
+use mathlib.Core.Path.{◌≡◌, ap, ◌∙◌}
+use Prim.Native.Nat.{◌≤◌, ◌<◌, ◌-◌}
+use native.Mathlib.Omega.{arith}
+use Rattle.file_writer.specs.Writing.{walk_end, start_of}
+use Rattle.file_writer.proofs.Laws.{start_first, start_more}
+use Rattle.file_writer.proofs.start.Given as goal
+
+abbrev pub invariant-loop-i : goal.invariant-loop-i
+invariant-loop-i l = (l.i ≤ l.r) × (l.at ≡ start_of l.file l.i) × (l.at < walk_end)
+
+abbrev pub decreases-loop-i : goal.decreases-loop-i
+decreases-loop-i l = l.r - l.i
