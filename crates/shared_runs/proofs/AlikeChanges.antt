@@ -9,7 +9,7 @@ use Rattle.definitions.specs.Cells.{Entry, with_value, remembered, recalled}
 use Rattle.definitions.specs.LiveCells.{older, live_after}
 use Rattle.cell_rules.proofs.Contexts.{kept_then}
 use Rattle.cell_rules.proofs.Changes.{value_kept}
-use Rattle.rule_laws.specs.SideBySide.{integers, constructors, ends, Both, arrive}
+use Rattle.rule_laws.specs.SideBySide.{integers, constructors, ends, Both, arrive, cut}
 use Rattle.rule_laws.proofs.Lockstep.{both_here}
 use Rattle.given_back.specs.SerialCells.{ActualVisit, Account, SerialCells, keeping_serial, closing_account, closed_serial}
 use Rattle.shared_runs.proofs.AlikeCells.{cells_map, cells_even, cells_valued}
@@ -59,6 +59,7 @@ module _ (same same' : Labelling) (a b : List ℕ) where
       (record { one = kept_then l.one (value_kept c i _ v.here); two = kept_then l.two (value_kept c i _ v.there) })
       (constructors (built_kept same same' a b (value_kept c i _ v.here) (value_kept c i _ v.there) h))
   remembered_both w c i (arrive v l ends) = arrive v l ends
+  remembered_both w c i {r = r} {q = q} (cut x3) = elim x3 [ ]
 
   -- what calls leave, of which as many cells were made before
   pub closed_both : (x w : World same same' a b) {r q : Reached ℕ SerialCells} → Both (sides same same' a b) w r q
@@ -72,6 +73,7 @@ module _ (same same' : Labelling) (a b : List ℕ) where
       (constructors h)
   closed_both x w (arrive v l (ends {n})) =
       arrive (accounting (closing_account (suc (length x.here)) x.account (ended n) v.account) v) (record { one = l.one; two = l.two }) ends
+  closed_both x w {r = r} {q = q} (cut x4) = elim x4 [ ]
 
   pub recalled_both : (w : World same same' a b) {x y : Entry} {r q : Reached ℕ SerialCells} → SameEntry same same' a b w.here w.there x y
       → Both (sides same same' a b) w r q

@@ -1,0 +1,11 @@
+-- `cells::listing::write_labels` meets its contract. The invariant: what is to be written from here on gives the whole output; the measure is what is left to write.
+use Rattle.cells.proofs.Walks.{WrittenSo, write_none, write_more, written_all}
+use borrow.Author.Rules.{rules}
+use Prim.Native.Nat.{◌-◌}
+use Rattle.cells.proofs.listing.write_labels.Given as goal
+
+abbrev pub invariant-loop-i : goal.invariant-loop-i
+invariant-loop-i l = WrittenSo l.cells l.c l.count l.initial.out l.out l.at l.i
+
+abbrev pub decreases-loop-i : goal.decreases-loop-i
+decreases-loop-i l = l.count - l.i
