@@ -87,6 +87,7 @@ module _ (c : ℕ) where
     -- a value that comes out
     pub value_apart : {m : SerialCells} {v : Value ℕ} → Proper avoiding m (value v) → ¬ (ValueLeads m.cells c v)
     value_apart (a_constructor a) (from l) = a.apart l
+    value_apart {m = m} (an_integer {z = z} _) x6 = elim x6 [ ]
 
     value_within : {m : SerialCells} {v : Value ℕ} → Proper avoiding m (value v) → (k u : ℕ) → v ≡ constructor k u → u ≤ length m.cells
     value_within (an_integer n) k u e = absurd (let z : ◌≡◌ {A = ℕ} 0 1 = cc in omega arith)

@@ -46,7 +46,7 @@ module _ {cs : List Cell} where
     leads_below (back {d} {x} e q l) h = leads_below l (rw q at (contained.previous d x e))
     leads_below (through {d} {k} {u} {x} i e q l) h = leads_below l (contained.remembered d x e i k u q)
 
-    pub leads_added : {c w : ℕ} (x : Cell) → Leads (cs ++ (x ∷ [])) c w → w ≤ length cs → Leads cs c w
+    pub leads_added : {c : ℕ} (x : Cell) {w : ℕ} → Leads (cs ++ (x ∷ [])) c w → w ≤ length cs → Leads cs c w
     leads_added x here h = here
     leads_added x (back {d} {x = y} e q l) h =
         let e' = sym (element_front cs (x ∷ []) d h) ∙ e in

@@ -64,23 +64,27 @@ module _ {b : List ℕ} {rs : List ℤ} where
         → Means b rs (operator o l r) s (Meaning.fault x)
     left_meant (constructors a e) m constructor_came = Means.left_constructor m
     left_meant ends m ended_before = Means.left_fault m
+    left_meant {o = o} {l = l} {r = r} (integers {z = z}) m x8 = elim x8 [ ]
 
     pub right_meant : {o l r x : ℕ} {z : ℤ} {e : Ending (List ℕ)} {d : End} → Means b rs (sheet_node_of b l) s (Meaning.value (Meaning.integer z))
         → Agrees b rs e d → Means b rs (sheet_node_of b r) s d → NotNumber e x
         → Means b rs (operator o l r) s (Meaning.fault x)
     right_meant n (constructors a e) m constructor_came = Means.right_constructor n m
     right_meant n ends m ended_before = Means.right_fault n m
+    right_meant {o = o} {l = l} {r = r} {z = z} n integers m x10 = elim x10 [ ]
 
     pub if_meant : {n p q x : ℕ} {e : Ending (List ℕ)} {d : End} → Agrees b rs e d → Means b rs (sheet_node_of b n) s d → NotNumber e x
         → Means b rs (conditional n p q) s (Meaning.fault x)
     if_meant (constructors a e) m constructor_came = Means.if_constructor m
     if_meant ends m ended_before = Means.if_fault m
+    if_meant {n = n} {p = p} {q = q} (integers {z = z}) m x8 = elim x8 [ ]
 
     pub case_meant : {n x : ℕ} {cs : List Clause} {e : Ending (List ℕ)} {d : End} → Agrees b rs e d → Means b rs (sheet_node_of b n) s d
         → NotConstructor e x
         → Means b rs (case_of n cs) s (Meaning.fault x)
     case_meant integers m number_came = Means.case_number m
     case_meant ends m ended_first = Means.case_fault m
+    case_meant {n = n} {cs = cs} (constructors {k = k} {c = c} {ns = ns} {ws = ws} _ _) m x12 = elim x12 [ ]
 
     -- the chosen node of an if
     pub branch_meant : {n p q : ℕ} {z : ℤ} {e : Ending (List ℕ)} (x : Bool) → is_zero z ≡ x → Means b rs (sheet_node_of b n) s (Meaning.value (Meaning.integer z))

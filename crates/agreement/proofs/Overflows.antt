@@ -33,7 +33,7 @@ pub computed_overflow : (o : ℕ) (x y : ℤ) → (computed o x y ≡ faults ove
 computed_overflow o x y = (overflow_by (computed_result o x y), overflow_of o x y)
 
 -- a fault of a node that is worked out comes out
-fault_out : {b : List ℕ} {rs : List ℤ} {nd nd' : SheetNode} {t s : Setting} {n : ℕ} → WorksOut b rs nd t nd' s → Means b rs nd t (fault n) → Means b rs nd' s (fault n)
+fault_out : {b : List ℕ} {rs : List ℤ} {nd : SheetNode} {t : Setting} {nd' : SheetNode} {s : Setting} {n : ℕ} → WorksOut b rs nd t nd' s → Means b rs nd t (fault n) → Means b rs nd' s (fault n)
 fault_out itself m = m
 fault_out (by_argument e w) m = parameter_argument e (fault_out w m)
 fault_out (by_body w) m = call_body (fault_out w m)

@@ -20,7 +20,7 @@ use Rattle.definitions.specs.declared.Verdict.TheVariants.{Accepted}
 use Rattle.accepted.specs.Child.{left, right, condition}
 use Rattle.accepted.proofs.Names.{parameter_below, call_below}
 use Rattle.readback.proofs.Nodes.{body_read, tag_read}
-use Rattle.rule_laws.specs.Derivations.{Trace, Derivation, number_itself, reading_value, tuple_itself, formal_actual, formal_beyond, formal_outside, call_body, select_field, select_beyond}
+use Rattle.rule_laws.specs.Derivations.{Trace, Derivation, number_itself, reading_value, tuple_itself, formal_actual, formal_beyond, formal_outside, call_body, select_field, select_beyond, select_tag}
 use Rattle.rule_laws.specs.Derivations.{select_fails, case_chosen, case_unmatched, case_fails, if_chosen, if_fails, operator_numbers, left_fails, right_fails}
 use Rattle.agreement.specs.Corresponds.{At, integers, constructors, Meant}
 use Rattle.agreement.proofs.Corresponds.{child_at, branch_at, body_at, scrutinee_at, clause_at_law, argument_of_law, field_at, scrutinee_same}
@@ -94,3 +94,4 @@ module _ (b : List ℕ) (accepted : sheet_verdict b ≡ Accepted) {rs : List ℤ
       let f = integer_meant (sound v (becomes b accepted l p.below) refl p) in
       let d = sound u (becomes b accepted r q.below) refl q in
       fault_meant (right_meant f d.agrees d.means g)
+  sound {nd = nd} {s = s} (select_tag {n = n} {m = m} {k = k} {ws = ws} {vs = vs} _) x10 h a = elim x10 [ ]

@@ -1,0 +1,21 @@
+-- `answers::outcome_of` meets its contract, case by case.
+use Rattle.answer.specs.Answers.{outcome_of}
+use mathlib.Core.Path.{ap, sym}
+use borrow.Author.Rules.{rules}
+use Rattle.answer.proofs.outcome_of.Goals as goal
+
+pub returns-in-Number : goal.returns-in-Number
+unfolding outcome_of
+returns-in-Number c = sym (ap outcome_of c.in-Number.is)
+
+pub returns-in-Constructor : goal.returns-in-Constructor
+unfolding outcome_of
+returns-in-Constructor c = sym (ap outcome_of c.in-Constructor.is)
+
+pub returns-in-Ended : goal.returns-in-Ended
+unfolding outcome_of
+returns-in-Ended c = sym (ap outcome_of c.in-Ended.is)
+
+pub returns-in-Refused : goal.returns-in-Refused
+unfolding outcome_of
+returns-in-Refused c = sym (ap outcome_of c.in-Refused.is)

@@ -1,0 +1,14 @@
+-- `file_references::references::other_fields_below` meets its contract. The loop's invariant: every field so far is below the limit.
+use Rattle.laws.proofs.Tests.{Testing, tests_begin, tests_go_on, tests_fail, tests_end, below_test, below_not}
+use Rattle.definitions.specs.Records.{field, field_count}
+use lib.Dec.{ltb}
+use native.Mathlib.Omega.{arith}
+use Prim.Native.Nat.{◌+◌, ◌*◌, ◌-◌, ◌/◌}
+use borrow.Author.Rules.{rules}
+use Rattle.file_references.proofs.references.other_fields_below.Given as goal
+
+abbrev pub invariant-loop-j : goal.invariant-loop-j
+invariant-loop-j l = Testing (λ i. ltb (field l.rec (2 * i)) l.limit) ((field_count l.rec + 1) / 2) l.count l.j
+
+abbrev pub decreases-loop-j : goal.decreases-loop-j
+decreases-loop-j l = l.count - l.j
