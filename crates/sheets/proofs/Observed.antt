@@ -99,5 +99,6 @@ holds t p =
 
 -- where the two agree over a list, each trial of the list holds
 pub all_hold : (ts : List Trial) → map observed ts ≡ map expected ts → (t : Trial) → Memᴰ t ts → Holds t
+all_hold [] p t m = elim m [ ]
 all_hold (x ∷ xs) p t (Memᴰ.head e) = holds t (cc)
 all_hold (x ∷ xs) p t (Memᴰ.tail m) = all_hold xs (cc) t m

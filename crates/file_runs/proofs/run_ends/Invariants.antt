@@ -1,0 +1,14 @@
+-- `file_runs::run_ends` meets its contract. The loop's invariant: the ends of the runs passed are in the table, and the total is the last of them.
+use Rattle.file_runs.proofs.RunTables.{FillingEnds, ending_begins, next_fits, ending_goes_on, ending_done}
+use Rattle.file_records.proofs.Indices.{indexed_field}
+use native.Mathlib.Omega.{arith}
+use mathlib.Core.Path.{◌∙◌}
+use Prim.Native.Nat.{◌-◌}
+use borrow.Author.Rules.{rules}
+use Rattle.file_runs.proofs.run_ends.Given as goal
+
+abbrev pub invariant-loop-f : goal.invariant-loop-f
+invariant-loop-f l = FillingEnds l.b l.starts l.first l.count l.j l.ends l.total l.f
+
+abbrev pub decreases-loop-f : goal.decreases-loop-f
+decreases-loop-f l = l.count - l.f

@@ -1,0 +1,12 @@
+-- `file_runs::run_owners` meets its contract. The loop's invariant: the owners of the nodes passed are in the table.
+use Rattle.file_runs.proofs.RunTables.{Owning, owning_begins, owner_small, owning_goes_on, owning_done}
+use native.Mathlib.Omega.{arith}
+use Prim.Native.Nat.{◌-◌}
+use borrow.Author.Rules.{rules}
+use Rattle.file_runs.proofs.run_owners.Given as goal
+
+abbrev pub invariant-loop-k : goal.invariant-loop-k
+invariant-loop-k l = Owning l.b l.ends l.count l.owners l.f l.k
+
+abbrev pub decreases-loop-k : goal.decreases-loop-k
+decreases-loop-k l = l.count - l.k

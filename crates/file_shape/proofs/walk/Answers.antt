@@ -1,0 +1,45 @@
+-- `file_shape::walk` meets its contract: the turns keep `Walking`, and each way out ends as `Walked` says.
+use Rattle.file_shape.proofs.Walking.{Walking, begins, room_here, index_more, refused_here, goes_on, ends_there, bytes_left}
+use Prim.Native.Nat.{◌-◌}
+use borrow.Author.Rules.{rules}
+use Rattle.file_shape.proofs.walk.Goals as goal
+
+pub loop-r-init : goal.loop-r-init
+loop-r-init c =
+    let pre = c.requires in
+    begins pre.0 pre.1 c.due-count.ensures.0
+
+pub bounds-starts-r : goal.bounds-starts-r
+bounds-starts-r c = room_here c.loop-r.invariant c.loop-r-test.true
+
+pub shape_at-v-requires : goal.shape_at-v-requires
+shape_at-v-requires c =
+    let rows = c.rows-rows in
+    let first_node = c.first_node-first in
+    let loop = c.loop-r in
+    let loop_test = c.loop-r-test in
+    record { kinds = rows.ensures; index = index_more loop.invariant loop_test.true; nodes_from = first_node.ensures.0; inside = loop.invariant.inside }
+
+pub returns-in_default : goal.returns-in_default
+returns-in_default c =
+    let loop = c.loop-r in
+    let loop_test = c.loop-r-test in
+    let shape_at = c.shape_at-v in
+    refused_here loop.invariant loop_test.true shape_at.ensures c.in_default.is
+
+pub loop-r-preserved : goal.loop-r-preserved
+loop-r-preserved c =
+    let loop = c.loop-r in
+    let loop_test = c.loop-r-test in
+    let shape_at = c.shape_at-v in
+    goes_on loop.invariant loop_test.true shape_at.ensures c.in-Accepted.is c.word.ensures
+
+pub returns-then-at-b : goal.returns-then-at-b
+returns-then-at-b c =
+    let loop = c.loop-r in
+    ends_there loop.invariant c.loop-r-test.false c.if-at-b.true
+
+pub returns-else-at-b : goal.returns-else-at-b
+returns-else-at-b c =
+    let loop = c.loop-r in
+    bytes_left loop.invariant c.loop-r-test.false c.if-at-b.false

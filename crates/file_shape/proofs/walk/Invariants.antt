@@ -1,0 +1,11 @@
+-- `file_shape::walk` meets its contract: the turns keep `Walking`, and each way out ends as `Walked` says.
+use Rattle.file_shape.proofs.Walking.{Walking, begins, room_here, index_more, refused_here, goes_on, ends_there, bytes_left}
+use Prim.Native.Nat.{◌-◌}
+use borrow.Author.Rules.{rules}
+use Rattle.file_shape.proofs.walk.Given as goal
+
+abbrev pub invariant-loop-r : goal.invariant-loop-r
+invariant-loop-r l = Walking l.y l.b l.count l.starts l.at l.r
+
+abbrev pub decreases-loop-r : goal.decreases-loop-r
+decreases-loop-r l = l.count - l.r

@@ -1,0 +1,42 @@
+-- `sheet_rules::names::arguments_match` meets its contract, kind by kind.
+use mathlib.Core.Path.{◌∙◌}
+use Rattle.laws.proofs.Arguments.{callee_below, constructor_below, match_result, match_call, match_build, match_other}
+use Rattle.sheet_rules.proofs.SheetTables.{opened_parameters, opened_constructor}
+use borrow.Author.Rules.{rules}
+use Rattle.sheet_rules.proofs.names.arguments_match.Goals as goal
+
+pub returns-then-r-first_function : goal.returns-then-r-first_function
+returns-then-r-first_function c = search match_result
+
+pub returns-then-k-eq-CALL : goal.returns-then-k-eq-CALL
+returns-then-k-eq-CALL c =
+    let pre = c.requires in
+    let first_function = c.first_function in
+    let if1 = c.if-r-first_function in
+    let kind = c.kind-k in
+    let if2 = c.if-k-eq-CALL in
+    let argument_count = c.argument_count in
+    let field2 = c.field-then-k-eq-CALL in
+    let wide = c.wide in
+    match_call _ _ _ _ first_function.ensures.0 if1.false _ kind.ensures if2.true argument_count.ensures
+    (wide.ensures.0 ∙ field2.ensures)
+    (c.wide-then-k-eq-CALL.ensures.0 ∙ opened_parameters _ _ _ _ pre.0
+    (callee_below _ _ _ _ _ kind.ensures (wide.ensures.0 ∙ field2.ensures) pre.1 if2.true) c.parameters.ensures)
+
+pub returns-then-k-eq-BUILD : goal.returns-then-k-eq-BUILD
+returns-then-k-eq-BUILD c =
+    let pre = c.requires in
+    let first_function = c.first_function in
+    let if1 = c.if-r-first_function in
+    let kind = c.kind-k in
+    let if3 = c.if-k-eq-BUILD in
+    let argument_count2 = c.argument_count-then-k-eq-BUILD in
+    let field3 = c.field-then-k-eq-BUILD in
+    let wide3 = c.wide-then-k-eq-BUILD in
+    match_build _ _ _ _ first_function.ensures.0 if1.false _ kind.ensures if3.true argument_count2.ensures
+    (wide3.ensures.0 ∙ field3.ensures)
+    (c.wide-then-k-eq-BUILD-2.ensures.0 ∙ opened_constructor _ _ _ 0 pre.0
+    (constructor_below _ _ _ _ _ kind.ensures (wide3.ensures.0 ∙ field3.ensures) pre.1 if3.true) c.arity.ensures)
+
+pub returns : goal.returns
+returns c = search match_other

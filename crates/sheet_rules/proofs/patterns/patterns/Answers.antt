@@ -1,0 +1,43 @@
+-- `sheet_rules::patterns::patterns` meets its contract. The loop's invariant: the rules of the nodes passed are accepted.
+use Rattle.sheet_rules.proofs.PatternSteps.{pattern_refused, pattern_accepted}
+use Rattle.sheet_rules.proofs.Ruling.{Ruling, ruling_begins, ruling_below, ruling_more, ruling_refused, ruling_done}
+use Rattle.sheet_rules.specs.Clauses.{ClausesOf}
+use Rattle.sheet_rules.specs.Seen.{TreesAccepted}
+use Rattle.definitions.specs.SheetRules.{pattern}
+use borrow.Author.Tests.{not-true, not-false}
+use mathlib.Core.Path.{◌∙◌, refl}
+use Prim.Native.Nat.{◌-◌}
+use borrow.Author.Rules.{rules}
+use Rattle.sheet_rules.proofs.patterns.patterns.Goals as goal
+
+pub loop-k-init : goal.loop-k-init
+loop-k-init c =
+    let pre = c.requires in
+    let first_node = c.first_node-first in
+    let wide = c.wide-count in
+    (ruling_begins pre.0 first_node.ensures (wide.ensures.0 ∙ c.nodes.ensures) wide.ensures.1, pre.2, pre.1)
+
+pub pattern_right-requires : goal.pattern_right-requires
+pattern_right-requires c =
+    let loop = c.loop-k in
+    (loop.invariant.0.file, loop.invariant.2, loop.invariant.1, ruling_below loop.invariant.0 c.loop-k-test.true)
+
+pub returns-then-not-pattern_right : goal.returns-then-not-pattern_right
+returns-then-not-pattern_right c =
+    let loop = c.loop-k in
+    let loop_test = c.loop-k-test in
+    ruling_refused loop.invariant.0 loop_test.true
+    (pattern_refused _ _ _ _ loop.invariant.0.start c.pattern_right.ensures c.if-not-pattern_right.true)
+
+pub loop-k-preserved : goal.loop-k-preserved
+loop-k-preserved c =
+    let loop = c.loop-k in
+    let loop_test = c.loop-k-test in (
+      ruling_more loop.invariant.0 loop_test.true
+          (pattern_accepted _ _ _ c.pattern_right.ensures c.if-not-pattern_right.false) refl,
+      loop.invariant.1,
+      loop.invariant.2,
+    )
+
+pub returns : goal.returns
+returns c = ruling_done c.loop-k.invariant.0 c.loop-k-test.false

@@ -1,0 +1,17 @@
+-- `sheet_rules::patterns::patterns` meets its contract. The loop's invariant: the rules of the nodes passed are accepted.
+use Rattle.sheet_rules.proofs.PatternSteps.{pattern_refused, pattern_accepted}
+use Rattle.sheet_rules.proofs.Ruling.{Ruling, ruling_begins, ruling_below, ruling_more, ruling_refused, ruling_done}
+use Rattle.sheet_rules.specs.Clauses.{ClausesOf}
+use Rattle.sheet_rules.specs.Seen.{TreesAccepted}
+use Rattle.definitions.specs.SheetRules.{pattern}
+use borrow.Author.Tests.{not-true, not-false}
+use mathlib.Core.Path.{◌∙◌, refl}
+use Prim.Native.Nat.{◌-◌}
+use borrow.Author.Rules.{rules}
+use Rattle.sheet_rules.proofs.patterns.patterns.Given as goal
+
+abbrev pub invariant-loop-k : goal.invariant-loop-k
+invariant-loop-k l = Ruling l.b l.starts l.first l.count l.k (pattern l.b) × TreesAccepted l.b × ClausesOf l.b l.held
+
+abbrev pub decreases-loop-k : goal.decreases-loop-k
+decreases-loop-k l = l.count - l.k

@@ -1,0 +1,10 @@
+-- `sheet_rules::seen::once` meets its contract.
+use Rattle.sheet_rules.proofs.SeenTables.{once_first, once_more}
+use borrow.Author.Rules.{rules}
+use Rattle.sheet_rules.proofs.seen.once.Goals as goal
+
+pub returns-then-n-lt1 : goal.returns-then-n-lt1
+returns-then-n-lt1 c = once_first _ c.if-n-lt1.true
+
+pub returns-else-n-lt1 : goal.returns-else-n-lt1
+returns-else-n-lt1 c = once_more _ c.if-n-lt1.false

@@ -1,0 +1,16 @@
+-- `sheet_rules::tree::children_right` meets its contract. The loop's invariant: the nodes named so far are right.
+use Rattle.sheet_rules.proofs.TreeSteps.{child_not_smaller, child_elsewhere, child_right_law}
+use Rattle.sheet_rules.specs.Nodes.{child_right}
+use Rattle.laws.proofs.Tests.{Testing, tests_begin, tests_go_on, tests_fail, tests_end}
+use Rattle.definitions.specs.References.{children}
+use native.Mathlib.Omega.{arith}
+use mathlib.Core.Path.{◌∙◌}
+use Prim.Native.Nat.{◌-◌}
+use borrow.Author.Rules.{rules}
+use Rattle.sheet_rules.proofs.tree.children_right.Given as goal
+
+abbrev pub invariant-loop-j : goal.invariant-loop-j
+invariant-loop-j l = Testing (λ i. child_right l.b l.rec l.k i) (children l.rec) l.count l.j
+
+abbrev pub decreases-loop-j : goal.decreases-loop-j
+decreases-loop-j l = l.count - l.j

@@ -1,0 +1,18 @@
+-- `sheet_rules::tree::is_body` meets its contract: a body is the last node before the end of its run.
+use Rattle.sheet_rules.proofs.TreeSteps.{node_in_table, owner_in_table, body_test}
+use borrow.Author.Rules.{rules}
+use Rattle.sheet_rules.proofs.tree.is_body.Goals as goal
+
+pub bounds-owners-k : goal.bounds-owners-k
+bounds-owners-k c = node_in_table c.requires
+
+pub bounds-ends-wide8 : goal.bounds-ends-wide8
+bounds-ends-wide8 c =
+    let pre = c.requires in
+    owner_in_table (pre) c.wide8.ensures.0
+
+pub returns : goal.returns
+returns c =
+    let pre = c.requires in
+    let wide8 = c.wide8 in
+    body_test (pre) wide8.ensures.0 c.wide.ensures.0

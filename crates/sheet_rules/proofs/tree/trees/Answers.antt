@@ -1,0 +1,45 @@
+-- `sheet_rules::tree::trees` meets its contract. The loop's invariant: the rules of the nodes passed are accepted.
+use Rattle.sheet_rules.proofs.Ruling.{Ruling, ruling_begins, ruling_below, ruling_more, ruling_refused, ruling_done}
+use Rattle.sheet_rules.proofs.TreeSteps.{tree_refused, tree_accepted}
+use Rattle.file_runs.specs.Runs.{RunEndTable, Owners}
+use Rattle.sheet_rules.specs.Seen.{TimesOf}
+use Rattle.definitions.specs.declared.Layout.TheVariants.{Sheet}
+use Rattle.definitions.specs.SheetRules.{tree}
+use borrow.Author.Tests.{not-true, not-false}
+use mathlib.Core.Path.{◌∙◌, refl}
+use Prim.Native.Nat.{◌-◌}
+use borrow.Author.Rules.{rules}
+use Rattle.sheet_rules.proofs.tree.trees.Goals as goal
+
+pub loop-k-init : goal.loop-k-init
+loop-k-init c =
+    let pre = c.requires in
+    let first_node = c.first_node-first in
+    let wide = c.wide-count in
+    (ruling_begins pre.0 first_node.ensures (wide.ensures.0 ∙ c.nodes.ensures) wide.ensures.1, pre.1, pre.2, pre.3)
+
+pub tree_right-requires : goal.tree_right-requires
+tree_right-requires c =
+    let loop = c.loop-k in
+    (record { file = loop.invariant.0.file; runs = loop.invariant.1; owned = loop.invariant.2; below = ruling_below loop.invariant.0 c.loop-k-test.true }, loop.invariant.3)
+
+pub returns-then-not-tree_right : goal.returns-then-not-tree_right
+returns-then-not-tree_right c =
+    let loop = c.loop-k in
+    let loop_test = c.loop-k-test in
+    ruling_refused loop.invariant.0 loop_test.true
+    (tree_refused _ _ _ _ loop.invariant.0.start c.tree_right.ensures c.if-not-tree_right.true)
+
+pub loop-k-preserved : goal.loop-k-preserved
+loop-k-preserved c =
+    let loop = c.loop-k in
+    let loop_test = c.loop-k-test in (
+      ruling_more loop.invariant.0 loop_test.true
+          (tree_accepted _ _ _ c.tree_right.ensures c.if-not-tree_right.false) refl,
+      loop.invariant.1,
+      loop.invariant.2,
+      loop.invariant.3,
+    )
+
+pub returns : goal.returns
+returns c = ruling_done c.loop-k.invariant.0 c.loop-k-test.false

@@ -1,0 +1,18 @@
+-- `sheet_rules::tree::trees` meets its contract. The loop's invariant: the rules of the nodes passed are accepted.
+use Rattle.sheet_rules.proofs.Ruling.{Ruling, ruling_begins, ruling_below, ruling_more, ruling_refused, ruling_done}
+use Rattle.sheet_rules.proofs.TreeSteps.{tree_refused, tree_accepted}
+use Rattle.file_runs.specs.Runs.{RunEndTable, Owners}
+use Rattle.sheet_rules.specs.Seen.{TimesOf}
+use Rattle.definitions.specs.declared.Layout.TheVariants.{Sheet}
+use Rattle.definitions.specs.SheetRules.{tree}
+use borrow.Author.Tests.{not-true, not-false}
+use mathlib.Core.Path.{◌∙◌, refl}
+use Prim.Native.Nat.{◌-◌}
+use borrow.Author.Rules.{rules}
+use Rattle.sheet_rules.proofs.tree.trees.Given as goal
+
+abbrev pub invariant-loop-k : goal.invariant-loop-k
+invariant-loop-k l = Ruling l.b l.starts l.first l.count l.k (tree l.b) × RunEndTable Sheet l.b l.ends × Owners l.b l.owners × TimesOf l.b l.times
+
+abbrev pub decreases-loop-k : goal.decreases-loop-k
+decreases-loop-k l = l.count - l.k
