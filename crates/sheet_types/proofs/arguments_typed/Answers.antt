@@ -1,0 +1,51 @@
+-- `sheet_types::arguments_typed` meets its contract. The loop's invariant: the arguments so far have the types declared.
+use mathlib.Core.Path.{refl, ◌∙◌}
+use Prim.Native.Nat.{◌+◌, ◌-◌}
+use lib.Dec.{eqb}
+use native.Mathlib.Omega.{arith}
+use Rattle.definitions.specs.Records.{field, field_count}
+use Rattle.laws.proofs.Tests.{Testing, tests_begin, tests_go_on, tests_fail, tests_end, same_test, differ_test}
+use Rattle.laws.proofs.Types.{arguments_tested}
+use Rattle.sheet_types.specs.Tables.{type_in}
+use borrow.Author.Rules.{rules}
+use Rattle.sheet_types.proofs.arguments_typed.Goals as goal
+
+pub returns-then-n-lt1 : goal.returns-then-n-lt1
+returns-then-n-lt1 c = arguments_tested _ _ _ (tests_end (tests_begin {n = 0} (omega (arith, c.field_count-n.ensures, c.if-n-lt1.true))) (omega arith))
+
+pub loop-i-init : goal.loop-i-init
+loop-i-init c = tests_begin (omega (arith, c.field_count-n.ensures))
+
+pub field_inside-requires : goal.field_inside-requires
+field_inside-requires c =
+    let loop = c.loop-i in
+    omega (arith, loop.invariant.count, c.loop-i-test.true)
+
+pub overflow_add-first : goal.overflow_add-first
+overflow_add-first c =
+    let pre = c.requires in
+    let field_count = c.field_count-n in
+    let loop_test = c.loop-i-test in
+    record { fits = omega (arith, pre.0, pre.1, field_count.ensures, loop_test.true) }
+
+pub returns-then-type_in-field : goal.returns-then-type_in-field
+returns-then-type_in-field c =
+    let loop = c.loop-i in
+    let loop_test = c.loop-i-test in
+    let field_inside = c.field_inside in
+    let type_in = c.type_in in
+    arguments_tested _ _ _
+    (tests_fail loop.invariant loop_test.true (differ_test (type_in.ensures ∙ rw field_inside.ensures refl) c.field.ensures c.if-type_in-field.true))
+
+pub loop-i-preserved : goal.loop-i-preserved
+loop-i-preserved c =
+    let loop = c.loop-i in
+    let loop_test = c.loop-i-test in
+    let field_inside = c.field_inside in
+    let type_in = c.type_in in
+    tests_go_on loop.invariant loop_test.true (same_test (type_in.ensures ∙ rw field_inside.ensures refl) c.field.ensures c.if-type_in-field.false)
+
+pub returns : goal.returns
+returns c =
+    let loop = c.loop-i in
+    arguments_tested _ _ _ (tests_end loop.invariant c.loop-i-test.false)

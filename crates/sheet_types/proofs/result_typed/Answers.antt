@@ -1,0 +1,21 @@
+-- `sheet_types::result_typed` meets its contract.
+use Rattle.sheet_rules.proofs.TreeSteps.{node_in_table}
+use borrow.Author.Tests.{not-true, not-false}
+use Rattle.sheet_types.proofs.TypeSteps.{result_elsewhere, result_compared}
+use borrow.Author.Rules.{rules}
+use Rattle.sheet_types.proofs.result_typed.Goals as goal
+
+pub returns-then-not-is_result : goal.returns-then-not-is_result
+returns-then-not-is_result c = result_elsewhere _ c.is_result.ensures c.if-not-is_result.true
+
+pub bounds-owners-k : goal.bounds-owners-k
+bounds-owners-k c =
+    let pre = c.requires in
+    node_in_table pre.0
+
+pub returns : goal.returns
+returns c =
+    let pre = c.requires in
+    let is_result = c.is_result in
+    let if1 = c.if-not-is_result in
+    result_compared pre.0 pre.2 is_result.ensures if1.false c.wide8.ensures.0 _ c.function_field.ensures

@@ -1,0 +1,33 @@
+-- `translation_length::counting::count_nodes` meets its contract. The loop's invariant: the words of the nodes passed are summed.
+use Prim.Native.Nat.{◌-◌}
+use mathlib.Core.Path.{◌∙◌}
+use native.Mathlib.Omega.{arith}
+use Rattle.translation_length.specs.Words.{node_length}
+use Rattle.translation_length.proofs.WordCounts.{Summed, none_summed, one_summed, sum_within, all_summed, words_limit, node_counted}
+use borrow.Author.Rules.{rules}
+use Rattle.translation_length.proofs.counting.count_nodes.Goals as goal
+
+pub loop-k-init : goal.loop-k-init
+loop-k-init c = none_summed
+
+pub overflow_add-total : goal.overflow_add-total
+overflow_add-total c =
+    let pre = c.requires in
+    let taken = c.loop-k-test.true in
+    let count = c.wide-count.ensures.0 ∙ c.nodes.ensures in
+    let node = node_counted pre taken count c.first_node-first.ensures.0 c.indexed.ensures c.count_node-total.ensures in
+    omega (arith, sum_within c.loop-k.invariant taken node count, words_limit _ pre.accepted)
+
+pub loop-k-preserved : goal.loop-k-preserved
+loop-k-preserved c =
+    let pre = c.requires in
+    let taken = c.loop-k-test.true in
+    let count = c.wide-count.ensures.0 ∙ c.nodes.ensures in
+    one_summed c.loop-k.invariant taken
+    (node_counted pre taken count c.first_node-first.ensures.0 c.indexed.ensures c.count_node-total.ensures)
+
+pub returns : goal.returns
+returns c =
+    let pre = c.requires in
+    let sum = all_summed c.loop-k.invariant c.loop-k-test.false (c.wide-count.ensures.0 ∙ c.nodes.ensures) in
+    (sum, omega (arith, sum, words_limit _ pre.accepted))

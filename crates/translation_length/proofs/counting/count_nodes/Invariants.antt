@@ -1,0 +1,14 @@
+-- `translation_length::counting::count_nodes` meets its contract. The loop's invariant: the words of the nodes passed are summed.
+use Prim.Native.Nat.{◌-◌}
+use mathlib.Core.Path.{◌∙◌}
+use native.Mathlib.Omega.{arith}
+use Rattle.translation_length.specs.Words.{node_length}
+use Rattle.translation_length.proofs.WordCounts.{Summed, none_summed, one_summed, sum_within, all_summed, words_limit, node_counted}
+use borrow.Author.Rules.{rules}
+use Rattle.translation_length.proofs.counting.count_nodes.Given as goal
+
+abbrev pub invariant-loop-k : goal.invariant-loop-k
+invariant-loop-k l = Summed (node_length l.b) l.count l.total l.k
+
+abbrev pub decreases-loop-k : goal.decreases-loop-k
+decreases-loop-k l = l.count - l.k

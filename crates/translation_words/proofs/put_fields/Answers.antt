@@ -1,0 +1,26 @@
+-- `translation_words::put_fields` meets its contract. The loop's invariant: the fields passed are written.
+use mathlib.Core.Path.{◌∙◌}
+use Rattle.translation_words.proofs.Writing.{PartsWritten, parts_begin, parts_go_on, wrote_element, parts_end}
+use Prim.Native.Nat.{◌-◌}
+use mathlib.Core.List.{[], ◌∷◌}
+use Rattle.translation_words.specs.Writing.{field_words}
+use Rattle.definitions.specs.Records.{field}
+use borrow.Author.Rules.{rules}
+use Rattle.translation_words.proofs.put_fields.Goals as goal
+
+pub loop-j-init : goal.loop-j-init
+loop-j-init c = parts_begin
+
+pub loop-j-preserved : goal.loop-j-preserved
+loop-j-preserved c =
+    parts_go_on c.loop-j.invariant c.loop-j-test.true
+    (wrote_element (c.wide.ensures.0 ∙ c.field.ensures) c.put-next.ensures)
+
+pub shape_of-out : goal.shape_of-out
+shape_of-out c = c.loop-j.invariant.wrote.kept
+
+pub returns : goal.returns
+unfolding field_words
+returns c =
+    let inv = c.loop-j.invariant in
+    parts_end inv c.loop-j-test.false c.field_count-count.ensures

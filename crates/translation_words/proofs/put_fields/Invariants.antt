@@ -1,0 +1,15 @@
+-- `translation_words::put_fields` meets its contract. The loop's invariant: the fields passed are written.
+use mathlib.Core.Path.{◌∙◌}
+use Rattle.translation_words.proofs.Writing.{PartsWritten, parts_begin, parts_go_on, wrote_element, parts_end}
+use Prim.Native.Nat.{◌-◌}
+use mathlib.Core.List.{[], ◌∷◌}
+use Rattle.translation_words.specs.Writing.{field_words}
+use Rattle.definitions.specs.Records.{field}
+use borrow.Author.Rules.{rules}
+use Rattle.translation_words.proofs.put_fields.Given as goal
+
+abbrev pub invariant-loop-j : goal.invariant-loop-j
+invariant-loop-j l = PartsWritten l.initial.out l.at (λ i. field l.rec i ∷ []) l.count l.j l.next l.out
+
+abbrev pub decreases-loop-j : goal.decreases-loop-j
+decreases-loop-j l = l.count - l.j
