@@ -1,0 +1,119 @@
+-- `canonical_writer::order::enter_children` meets its contract. The loop's invariant: the nodes that the fields passed name are entered.
+use mathlib.Core.Logic.{⊎_elim}
+use Prim.Native.Nat.{◌-◌}
+use native.Mathlib.Omega.{arith}
+use Rattle.definitions.specs.declared.Layout.TheVariants.{Sheet}
+use Rattle.accepted.proofs.Head.{nodes_limit}
+use Rattle.file_records.proofs.Indices.{node_reached}
+use Rattle.canonical_writer.proofs.FieldSteps.{first_field, field_inside}
+use Rattle.canonical_writer.proofs.Passing.{Passing, node_few, own_size, size_room, passing_begins, passing_plain, child_few, child_size, child_step, passing_node}
+use Rattle.canonical_writer.proofs.ChildOrder.{Children, renumbered, children_begin, children_done, children_plain, children_node}
+use borrow.Author.Rules.{rules}
+use Rattle.canonical_writer.proofs.order.enter_children.Goals as goal
+
+pub bounds-order-q : goal.bounds-order-q
+bounds-order-q c =
+    let pre = c.requires in
+    omega (arith, pre.below, nodes_limit Sheet _ pre.sheet.sheet.file.accepted)
+
+pub bounds-sizes-k : goal.bounds-sizes-k
+bounds-sizes-k c = node_few (renumbered c.requires c.wide-k.ensures.0)
+
+pub overflow_sub-start : goal.overflow_sub-start
+overflow_sub-start c =
+    let node = renumbered c.requires c.wide-k.ensures.0 in
+    omega (arith, own_size node c.wide.ensures.0, size_room node)
+
+pub loop-i-init : goal.loop-i-init
+loop-i-init c =
+    let pre = c.requires in
+    let wide = c.wide-k in
+    let first_node = c.first_node in
+    let indexed = c.indexed-rec in
+    let kind = c.kind-node_kind in
+    let field_count = c.field_count-count in
+    let node = renumbered pre wide.ensures.0 in
+    let there = node_reached Sheet _ _ _ _ _ pre.sheet.sheet.file node.numbered.below first_node.ensures.0 indexed.ensures in
+    let size = own_size node c.wide.ensures.0 in (
+      passing_begins node (first_field there kind.ensures field_count.ensures) (omega (arith, size, size_room node)),
+      children_begin pre wide.ensures.0 (omega (arith, size, size_room node)),
+    )
+
+pub field_inside-x-requires : goal.field_inside-x-requires
+field_inside-x-requires c =
+    field_inside c.loop-i.invariant.0.at_field c.loop-i-test.true
+
+pub bounds-sizes-wide : goal.bounds-sizes-wide
+bounds-sizes-wide c =
+    let inv = c.loop-i.invariant in
+    let taken = c.loop-i-test.true in
+    let names_node = c.names_node in
+    let if1 = c.if-names_node in
+    let field_inside = c.field_inside-x in
+    child_few inv.0 taken names_node.ensures if1.true field_inside.ensures c.wide-then-names_node.ensures.0
+
+pub overflow_add-start-then-names_node : goal.overflow_add-start-then-names_node
+overflow_add-start-then-names_node c =
+    let inv = c.loop-i.invariant in
+    let taken = c.loop-i-test.true in
+    let names_node = c.names_node in
+    let if1 = c.if-names_node in
+    let field_inside = c.field_inside-x in
+    let wide3 = c.wide-then-names_node in
+    let step = child_step inv.0 taken names_node.ensures if1.true field_inside.ensures wide3.ensures.0 c.wide-start.ensures.0 in
+    omega (arith, step)
+
+pub overflow_sub-order : goal.overflow_sub-order
+overflow_sub-order c =
+    let inv = c.loop-i.invariant in
+    let taken = c.loop-i-test.true in
+    let names_node = c.names_node in
+    let if1 = c.if-names_node in
+    let field_inside = c.field_inside-x in
+    let wide3 = c.wide-then-names_node in
+    let step = child_step inv.0 taken names_node.ensures if1.true field_inside.ensures wide3.ensures.0 c.wide-start.ensures.0 in
+    omega (arith, step)
+
+pub offset_bounds-order-start : goal.offset_bounds-order-start
+offset_bounds-order-start c =
+    let inv = c.loop-i.invariant in
+    let taken = c.loop-i-test.true in
+    let names_node = c.names_node in
+    let if1 = c.if-names_node in
+    let field_inside = c.field_inside-x in
+    let wide3 = c.wide-then-names_node in
+    let step = child_step inv.0 taken names_node.ensures if1.true field_inside.ensures wide3.ensures.0 c.wide-start.ensures.0 in
+    record { fits = omega (arith, step) }
+
+pub bounds-order-start : goal.bounds-order-start
+bounds-order-start c =
+    let inv = c.loop-i.invariant in
+    let taken = c.loop-i-test.true in
+    let names_node = c.names_node in
+    let if1 = c.if-names_node in
+    let field_inside = c.field_inside-x in
+    let wide3 = c.wide-then-names_node in
+    let step = child_step inv.0 taken names_node.ensures if1.true field_inside.ensures wide3.ensures.0 c.wide-start.ensures.0 in
+    omega (arith, step)
+
+pub loop-i-preserved : goal.loop-i-preserved
+loop-i-preserved c =
+    let inv = c.loop-i.invariant in
+    let taken = c.loop-i-test.true in
+    let names_node = c.names_node in
+    let names = names_node.ensures in
+    ⊎_elim
+    (λ w.
+    let size = child_size inv.0 taken names w.0.taken w.1.ensures w.2.ensures.0 w.4.ensures.0 in (
+      passing_node inv.0 taken names w.0.taken w.1.ensures (omega (arith, w.6, size)),
+      rw w.5 (children_node inv.0 inv.1 taken names w.0.taken w.1.ensures (omega (arith, w.6, size)) (omega (arith, w.6, size))),
+    ))
+    (λ w. (rw w.2 (passing_plain inv.0 taken names w.0.left), rw (w.1, w.2) (children_plain inv.0 inv.1 taken names w.0.left)))
+    c.if-names_node.branch
+
+pub returns : goal.returns
+returns c =
+    let pre = c.requires in
+    let wide = c.wide-k in
+    let inv = c.loop-i.invariant in
+    children_done pre wide.ensures.0 inv.0 inv.1 c.loop-i-test.false

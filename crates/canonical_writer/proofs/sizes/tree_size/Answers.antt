@@ -1,0 +1,74 @@
+-- `canonical_writer::sizes::tree_size` meets its contract. The loop's invariant: the size so far is that of the fields passed, and one.
+use mathlib.Core.Path.{◌≡◌, ap}
+use mathlib.Core.Logic.{⊎_elim}
+use Prim.Native.Nat.{suc, ◌-◌}
+use native.Mathlib.Omega.{arith}
+use Rattle.definitions.specs.CanonicalSheet.{size_of}
+use Rattle.definitions.specs.declared.Layout.TheVariants.{Sheet}
+use Rattle.accepted.proofs.Head.{nodes_limit}
+use Rattle.file_records.proofs.Indices.{node_reached}
+use Rattle.canonical_sheets.proofs.WholeTrees.{up_to}
+use Rattle.canonical_writer.proofs.SizeLimits.{size_limit}
+use Rattle.canonical_writer.proofs.FieldSteps.{AtField, first_field, next_field, field_inside, none_passed, all_passed, plain_size, node_smaller, node_size, size_within, node_entry}
+use borrow.Author.Rules.{rules}
+use Rattle.canonical_writer.proofs.sizes.tree_size.Goals as goal
+
+pub loop-i-init : goal.loop-i-init
+loop-i-init c =
+    let pre = c.requires in
+    let first_node = c.first_node in
+    let indexed = c.indexed-rec in
+    let there = node_reached Sheet _ _ _ _ _ pre.sheet.file pre.below first_node.ensures.0 indexed.ensures in
+    let first = first_field there c.kind-node_kind.ensures c.field_count-count.ensures in
+    (first, omega (arith, none_passed first))
+
+pub field_inside-requires : goal.field_inside-requires
+field_inside-requires c =
+    field_inside c.loop-i.invariant.0 c.loop-i-test.true
+
+pub bounds-sizes-wide : goal.bounds-sizes-wide
+bounds-sizes-wide c =
+    let pre = c.requires in
+    let if1 = c.if-names_node in
+    let names_node = c.names_node in
+    let loop_test = c.loop-i-test in
+    let loop = c.loop-i in
+    let x = node_smaller loop.invariant.0 pre.sheet.accepted pre.below loop_test.true names_node.ensures if1.true c.field_inside.ensures in
+    omega (arith, x, c.wide.ensures.0, pre.below, nodes_limit Sheet _ pre.sheet.file.accepted)
+
+pub overflow_add-size : goal.overflow_add-size
+overflow_add-size c =
+    let pre = c.requires in
+    let field_inside = c.field_inside in
+    let if1 = c.if-names_node in
+    let names_node = c.names_node in
+    let taken = c.loop-i-test.true in
+    let inv = c.loop-i.invariant in
+    let accepted = pre.sheet.accepted in
+    let entry = node_entry inv.0 accepted pre.below taken names_node.ensures if1.true field_inside.ensures pre.sized (omega arith) c.wide.ensures.0 in
+    let size = node_size inv.0 accepted pre.below taken names_node.ensures if1.true field_inside.ensures in
+    let within = size_within inv.0 accepted pre.below taken names_node.ensures if1.true field_inside.ensures in
+    omega (arith, inv.1, entry, size, within, size_limit _ accepted pre.below, nodes_limit Sheet _ pre.sheet.file.accepted)
+
+pub loop-i-preserved : goal.loop-i-preserved
+loop-i-preserved c =
+    let pre = c.requires in
+    let names_node = c.names_node in
+    let taken = c.loop-i-test.true in
+    let inv = c.loop-i.invariant in
+    let accepted = pre.sheet.accepted in (
+      next_field inv.0 taken,
+      ⊎_elim
+          (λ w.
+          let entry = node_entry inv.0 accepted pre.below taken names_node.ensures w.0.taken w.1.ensures pre.sized (omega arith) w.2.ensures.0 in
+          let size = node_size inv.0 accepted pre.below taken names_node.ensures w.0.taken w.1.ensures in
+          omega (arith, w.4, inv.1, entry, size))
+          (λ w. omega (arith, w.1, inv.1, plain_size inv.0 names_node.ensures w.0.left))
+          c.if-names_node.branch,
+    )
+
+pub returns : goal.returns
+returns c =
+    let pre = c.requires in
+    let inv = c.loop-i.invariant in
+    omega (arith, inv.1, ap size_of (all_passed inv.0 pre.sheet.accepted pre.below c.loop-i-test.false))

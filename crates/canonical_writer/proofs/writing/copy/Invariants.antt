@@ -1,0 +1,12 @@
+-- `canonical_writer::writing::copy` meets its contract. The loop's invariant: the bytes passed are copied.
+use Prim.Native.Nat.{◌-◌}
+use native.Mathlib.Omega.{arith}
+use Rattle.canonical_writer.proofs.Copying.{Copying, copying_begins, copying_goes_on, copying_done}
+use borrow.Author.Rules.{rules}
+use Rattle.canonical_writer.proofs.writing.copy.Given as goal
+
+abbrev pub invariant-loop-i : goal.invariant-loop-i
+invariant-loop-i l = Copying l.b l.initial.out l.out l.end l.i
+
+abbrev pub decreases-loop-i : goal.decreases-loop-i
+decreases-loop-i l = l.end - l.i

@@ -1,0 +1,14 @@
+-- `canonical_writer::writing::put_nodes` meets its contract. The loop's invariant: the nodes with the numbers passed are written.
+use mathlib.Core.Path.{sym, ◌∙◌}
+use Prim.Native.Nat.{◌-◌}
+use native.Mathlib.Omega.{arith}
+use Rattle.translation_words.proofs.Writing.{PartsWritten, parts_begin, parts_go_on, parts_end, wrote_as}
+use Rattle.canonical_writer.specs.Order.{entry_at, numbered_words}
+use borrow.Author.Rules.{rules}
+use Rattle.canonical_writer.proofs.writing.put_nodes.Given as goal
+
+abbrev pub invariant-loop-q : goal.invariant-loop-q
+invariant-loop-q l = PartsWritten l.initial.out l.at (λ i. numbered_words l.b i (entry_at l.order i)) l.count l.q l.next l.out
+
+abbrev pub decreases-loop-q : goal.decreases-loop-q
+decreases-loop-q l = l.count - l.q

@@ -1,0 +1,12 @@
+-- `translator::file::fits` meets its contract: the greatest length, or the length that is counted.
+use Rattle.translator.proofs.Promises.{greatest_fits, counted_fits}
+use borrow.Author.Rules.{rules}
+use Rattle.translator.proofs.file.fits.Goals as goal
+
+pub returns-then-room-ge-TRANSLATION_BYTES : goal.returns-then-room-ge-TRANSLATION_BYTES
+returns-then-room-ge-TRANSLATION_BYTES c =
+    let pre = c.requires in
+    greatest_fits _ pre.sheet.accepted _ c.if-room-ge-TRANSLATION_BYTES.true
+
+pub returns : goal.returns
+returns c = counted_fits _ c.count_bytes.ensures

@@ -1,0 +1,16 @@
+-- `translator::formals::put_formal` meets its contract: the start of the record, then the actuals.
+use Rattle.translation_words.proofs.Writing.{wrote_record}
+use Rattle.translator.proofs.FormalSteps.{range_right, actuals_length}
+use borrow.Author.Rules.{rules}
+use Rattle.translator.proofs.formals.put_formal.Goals as goal
+
+pub overflow_sub-count : goal.overflow_sub-count
+overflow_sub-count c =
+    let pre = c.requires in
+    range_right pre c.wide-2.ensures.0 c.wide.ensures.0
+
+pub returns : goal.returns
+returns c =
+    let pre = c.requires in
+    let length = actuals_length pre c.wide-2.ensures.0 c.wide.ensures.0 in
+    wrote_record c.put_start-fields.ensures c.put_actuals.ensures length
