@@ -12,7 +12,7 @@ use lib.Dec.{leb}
 use lib.Seq.{take_all, take-append_seam, drop-append-add, drop-drop}
 use borrow.Author.Tests.{le-leb}
 use borrow.Rule.Slice.PartMut.{mid_of, put_mid}
-use denote.Ref.{Bor}
+use denote.MutBor.{MutBor}
 use Rattle.definitions.specs.Sizes.{answer_size}
 use Rattle.definitions.specs.Lists.{joined}
 use Rattle.definitions.specs.Layouts.{readings}
@@ -108,7 +108,7 @@ module _ {b : List ℕ} {rs : List ℤ} {steps nesting cells_allowed : ℕ} {bef
       }
 
 -- the loop over the rows, with the first `row` of them run
-pub record Running (b tab : List ℕ) (rows : ℕ) (rs : List ℤ) (steps nesting cells_allowed : ℕ) (cells₀ : Bor (List ℕ)) (room : List ℕ) (cells : Bor (List ℕ)) (records : List ℕ)
+pub record Running (b tab : List ℕ) (rows : ℕ) (rs : List ℤ) (steps nesting cells_allowed : ℕ) (cells₀ : MutBor (List ℕ)) (room : List ℕ) (cells : MutBor (List ℕ)) (records : List ℕ)
     (row : ℕ) : Type 0 where
   pub reached : row ≤ rows
   pub fit : RowsFit b rs (length room) rows
@@ -116,7 +116,7 @@ pub record Running (b tab : List ℕ) (rows : ℕ) (rs : List ℤ) (steps nestin
   pub ran : RanRows b row rs steps nesting cells_allowed cells₀.now room cells.now records
   pub stays : cells.ref_ptr ≡ cells₀.ref_ptr
 
-module _ {b tab : List ℕ} {rows : ℕ} {rs : List ℤ} {steps nesting cells_allowed : ℕ} {cells₀ : Bor (List ℕ)} {room : List ℕ} {cells : Bor (List ℕ)} {records : List ℕ} {row : ℕ}
+module _ {b tab : List ℕ} {rows : ℕ} {rs : List ℤ} {steps nesting cells_allowed : ℕ} {cells₀ : MutBor (List ℕ)} {room : List ℕ} {cells : MutBor (List ℕ)} {records : List ℕ} {row : ℕ}
     (w : Running b tab rows rs steps nesting cells_allowed cells₀ room cells records row) where
   pub running_kept : length records ≡ length room
   running_kept = records_kept row (omega (arith, w.reached, w.fit.roomy)) w.ran

@@ -31,7 +31,7 @@ pub fn run_rows(
 ) -> Written
     ensures { RunsRows file.now rows readings.now steps nesting cells_allowed cells.old.now records.old result
         cells.new.now records.new
-        × (cells.new.ptr ≡ cells.old.ptr) }
+        × (cells.new.ref_ptr ≡ cells.old.ref_ptr) }
 {
     let mut table = [0u64; TABLE_ENTRIES];
     let verdict = read_file(file, &mut table);
@@ -66,7 +66,7 @@ fn run_accepted(
     requires { Readable file.now table.old }
     ensures { RunsRows file.now rows readings.now steps nesting cells_allowed cells.old.now records.old result
         cells.new.now records.new
-        × (cells.new.ptr ≡ cells.old.ptr) }
+        × (cells.new.ref_ptr ≡ cells.old.ref_ptr) }
 {
     let verdict = check_rows(
         file,

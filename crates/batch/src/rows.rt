@@ -49,7 +49,7 @@ fn run_row(
     requires { Readable file.now table.old × RowFits file.now readings.now (length records.old) row }
     ensures { RanRow file.now row readings.now steps nesting cells_allowed cells.old.now records.old
         cells.new.now records.new
-        × (cells.new.ptr ≡ cells.old.ptr)
+        × (cells.new.ref_ptr ≡ cells.old.ref_ptr)
         × Readable file.now table.new }
 {
     let part = row_of(file, readings, row);
@@ -72,7 +72,7 @@ pub(crate) fn run_each(
     requires { Readable file.now table.old × RowsFit file.now readings.now (length records.old) rows }
     ensures { RanRows file.now rows readings.now steps nesting cells_allowed cells.old.now records.old
         cells.new.now records.new
-        × (cells.new.ptr ≡ cells.old.ptr) }
+        × (cells.new.ref_ptr ≡ cells.old.ref_ptr) }
 {
     let mut row: usize = 0;
     while row < rows {

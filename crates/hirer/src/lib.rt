@@ -29,7 +29,7 @@ pub fn run_for_hirer(
     cells: &mut &mut [u8],
 ) -> Answer
     ensures { RunsForHirer file.now set readings.now steps nesting cells_allowed cells.old.now result cells.new.now
-        × (cells.new.ptr ≡ cells.old.ptr) }
+        × (cells.new.ref_ptr ≡ cells.old.ref_ptr) }
 {
     let mut table = [0u64; TABLE_ENTRIES];
     let verdict = read_file(file, &mut table);
@@ -61,7 +61,7 @@ fn run_accepted(
 ) -> Answer
     requires { Readable file.now table.old }
     ensures { RunsForHirer file.now set readings.now steps nesting cells_allowed cells.old.now result cells.new.now
-        × (cells.new.ptr ≡ cells.old.ptr) }
+        × (cells.new.ref_ptr ≡ cells.old.ref_ptr) }
 {
     let open = check_readings(file, table, set);
     let width = wide(layout::readings(file));

@@ -26,7 +26,7 @@ pub fn translate_and_run(
     cells: &mut &mut [u8],
 ) -> Answer
     ensures { Joins sheet.now out.old readings.now steps nesting cells_allowed cells.old.now result out.new cells.new.now
-        × (cells.new.ptr ≡ cells.old.ptr) }
+        × (cells.new.ref_ptr ≡ cells.old.ref_ptr) }
 {
     let expected = translated_length(sheet, out.len());
     match expected {
@@ -59,7 +59,7 @@ fn run_translated(
 ) -> Answer
     requires { Fits sheet.now (length out.old) size }
     ensures { Joins sheet.now out.old readings.now steps nesting cells_allowed cells.old.now result out.new cells.new.now
-        × (cells.new.ptr ≡ cells.old.ptr) }
+        × (cells.new.ref_ptr ≡ cells.old.ref_ptr) }
 {
     if readings.len() != wide(layout::readings(sheet)) {
         return refused(numbers::BAD_READINGS, 0);

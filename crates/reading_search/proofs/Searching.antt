@@ -9,7 +9,7 @@ use lib.IntN.{ℤ}
 use lib.ListN.{length, set, length-set}
 use lib.Seq.{set-set}
 use borrow.Author.Tests.{le-ltb, lt-ltb}
-use denote.Ref.{Bor}
+use denote.MutBor.{MutBor}
 use mir.Syntax.{w32}
 use mir.Val.{to_z, of_z, SFits}
 use mir.ValLaws.{to_z-of_z}
@@ -80,7 +80,7 @@ unfolding readings_tried
 tried_length rs q i = length-set rs q.position (value_at q.lowest i)
 
 -- the loop over the values, with those before the last `left` tried
-pub record Searching (b tab : List ℕ) (rs : List ℤ) (q : Query) (steps nesting cells_allowed : ℕ) (cells₀ cells : Bor (List ℕ)) (left : ℕ) : Type 0 where
+pub record Searching (b tab : List ℕ) (rs : List ℤ) (q : Query) (steps nesting cells_allowed : ℕ) (cells₀ cells : MutBor (List ℕ)) (left : ℕ) : Type 0 where
   pub reached : left ≤ value_count q.lowest q.highest
   pub readable : Readable b tab
   pub fits : SearchFits b rs q nesting cells_allowed (length cells₀.now)
@@ -89,7 +89,7 @@ pub record Searching (b tab : List ℕ) (rs : List ℤ) (q : Query) (steps nesti
   pub unfound : (i : ℕ) → i < value_count q.lowest q.highest - left → run_finds b rs q steps nesting cells_allowed i ≡ false
   pub stays : cells.ref_ptr ≡ cells₀.ref_ptr
 
-module _ {b : List ℕ} {rs : List ℤ} {q : Query} {steps nesting cells_allowed : ℕ} {cells₀ : Bor (List ℕ)} where
+module _ {b : List ℕ} {rs : List ℤ} {q : Query} {steps nesting cells_allowed : ℕ} {cells₀ : MutBor (List ℕ)} where
   pub searching_begins : {tab : List ℕ} {count : ℕ} → SearchFits b rs q nesting cells_allowed (length cells₀.now) → Readable b tab → readings_held b tab ≡ rs
       → count ≡ value_count q.lowest q.highest → Searching b tab rs q steps nesting cells_allowed cells₀ cells₀ count
   unfolding cells_in_turn
@@ -105,7 +105,7 @@ module _ {b : List ℕ} {rs : List ℤ} {q : Query} {steps nesting cells_allowed
         stays = refl;
       }
 
-  module _ {tab : List ℕ} {cells : Bor (List ℕ)} {left : ℕ} (w : Searching b tab rs q steps nesting cells_allowed cells₀ cells left) where
+  module _ {tab : List ℕ} {cells : MutBor (List ℕ)} {left : ℕ} (w : Searching b tab rs q steps nesting cells_allowed cells₀ cells left) where
     abbrev count : ℕ
     count = value_count q.lowest q.highest
 
@@ -159,7 +159,7 @@ module _ {b : List ℕ} {rs : List ℤ} {q : Query} {steps nesting cells_allowed
           }
 
       -- or the search goes on
-      pub searching_goes_on : {cells' : Bor (List ℕ)} → r ≡ false → cells'.now ≡ after → cells'.ref_ptr ≡ cells.ptr
+      pub searching_goes_on : {cells' : MutBor (List ℕ)} → r ≡ false → cells'.now ≡ after → cells'.ref_ptr ≡ cells.ptr
           → Searching b tab' rs q steps nesting cells_allowed cells₀ cells' (left - 1)
       searching_goes_on h e s =
           let n : count - (left - 1) ≡ suc i = omega (arith, more, next, w.reached) in

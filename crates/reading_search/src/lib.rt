@@ -33,7 +33,7 @@ pub fn find_reading(
 ) -> Searched
     ensures { FindsReading file.now readings.now (query position lowest highest wanted) steps nesting cells_allowed cells.old.now result
         cells.new.now
-        × (cells.new.ptr ≡ cells.old.ptr) }
+        × (cells.new.ref_ptr ≡ cells.old.ref_ptr) }
 {
     let mut table = [0u64; TABLE_ENTRIES];
     let verdict = read_file(file, &mut table);
@@ -72,7 +72,7 @@ fn search_accepted(
     requires { Readable file.now table.old }
     ensures { FindsReading file.now readings.now (query position lowest highest wanted) steps nesting cells_allowed cells.old.now result
         cells.new.now
-        × (cells.new.ptr ≡ cells.old.ptr) }
+        × (cells.new.ref_ptr ≡ cells.old.ref_ptr) }
 {
     let verdict = check_search(
         file,

@@ -51,7 +51,7 @@ fn try_value(
     requires { Triable file.now table.old position nesting cells_allowed cells.old.now }
     ensures { Tried file.now table.old position z wanted steps nesting cells_allowed cells.old.now result
         table.new cells.new.now
-        × (cells.new.ptr ≡ cells.old.ptr) }
+        × (cells.new.ref_ptr ≡ cells.old.ref_ptr) }
 {
     set_reading(table, wide32(position), z);
     let end = run_held(file, table, steps, nesting, cells_allowed, cells);
@@ -77,7 +77,7 @@ pub(crate) fn search_range(
         × SearchFits file.now readings.now (query position lowest highest wanted) nesting cells_allowed (length cells.old.now) }
     ensures { Searches file.now readings.now (query position lowest highest wanted) steps nesting cells_allowed cells.old.now result
         cells.new.now
-        × (cells.new.ptr ≡ cells.old.ptr) }
+        × (cells.new.ref_ptr ≡ cells.old.ref_ptr) }
 {
     set_readings(table, readings);
     let count = value_count(lowest, highest);

@@ -11,7 +11,7 @@ use lib.IntN.{ℤ}
 use lib.ListN.{get_or}
 use lib.Dec.{ltb}
 use borrow.Author.Tests.{lt-ltb, le-ltb, ne_eqb}
-use denote.Ref.{Bor}
+use denote.MutBor.{MutBor}
 use Rattle.definitions.specs.Sizes.{most_cells}
 use Rattle.definitions.specs.Numbers.{no_cell}
 use Rattle.definitions.specs.TranslationKinds as kinds
@@ -65,24 +65,24 @@ unfolding reached_of reach state_of call_closed closed_lent closing_lent
 closed_reached live oldest x counts bytes = rw (live_by_kind x (suc live) (get_or counts 3 0) live (get_or counts 1 0) (held x)) refl
 
 -- its cell was added: what remains is the visit of node k under it, and the call is closed
-pub record BodyDue (b tab : List ℕ) (t limits at : ℕ) (counts : List ℕ) (cells : Bor (List ℕ)) (counts' : List ℕ) (cells' : Bor (List ℕ)) (k : ℕ) : Type 0 where
+pub record BodyDue (b tab : List ℕ) (t limits at : ℕ) (counts : List ℕ) (cells : MutBor (List ℕ)) (counts' : List ℕ) (cells' : MutBor (List ℕ)) (k : ℕ) : Type 0 where
   pub remains : Remains b tab t limits at counts cells counts' cells'
       (λ rs. closed_lent (get_or counts 1 0) (get_or counts 3 0) (visits b rs (above limits) (below limits) k (get_or counts 1 0 + 1) (counted_state counts' cells'.now)))
   pub there : k < nodes b
   pub written : get_or counts 1 0 + 1 ≤ get_or counts' 2 0
 
 -- the lent bytes and the counts are told by equations of which they are the left sides
-abbrev pub BodyBy : {b tab : List ℕ} {t limits at : ℕ} {counts bytes : List ℕ} → Asked b tab t limits at counts bytes kinds.call → Bor (List ℕ)
+abbrev pub BodyBy : {b tab : List ℕ} {t limits at : ℕ} {counts bytes : List ℕ} → Asked b tab t limits at counts bytes kinds.call → MutBor (List ℕ)
     → {list added : List ℕ} → list ≡ added → {counts' opened : List ℕ} → counts' ≡ opened → ℕ → Type 0
 BodyBy {b} {tab} {t} {limits} {at} {counts} a cells {list} e {counts'} f k =
-    BodyDue b tab t limits at counts cells counts' (record { ref_ptr = cells.ptr; ghost_name = cells.name; now = list }) k
+    BodyDue b tab t limits at counts cells counts' (record { ref_ptr = cells.ref_ptr; ghost_name = cells.ghost_name; now = list }) k
 
 -- there is room for its cell
 pub live_below : {b tab : List ℕ} {t limits at : ℕ} {counts bytes : List ℕ} → Asked b tab t limits at counts bytes kinds.call
     → get_or counts 1 0 < above limits → get_or counts 1 0 < most_cells
 live_below a l = let ceiling = a.1.context.standing.ceiling in omega arith
 
-module _ {b tab : List ℕ} {t limits at : ℕ} {counts : List ℕ} (cells : Bor (List ℕ)) (a : Asked b tab t limits at counts cells.now kinds.call) where
+module _ {b tab : List ℕ} {t limits at : ℕ} {counts : List ℕ} (cells : MutBor (List ℕ)) (a : Asked b tab t limits at counts cells.now kinds.call) where
   pub call_ends : {x : ℕ} {o : Outcome} → above limits ≤ get_or counts 1 0 → outcome_in x ≡ o → ending_of o ≡ ended no_cell
       → Evaluates b tab limits at counts cells x counts cells
   unfolding where_cell state_of
@@ -136,14 +136,14 @@ module _ {b tab : List ℕ} {t limits at : ℕ} {counts : List ℕ} (cells : Bor
         written = rw (opened, add-one (get_or counts 1 0)) (le-max_right (get_or counts 2 0) (suc (get_or counts 1 0)));
       }
 
-module _ {b tab : List ℕ} {t limits at : ℕ} {counts : List ℕ} {cells : Bor (List ℕ)} {counts' : List ℕ} {cells' : Bor (List ℕ)} {k p : ℕ}
+module _ {b tab : List ℕ} {t limits at : ℕ} {counts : List ℕ} {cells : MutBor (List ℕ)} {counts' : List ℕ} {cells' : MutBor (List ℕ)} {k p : ℕ}
     (r : BodyDue b tab t limits at counts cells counts' cells' k) (e : (below p ≡ k) × (above p ≡ get_or counts 1 0 + 1)) where
   -- what the visit of the body asks
   pub body_asked : (2 * get_or counts' 0 0 < t) × Visitable b tab limits p counts' cells'.now
   body_asked = (r.remains.falls, visitable_at e r.remains.equipped r.there (at_context r.remains.context r.written))
 
   -- what it gives is returned, with the call closed
-  pub body_returned : {x kind : ℕ} {counts'' counts''' : List ℕ} {cells'' : Bor (List ℕ)} → Visits b tab limits p counts' cells' x counts'' cells''
+  pub body_returned : {x kind : ℕ} {counts'' counts''' : List ℕ} {cells'' : MutBor (List ℕ)} → Visits b tab limits p counts' cells' x counts'' cells''
       → kind ≡ x % 65536 → counts''' ≡ call_closed (get_or counts 1 0) (get_or counts 3 0) kind counts''
       → Evaluates b tab limits at counts cells x counts''' cells''
   unfolding call_closed

@@ -6,7 +6,7 @@ use native.Mathlib.Omega.{arith}
 use lib.IntN.{ℤ}
 use lib.ListN.{length, get_or, set, length-set}
 use lib.Seq.{get_or-set_same, get_or-set_other}
-use denote.Ref.{Bor}
+use denote.MutBor.{MutBor}
 use Rattle.definitions.specs.Sizes.{most_nodes, most_nesting, most_cells, cell_size}
 use Rattle.definitions.specs.Layouts.{nodes}
 use Rattle.definitions.specs.Rule as Rule
@@ -52,7 +52,7 @@ context_taken {b} {counts = counts} {bytes = bytes} limits v h c =
     }
 
 -- a node worked out with its step and nesting taken is its visit
-pub visit_taken : {b tab : List ℕ} {limits at : ℕ} {counts : List ℕ} {cells : Bor (List ℕ)} {x : ℕ} {counts' : List ℕ} {cells' : Bor (List ℕ)}
+pub visit_taken : {b tab : List ℕ} {limits at : ℕ} {counts : List ℕ} {cells : MutBor (List ℕ)} {x : ℕ} {counts' : List ℕ} {cells' : MutBor (List ℕ)}
     → length counts ≡ 4 → (get_or counts 0 0 ≡ 0 → ⊥) → (below limits ≡ 0 → ⊥)
     → Evaluates b tab (limits - 1) at (set counts 0 (get_or counts 0 0 - 1)) cells x counts' cells'
     → Visits b tab limits at counts cells x counts' cells'
@@ -71,7 +71,7 @@ module _ {b tab : List ℕ} {p k w : ℕ} {counts : List ℕ} (at : (below p ≡
       → Visitable b tab limits p counts bytes
   visitable_at q h c = record { equipped = q; there = rw at.0 h; context = rw at.1 c }
 
-  pub visits_at : {limits x : ℕ} {cells : Bor (List ℕ)} {counts' : List ℕ} {cells' : Bor (List ℕ)}
+  pub visits_at : {limits x : ℕ} {cells : MutBor (List ℕ)} {counts' : List ℕ} {cells' : MutBor (List ℕ)}
       → Visits b tab limits p counts cells x counts' cells' → (rs : List ℤ) → ReadingsIn b rs tab
       → reached_of x counts' cells'.now ≡ visits b rs (above limits) (below limits) k w (counted_state counts cells.now)
   visits_at v rs h = rw (at.0, at.1) at (v.same rs h)

@@ -8,7 +8,7 @@ use native.Mathlib.Nat.{le_trans}
 use lib.IntN.{ℤ}
 use lib.ListN.{get_or, get_elem?, length, set}
 use lib.Seq.{get_or-set_same}
-use denote.Ref.{Bor}
+use denote.MutBor.{MutBor}
 use Rattle.definitions.specs.TranslationKinds as kinds
 use Rattle.definitions.specs.Records.{field}
 use Rattle.definitions.specs.Operators.{is_zero}
@@ -96,7 +96,7 @@ module _ (b : List ℕ) (accepted : translation_verdict b ≡ Accepted) (bytes :
   unfolding ending_of value_of
   reached_tuple m u e = rw e at reached_inside
 
-module _ {b tab : List ℕ} {limits p k w : ℕ} {counts : List ℕ} {cells : Bor (List ℕ)} {x : ℕ} {counts' : List ℕ} {cells' : Bor (List ℕ)}
+module _ {b tab : List ℕ} {limits p k w : ℕ} {counts : List ℕ} {cells : MutBor (List ℕ)} {x : ℕ} {counts' : List ℕ} {cells' : MutBor (List ℕ)}
     (q : Equipped b tab) (at : (below p ≡ k) × (above p ≡ w)) (there : k < nodes b) (c : InContext b (above limits) w counts cells.now)
     (v : Visits b tab limits p counts cells x counts' cells') where
   here : below p < nodes b

@@ -7,7 +7,7 @@ use mathlib.Core.Bool.{cond}
 use native.Mathlib.Omega.{arith}
 use lib.IntN.{ℤ}
 use lib.ListN.{length, get_or}
-use denote.Ref.{Bor}
+use denote.MutBor.{MutBor}
 use Rattle.definitions.specs.Sizes.{most_nodes}
 use Rattle.definitions.specs.Numbers.{number_wanted, constructor_wanted, no_clause}
 use Rattle.definitions.specs.TranslationKinds as kinds
@@ -124,7 +124,7 @@ module _ {b tab : List ℕ} {limits at : ℕ} {counts bytes : List ℕ} {x : ℕ
     right_named a f g = named_by a (third_read a f plain_operator g) (is_operator a.node) Mention.right
 
 -- a node of a kind waits for the visit of its operand k under context w
-pub record Awaits (b tab : List ℕ) (t limits at : ℕ) (counts : List ℕ) (cells : Bor (List ℕ)) (counts' : List ℕ) (cells' : Bor (List ℕ))
+pub record Awaits (b tab : List ℕ) (t limits at : ℕ) (counts : List ℕ) (cells : MutBor (List ℕ)) (counts' : List ℕ) (cells' : MutBor (List ℕ))
     (kind k w : ℕ) (d : List ℤ → Wanted) : Type 0 where
   pub node : Evaluable b tab limits at counts cells.now kind
   pub remains : Remains b tab t limits at counts cells counts' cells'
@@ -133,26 +133,26 @@ pub record Awaits (b tab : List ℕ) (t limits at : ℕ) (counts : List ℕ) (ce
   pub written : w ≤ get_or counts' 2 0
 
 -- an operand was visited for a node of a kind, and x returned: what remains, and that a constructor is a tuple's, under a context of the cells written
-pub record OperandVisited (b tab : List ℕ) (t limits at : ℕ) (counts : List ℕ) (cells : Bor (List ℕ)) (x : ℕ) (counts' : List ℕ)
-    (cells' : Bor (List ℕ)) (kind : ℕ) (d : List ℤ → Wanted) : Type 0 where
+pub record OperandVisited (b tab : List ℕ) (t limits at : ℕ) (counts : List ℕ) (cells : MutBor (List ℕ)) (x : ℕ) (counts' : List ℕ)
+    (cells' : MutBor (List ℕ)) (kind : ℕ) (d : List ℤ → Wanted) : Type 0 where
   pub node : Evaluable b tab limits at counts cells.now kind
   pub remains : Remains b tab t limits at counts cells counts' cells'
       (λ rs. goes_on (d rs) (ending_of (outcome_in x)) (counted_state counts' cells'.now))
   pub tuple : {m u : ℕ} → outcome_in x ≡ outcomes.Value (Constructor m u) → TupleAt b m × (u ≤ get_or counts' 2 0)
 
 -- and x is the value v
-pub record Gives (b tab : List ℕ) (t limits at : ℕ) (counts : List ℕ) (cells : Bor (List ℕ)) (x : ℕ) (counts' : List ℕ)
-    (cells' : Bor (List ℕ)) (kind : ℕ) (d : List ℤ → Wanted) (v : Value) : Type 0 where
+pub record Gives (b tab : List ℕ) (t limits at : ℕ) (counts : List ℕ) (cells : MutBor (List ℕ)) (x : ℕ) (counts' : List ℕ)
+    (cells' : MutBor (List ℕ)) (kind : ℕ) (d : List ℤ → Wanted) (v : Value) : Type 0 where
   pub visited : OperandVisited b tab t limits at counts cells x counts' cells' kind d
   pub told : outcome_in x ≡ outcomes.Value v
 
 -- the operand that is visited first
 abbrev pub AwaitsBy : {b tab : List ℕ} {t limits at : ℕ} {counts bytes : List ℕ} {kind i : ℕ} (op : Operand kind i)
-    → Asked b tab t limits at counts bytes kind → Bor (List ℕ) → ℕ → Type 0
+    → Asked b tab t limits at counts bytes kind → MutBor (List ℕ) → ℕ → Type 0
 AwaitsBy {b} {tab} {t} {limits} {at} {counts} {kind = kind} op a cells k =
     Awaits b tab t limits at counts cells counts cells kind k (above at) (λ rs. way b rs limits at op)
 
-pub operand_awaits : {b tab : List ℕ} {t limits at : ℕ} {counts : List ℕ} {cells : Bor (List ℕ)} {kind i e k : ℕ} (op : Operand kind i)
+pub operand_awaits : {b tab : List ℕ} {t limits at : ℕ} {counts : List ℕ} {cells : MutBor (List ℕ)} {kind i e k : ℕ} (op : Operand kind i)
     → (a : Asked b tab t limits at counts cells.now kind) → e ≡ get_or tab (below at) 0 → k ≡ part_in op e → AwaitsBy op a cells k
 operand_awaits {b} {limits = limits} {at = at} {counts = counts} {cells = cells} op a f g =
     let n = operand_named op a.1 f g in
@@ -169,20 +169,20 @@ operand_awaits {b} {limits = limits} {at = at} {counts = counts} {cells = cells}
       written = a.1.context.written;
     }
 
-awaits_context : {b tab : List ℕ} {t limits at : ℕ} {counts : List ℕ} {cells : Bor (List ℕ)} {counts' : List ℕ} {cells' : Bor (List ℕ)} {kind k w : ℕ}
+awaits_context : {b tab : List ℕ} {t limits at : ℕ} {counts : List ℕ} {cells : MutBor (List ℕ)} {counts' : List ℕ} {cells' : MutBor (List ℕ)} {kind k w : ℕ}
     {d : List ℤ → Wanted} → Awaits b tab t limits at counts cells counts' cells' kind k w d → InContext b (above limits) w counts' cells'.now
 awaits_context a = at_context a.remains.context a.written
 
 -- the visit of an operand: what it asks, and what is known after it
-module _ {b tab : List ℕ} {t limits at : ℕ} {counts : List ℕ} {cells : Bor (List ℕ)} {counts' : List ℕ} {cells' : Bor (List ℕ)} {kind k w p : ℕ}
+module _ {b tab : List ℕ} {t limits at : ℕ} {counts : List ℕ} {cells : MutBor (List ℕ)} {counts' : List ℕ} {cells' : MutBor (List ℕ)} {kind k w p : ℕ}
     {d : List ℤ → Wanted} (a : Awaits b tab t limits at counts cells counts' cells' kind k w d) (q : (below p ≡ k) × (above p ≡ w)) where
   pub operand_asked : (2 * get_or counts' 0 0 < t) × Visitable b tab limits p counts' cells'.now
   operand_asked = (a.remains.falls, visitable_at q a.remains.equipped a.there (awaits_context a))
 
-  abbrev pub VisitedBy : {x : ℕ} {counts'' : List ℕ} {cells'' : Bor (List ℕ)} → Visits b tab limits p counts' cells' x counts'' cells'' → Type 0
+  abbrev pub VisitedBy : {x : ℕ} {counts'' : List ℕ} {cells'' : MutBor (List ℕ)} → Visits b tab limits p counts' cells' x counts'' cells'' → Type 0
   VisitedBy {x} {counts''} {cells''} v = OperandVisited b tab t limits at counts cells x counts'' cells'' kind d
 
-  pub operand_visited : {x : ℕ} {counts'' : List ℕ} {cells'' : Bor (List ℕ)} (v : Visits b tab limits p counts' cells' x counts'' cells'') → VisitedBy v
+  pub operand_visited : {x : ℕ} {counts'' : List ℕ} {cells'' : MutBor (List ℕ)} (v : Visits b tab limits p counts' cells' x counts'' cells'') → VisitedBy v
   unfolding reached_of reach
   operand_visited v =
       record {
@@ -197,7 +197,7 @@ module _ {b tab : List ℕ} {t limits at : ℕ} {counts : List ℕ} {cells : Bor
         tuple = visit_tuple a.remains.equipped q a.there (awaits_context a) v;
       }
 
-module _ {b tab : List ℕ} {t limits at : ℕ} {counts : List ℕ} {cells : Bor (List ℕ)} {x : ℕ} {counts' : List ℕ} {cells' : Bor (List ℕ)}
+module _ {b tab : List ℕ} {t limits at : ℕ} {counts : List ℕ} {cells : MutBor (List ℕ)} {x : ℕ} {counts' : List ℕ} {cells' : MutBor (List ℕ)}
     {kind : ℕ} where
   module _ {d : List ℤ → Wanted} (v : OperandVisited b tab t limits at counts cells x counts' cells' kind d) where
     -- it ended: what it returned is returned

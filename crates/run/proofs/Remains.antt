@@ -5,7 +5,7 @@ use mathlib.Core.List.{List}
 use native.Mathlib.Omega.{arith}
 use lib.IntN.{ℤ}
 use lib.ListN.{get_or}
-use denote.Ref.{Bor}
+use denote.MutBor.{MutBor}
 use Rattle.definitions.specs.Layouts.{nodes}
 use Rattle.definitions.specs.Rule.{Ending, Reached, reach, ended, node_due}
 use Rattle.run.specs.declared.state.Outcome.{Outcome}
@@ -34,7 +34,7 @@ asked_falls a = let e = a.0 in omega arith
 
 -- whatever readings the table holds, working out the node of `at` has come to `next`, with the counts and the cells that there are
 -- now; the measure of a visit from there is below t, and its context stands
-pub record Remains (b tab : List ℕ) (t limits at : ℕ) (counts : List ℕ) (cells : Bor (List ℕ)) (counts' : List ℕ) (cells' : Bor (List ℕ))
+pub record Remains (b tab : List ℕ) (t limits at : ℕ) (counts : List ℕ) (cells : MutBor (List ℕ)) (counts' : List ℕ) (cells' : MutBor (List ℕ))
     (next : List ℤ → Reached ℕ Lent) : Type 0 where
   pub equipped : Equipped b tab
   pub same : (rs : List ℤ) → ReadingsIn b rs tab → worked_out b rs limits at counts cells.now ≡ next rs
@@ -43,14 +43,14 @@ pub record Remains (b tab : List ℕ) (t limits at : ℕ) (counts : List ℕ) (c
   pub stays : cells'.ref_ptr ≡ cells.ref_ptr
 
 -- the node ends as it is
-pub node_ends : {b tab : List ℕ} {limits at : ℕ} {counts : List ℕ} {cells : Bor (List ℕ)} {kind x : ℕ} {e : Ending ℕ} {o : Outcome}
+pub node_ends : {b tab : List ℕ} {limits at : ℕ} {counts : List ℕ} {cells : MutBor (List ℕ)} {kind x : ℕ} {e : Ending ℕ} {o : Outcome}
     → Evaluable b tab limits at counts cells.now kind
     → ((rs : List ℤ) → ReadingsIn b rs tab → worked_out b rs limits at counts cells.now ≡ reach e (counted_state counts cells.now))
     → outcome_in x ≡ o → ending_of o ≡ e → Evaluates b tab limits at counts cells x counts cells
 node_ends a s f g =
     record { same = λ rs h. reached_as _ _ _ f g ∙ sym (s rs h); size = a.context.size; stays = refl }
 
-module _ {b tab : List ℕ} {t limits at : ℕ} {counts : List ℕ} {cells : Bor (List ℕ)} {counts' : List ℕ} {cells' : Bor (List ℕ)} where
+module _ {b tab : List ℕ} {t limits at : ℕ} {counts : List ℕ} {cells : MutBor (List ℕ)} {counts' : List ℕ} {cells' : MutBor (List ℕ)} where
   -- the same, said otherwise
   pub remains_as : {next next' : List ℤ → Reached ℕ Lent} → Remains b tab t limits at counts cells counts' cells' next
       → ((rs : List ℤ) → next rs ≡ next' rs) → Remains b tab t limits at counts cells counts' cells' next'
@@ -74,7 +74,7 @@ pub at_context : {b : List ℕ} {cells_allowed u w : ℕ} {counts bytes : List �
 at_context c h = record { size = c.size; standing = c.standing; written = h }
 
 -- it goes on to the visit of node k under context w
-pub record Onward (b tab : List ℕ) (t limits at : ℕ) (counts : List ℕ) (cells : Bor (List ℕ)) (counts' : List ℕ) (cells' : Bor (List ℕ))
+pub record Onward (b tab : List ℕ) (t limits at : ℕ) (counts : List ℕ) (cells : MutBor (List ℕ)) (counts' : List ℕ) (cells' : MutBor (List ℕ))
     (k w : ℕ) : Type 0 where
   pub remains : Remains b tab t limits at counts cells counts' cells'
       (λ rs. visits b rs (above limits) (below limits) k w (counted_state counts' cells'.now))
@@ -82,7 +82,7 @@ pub record Onward (b tab : List ℕ) (t limits at : ℕ) (counts : List ℕ) (ce
   pub written : w ≤ get_or counts' 2 0
 
 -- it goes on to the visit of the node that was found, under context w, or ends with a fault
-pub record Sought (b tab : List ℕ) (t limits at : ℕ) (counts : List ℕ) (cells : Bor (List ℕ)) (counts' : List ℕ) (cells' : Bor (List ℕ))
+pub record Sought (b tab : List ℕ) (t limits at : ℕ) (counts : List ℕ) (cells : MutBor (List ℕ)) (counts' : List ℕ) (cells' : MutBor (List ℕ))
     (w fault : ℕ) (o : Found) : Type 0 where
   pub remains : Remains b tab t limits at counts cells counts' cells'
       (λ rs. node_due (found_of o) fault (counted_state counts' cells'.now)
@@ -90,13 +90,13 @@ pub record Sought (b tab : List ℕ) (t limits at : ℕ) (counts : List ℕ) (ce
   pub there : {k : ℕ} → o ≡ Node k → k < nodes b
   pub written : w ≤ get_or counts' 2 0
 
-module _ {b tab : List ℕ} {t limits at : ℕ} {counts : List ℕ} {cells : Bor (List ℕ)} {counts' : List ℕ} {cells' : Bor (List ℕ)} where
+module _ {b tab : List ℕ} {t limits at : ℕ} {counts : List ℕ} {cells : MutBor (List ℕ)} {counts' : List ℕ} {cells' : MutBor (List ℕ)} where
   module _ {k w p : ℕ} (r : Onward b tab t limits at counts cells counts' cells' k w) (e : (below p ≡ k) × (above p ≡ w)) where
     -- what the visit asks, and what it gives is returned
     pub visit_asked : (2 * get_or counts' 0 0 < t) × Visitable b tab limits p counts' cells'.now
     visit_asked = (r.remains.falls, visitable_at e r.remains.equipped r.there (at_context r.remains.context r.written))
 
-    pub visit_returned : {x : ℕ} {counts'' : List ℕ} {cells'' : Bor (List ℕ)} → Visits b tab limits p counts' cells' x counts'' cells''
+    pub visit_returned : {x : ℕ} {counts'' : List ℕ} {cells'' : MutBor (List ℕ)} → Visits b tab limits p counts' cells' x counts'' cells''
         → Evaluates b tab limits at counts cells x counts'' cells''
     visit_returned v =
         record {

@@ -5,7 +5,7 @@ use mathlib.Core.List.{List}
 use native.Mathlib.Omega.{arith}
 use lib.IntN.{ℤ, pos}
 use lib.ListN.{get_or}
-use denote.Ref.{Bor}
+use denote.MutBor.{MutBor}
 use Rattle.definitions.specs.TranslationKinds as kinds
 use Rattle.definitions.specs.Bytes.{signed}
 use Rattle.definitions.specs.Records.{field}
@@ -43,7 +43,7 @@ module _ (b : List ℕ) (rs : List ℤ) (limits at : ℕ) (s : Rule.State Lent) 
   tuple_as h = worked_out_law b rs limits at s (is_tuple h)
 
 -- a number, a reading and a tuple end at once
-module _ {b tab : List ℕ} {limits at : ℕ} {counts : List ℕ} {cells : Bor (List ℕ)} {x : ℕ} {y z : ℤ} {o : Outcome} where
+module _ {b tab : List ℕ} {limits at : ℕ} {counts : List ℕ} {cells : MutBor (List ℕ)} {x : ℕ} {y z : ℤ} {o : Outcome} where
   pub number_ends : {e : ℕ} → Evaluable b tab limits at counts cells.now kinds.number → e ≡ get_or tab (below at) 0 → y ≡ z → z ≡ number_part e
       → outcome_in x ≡ o → ending_of o ≡ value (integer y) → Evaluates b tab limits at counts cells x counts cells
   number_ends a f ey ez p q =
@@ -55,7 +55,7 @@ module _ {b tab : List ℕ} {limits at : ℕ} {counts : List ℕ} {cells : Bor (
       node_ends a (λ rs h. reading_as b rs limits at _ a.node ∙ ap (λ i. reach (value (integer i)) (counted_state counts cells.now))
       (sym (ey ∙ reading_read a (first_read a f (λ q. omega (arith, q)) g) h ez)))
 
-pub tuple_ends : {b tab : List ℕ} {limits at : ℕ} {counts : List ℕ} {cells : Bor (List ℕ)} {x : ℕ} {o : Outcome}
+pub tuple_ends : {b tab : List ℕ} {limits at : ℕ} {counts : List ℕ} {cells : MutBor (List ℕ)} {x : ℕ} {o : Outcome}
     → Evaluable b tab limits at counts cells.now kinds.tuple → outcome_in x ≡ o → ending_of o ≡ value (constructor (below at) (above at))
     → Evaluates b tab limits at counts cells x counts cells
 tuple_ends a = node_ends a (λ rs h. tuple_as _ rs _ _ _ a.node)

@@ -3,7 +3,7 @@ use mathlib.Core.Path.{◌≡◌, refl, sym, ◌∙◌}
 use Prim.Native.Nat.{ℕ, ◌+◌, ◌*◌, ◌-◌, ◌<◌}
 use mathlib.Core.List.{List}
 use lib.ListN.{get_or, set}
-use denote.Ref.{Bor}
+use denote.MutBor.{MutBor}
 use Rattle.definitions.specs.Numbers.{no_step, no_nesting}
 use Rattle.definitions.specs.Layouts.{node_record}
 use Rattle.definitions.specs.Rule.{ended}
@@ -20,7 +20,7 @@ abbrev pub counted : List ℕ → List ℕ
 counted counts = set counts 0 (get_or counts 0 0 - 1)
 
 module _ {b tab : List ℕ} {limits at : ℕ} {counts : List ℕ} where
-  module _ {x : ℕ} {cells : Bor (List ℕ)} {o : Outcome} (a : Visitable b tab limits at counts cells.now) where
+  module _ {x : ℕ} {cells : MutBor (List ℕ)} {o : Outcome} (a : Visitable b tab limits at counts cells.now) where
     pub no_step_left : get_or counts 0 0 ≡ 0 → outcome_in x ≡ o → ending_of o ≡ ended no_step → Visits b tab limits at counts cells x counts cells
     no_step_left z f g =
         record {
@@ -50,13 +50,13 @@ module _ {b tab : List ℕ} {limits at : ℕ} {counts : List ℕ} where
     )
 
 -- a step was counted: what the function of a kind gives is returned
-pub record Counted (b tab : List ℕ) (limits at : ℕ) (counts : List ℕ) (cells : Bor (List ℕ)) : Type 0 where
-  pub returned : {x : ℕ} {counts' : List ℕ} {cells' : Bor (List ℕ)} → Evaluates b tab (limits - 1) at (counted counts) cells x counts' cells'
+pub record Counted (b tab : List ℕ) (limits at : ℕ) (counts : List ℕ) (cells : MutBor (List ℕ)) : Type 0 where
+  pub returned : {x : ℕ} {counts' : List ℕ} {cells' : MutBor (List ℕ)} → Evaluates b tab (limits - 1) at (counted counts) cells x counts' cells'
       → Visits b tab limits at counts cells x counts' cells'
 
 module _ {b tab : List ℕ} {limits at : ℕ} {counts bytes : List ℕ} (a : Visitable b tab limits at counts bytes) where
-  pub step_counted : {cells : Bor (List ℕ)} → (get_or counts 0 0 ≡ 0 → ⊥) → (below limits ≡ 0 → ⊥) → Counted b tab limits at counts cells
+  pub step_counted : {cells : MutBor (List ℕ)} → (get_or counts 0 0 ≡ 0 → ⊥) → (below limits ≡ 0 → ⊥) → Counted b tab limits at counts cells
   step_counted l n = record { returned = visit_taken a.context.size l n }
 
-  abbrev pub CountedBy : Bor (List ℕ) → Type 0
+  abbrev pub CountedBy : MutBor (List ℕ) → Type 0
   CountedBy cells = Counted b tab limits at counts cells

@@ -59,7 +59,7 @@ pub fn run_held(
 ) -> State
     requires { Readable file.now table.now × (allowances_fit nesting cells_allowed (length cells.old.now) ≡ true) }
     ensures { RunsHeld file.now table.now steps nesting cells_allowed cells.old.now result cells.new.now
-        × (cells.new.ptr ≡ cells.old.ptr) }
+        × (cells.new.ref_ptr ≡ cells.old.ref_ptr) }
 {
     let limits = nesting + 0x1_0000 * cells_allowed;
     let first = first_body(file) as u32;
@@ -80,7 +80,7 @@ pub fn run_table(
 ) -> Answer
     requires { Readable file.now table.old }
     ensures { Runs file.now readings.now steps nesting cells_allowed cells.old.now result cells.new.now
-        × (cells.new.ptr ≡ cells.old.ptr)
+        × (cells.new.ref_ptr ≡ cells.old.ref_ptr)
         × Readable file.now table.new }
 {
     if readings.len() != wide(layout::readings(file)) {
@@ -106,7 +106,7 @@ pub fn run(
     cells: &mut &mut [u8],
 ) -> Answer
     ensures { Runs file.now readings.now steps nesting cells_allowed cells.old.now result cells.new.now
-        × (cells.new.ptr ≡ cells.old.ptr) }
+        × (cells.new.ref_ptr ≡ cells.old.ref_ptr) }
 {
     let mut table = [0u64; TABLE_ENTRIES];
     let verdict = read_file(file, &mut table);

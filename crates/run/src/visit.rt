@@ -17,7 +17,7 @@ use operators::compute;
 use widths::wide32;
 
 // Visits a node under a context: the two stops, the step counted, and the node by its kind.
-#[cycle(visit_visit_call_visit_case_visit_conditional_visit_formal_visit_operator_visit_select)]
+#[cycle(visits)]
 pub(crate) fn visit(
     b: &&[u8],
     tab: &Table,
@@ -70,7 +70,7 @@ pub(crate) fn visit(
 
 // A formal: what the head cell remembers of it, where its own function's call made that cell; else visits the actual that the head
 // label names, under the tail, and has a value remembered.
-#[cycle(visit_visit_call_visit_case_visit_conditional_visit_formal_visit_operator_visit_select)]
+#[cycle(visits)]
 fn visit_formal(
     b: &&[u8],
     tab: &Table,
@@ -107,7 +107,7 @@ fn visit_formal(
 }
 
 // A selection: index 0 is the tag, i is field i - 1 under the tuple's own context.
-#[cycle(visit_visit_call_visit_case_visit_conditional_visit_formal_visit_operator_visit_select)]
+#[cycle(visits)]
 fn visit_select(
     b: &&[u8],
     tab: &Table,
@@ -144,7 +144,7 @@ fn visit_select(
 }
 
 // An operator: the left operand has to be a number before the right is visited.
-#[cycle(visit_visit_call_visit_case_visit_conditional_visit_formal_visit_operator_visit_select)]
+#[cycle(visits)]
 fn visit_operator(
     b: &&[u8],
     tab: &Table,
@@ -182,7 +182,7 @@ fn visit_operator(
 }
 
 // An if: nonzero takes the second node, zero the third.
-#[cycle(visit_visit_call_visit_case_visit_conditional_visit_formal_visit_operator_visit_select)]
+#[cycle(visits)]
 fn visit_conditional(
     b: &&[u8],
     tab: &Table,
@@ -212,7 +212,7 @@ fn visit_conditional(
 }
 
 // A call: one cell more alive, and the body under it; then the call is closed, which may give cells back.
-#[cycle(visit_visit_call_visit_case_visit_conditional_visit_formal_visit_operator_visit_select)]
+#[cycle(visits)]
 fn visit_call(
     b: &&[u8],
     tab: &Table,
@@ -240,7 +240,7 @@ fn visit_call(
 }
 
 // A case: the scrutinee, then the first clause with its tag.
-#[cycle(visit_visit_call_visit_case_visit_conditional_visit_formal_visit_operator_visit_select)]
+#[cycle(visits)]
 fn visit_case(
     b: &&[u8],
     tab: &Table,

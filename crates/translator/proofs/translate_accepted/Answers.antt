@@ -11,9 +11,9 @@ label_nodes-requires c =
 pub returns-then-fits : goal.returns-then-fits
 returns-then-fits c =
     let pre = c.requires in
-    output_written _ pre.sheet.accepted c.fits2.ensures c.if-fits.true c.write-length.ensures
+    output_written _ pre.sheet.accepted c.fits.ensures c.if-fits.true c.write-length.ensures
 
 pub returns : goal.returns
 returns c =
     let pre = c.requires in
-    output_short _ pre.sheet.accepted _ _ c.fits2.ensures c.if-fits.false
+    output_short _ pre.sheet.accepted _ _ c.fits.ensures c.if-fits.false

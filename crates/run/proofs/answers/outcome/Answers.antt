@@ -1,0 +1,16 @@
+-- `run::answers::outcome` meets its contract, case by case.
+use Rattle.run.proofs.Answering.{value_in_table, shown_value, shown_end}
+use borrow.Author.Rules.{rules}
+use Rattle.run.proofs.answers.outcome.Goals as goal
+
+pub value_outcome-requires : goal.value_outcome-requires
+value_outcome-requires c =
+    let pre = c.requires in
+    value_in_table _ _ c.in-Value.is (pre)
+
+pub returns-in-Value : goal.returns-in-Value
+returns-in-Value c =
+    shown_value _ _ _ _ c.in-Value.is c.value_outcome.ensures
+
+pub returns-in-Ended : goal.returns-in-Ended
+returns-in-Ended c = shown_end _ _ _ c.in-Ended.is

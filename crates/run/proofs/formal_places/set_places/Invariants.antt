@@ -1,0 +1,11 @@
+-- `run::formal_places::set_places` meets its contract: the places of the formals passed are set.
+use Prim.Native.Nat.{◌-◌}
+use Rattle.run.proofs.Places.{SettingPlaces, setting_begins, setting_room, setting_goes_on, setting_ends}
+use borrow.Author.Rules.{rules}
+use Rattle.run.proofs.formal_places.set_places.Given as goal
+
+abbrev pub invariant-loop-j : goal.invariant-loop-j
+invariant-loop-j l = SettingPlaces l.initial.places l.f l.count l.first l.places l.j
+
+abbrev pub decreases-loop-j : goal.decreases-loop-j
+decreases-loop-j l = l.count - l.j

@@ -1,0 +1,21 @@
+-- `run::look_up::body` meets its contract: the body is the node before the end of the run.
+use Rattle.run.proofs.LookUps.{function_limit, end_least, body_reached}
+use borrow.Author.Rules.{rules}
+use Rattle.run.proofs.look_up.body.Goals as goal
+
+pub bounds-ends-wide : goal.bounds-ends-wide
+bounds-ends-wide c =
+    let pre = c.requires in
+    function_limit _ _ _ _ _ pre.0 pre.1 c.wide.ensures.0
+
+pub overflow_sub-result : goal.overflow_sub-result
+overflow_sub-result c =
+    let pre = c.requires in
+    let wide = c.wide in
+    end_least _ _ _ _ _ _ pre.0 pre.1 wide.ensures.0 c.wide-end.ensures.0
+
+pub returns : goal.returns
+returns c =
+    let pre = c.requires in
+    let wide = c.wide in
+    body_reached _ _ _ _ _ _ pre.0 pre.1 wide.ensures.0 c.wide-end.ensures.0

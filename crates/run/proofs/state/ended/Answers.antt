@@ -1,0 +1,8 @@
+-- `run::state::ended` meets its contract.
+use Rattle.run.specs.States.{ending_of, value_of}
+use mathlib.Core.Path.{refl}
+use Rattle.run.proofs.state.ended.Goals as goal
+
+pub returns : goal.returns
+unfolding ending_of value_of
+returns c = refl
