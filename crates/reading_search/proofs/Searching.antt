@@ -159,7 +159,7 @@ module _ {b : List ℕ} {rs : List ℤ} {q : Query} {steps nesting cells_allowed
           }
 
       -- or the search goes on
-      pub searching_goes_on : {cells' : MutBor (List ℕ)} → r ≡ false → cells'.now ≡ after → cells'.ref_ptr ≡ cells.ptr
+      pub searching_goes_on : {cells' : MutBor (List ℕ)} → r ≡ false → cells'.now ≡ after → cells'.ref_ptr ≡ cells.ref_ptr
           → Searching b tab' rs q steps nesting cells_allowed cells₀ cells' (left - 1)
       searching_goes_on h e s =
           let n : count - (left - 1) ≡ suc i = omega (arith, more, next, w.reached) in

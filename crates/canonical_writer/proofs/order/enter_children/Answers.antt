@@ -10,6 +10,7 @@ use Rattle.canonical_writer.proofs.Passing.{Passing, node_few, own_size, size_ro
 use Rattle.canonical_writer.proofs.ChildOrder.{Children, renumbered, children_begin, children_done, children_plain, children_node}
 use borrow.Author.Rules.{rules}
 use Rattle.canonical_writer.proofs.order.enter_children.Goals as goal
+use Rattle.canonical_writer.proofs.order.enter_children.Goals.{then-names_node, else-names_node}
 
 pub bounds-order-q : goal.bounds-order-q
 bounds-order-q c =
@@ -102,14 +103,17 @@ loop-i-preserved c =
     let taken = c.loop-i-test.true in
     let names_node = c.names_node in
     let names = names_node.ensures in
-    ⊎_elim
-    (λ w.
-    let size = child_size inv.0 taken names w.0.taken w.1.ensures w.2.ensures.0 w.4.ensures.0 in (
-      passing_node inv.0 taken names w.0.taken w.1.ensures (omega (arith, w.6, size)),
-      rw w.5 (children_node inv.0 inv.1 taken names w.0.taken w.1.ensures (omega (arith, w.6, size)) (omega (arith, w.6, size))),
-    ))
-    (λ w. (rw w.2 (passing_plain inv.0 taken names w.0.left), rw (w.1, w.2) (children_plain inv.0 inv.1 taken names w.0.left)))
-    c.if-names_node.branch
+    elim c.if-names_node.branch [
+      | then-names_node w ↦
+          let yes = w.if-names_node.true in
+          let size = child_size inv.0 taken names yes w.field_inside-x.ensures w.wide-then-names_node.ensures.0 w.wide-start.ensures.0 in (
+            passing_node inv.0 taken names yes w.field_inside-x.ensures (omega (arith, w.start-is, size)),
+            rw w.order-is (children_node inv.0 inv.1 taken names yes w.field_inside-x.ensures (omega (arith, w.start-is, size)) (omega (arith, w.start-is, size))),
+          )
+      | else-names_node w ↦
+          let no = w.if-names_node.false in
+          (rw w.start-is (passing_plain inv.0 taken names no), rw (w.order-is, w.start-is) (children_plain inv.0 inv.1 taken names no))
+    ]
 
 pub returns : goal.returns
 returns c =

@@ -12,6 +12,7 @@ use Rattle.canonical_writer.proofs.SizeLimits.{size_limit}
 use Rattle.canonical_writer.proofs.FieldSteps.{AtField, first_field, next_field, field_inside, none_passed, all_passed, plain_size, node_smaller, node_size, size_within, node_entry}
 use borrow.Author.Rules.{rules}
 use Rattle.canonical_writer.proofs.sizes.tree_size.Goals as goal
+use Rattle.canonical_writer.proofs.sizes.tree_size.Goals.{then-names_node, else-names_node}
 
 pub loop-i-init : goal.loop-i-init
 loop-i-init c =
@@ -58,13 +59,13 @@ loop-i-preserved c =
     let inv = c.loop-i.invariant in
     let accepted = pre.sheet.accepted in (
       next_field inv.0 taken,
-      ⊎_elim
-          (λ w.
-          let entry = node_entry inv.0 accepted pre.below taken names_node.ensures w.0.taken w.1.ensures pre.sized (omega arith) w.2.ensures.0 in
-          let size = node_size inv.0 accepted pre.below taken names_node.ensures w.0.taken w.1.ensures in
-          omega (arith, w.4, inv.1, entry, size))
-          (λ w. omega (arith, w.1, inv.1, plain_size inv.0 names_node.ensures w.0.left))
-          c.if-names_node.branch,
+      elim c.if-names_node.branch [
+        | then-names_node w ↦
+            let entry = node_entry inv.0 accepted pre.below taken names_node.ensures w.if-names_node.true w.field_inside.ensures pre.sized (omega arith) w.wide.ensures.0 in
+            let size = node_size inv.0 accepted pre.below taken names_node.ensures w.if-names_node.true w.field_inside.ensures in
+            omega (arith, w.size-is, inv.1, entry, size)
+        | else-names_node w ↦ omega (arith, w.size-is, inv.1, plain_size inv.0 names_node.ensures w.if-names_node.false)
+      ],
     )
 
 pub returns : goal.returns

@@ -7,6 +7,7 @@ use Rattle.canonical_writer.proofs.Passing.{Passing, number_few, node_few, own_s
 use Rattle.canonical_writer.proofs.FieldWriting.{FieldsWritten, fields_begin, fields_end, fields_plain, fields_node}
 use borrow.Author.Rules.{rules}
 use Rattle.canonical_writer.proofs.writing.put_fields.Goals as goal
+use Rattle.canonical_writer.proofs.writing.put_fields.Goals.{then-names_node, else-names_node}
 
 pub overflow_add-start : goal.overflow_add-start
 overflow_add-start c = omega (arith, number_few c.requires.node)
@@ -70,19 +71,20 @@ loop-i-preserved c =
     let field_inside = c.field_inside in
     let wide2 = c.wide-old in
     let names = c.names_node.ensures in
-    let if1 = c.if-names_node in
     let put = c.put-next in
-    ⊎_elim
-    (λ w.
-    let size = child_size inv.0 taken names w.0.taken field_inside.ensures wide2.ensures.0 w.2.ensures.0 in (
-      passing_node inv.0 taken names w.0.taken field_inside.ensures (omega (arith, w.3, size)),
-      fields_node inv.0 inv.1 taken names field_inside.ensures put.ensures w.0.taken (omega (arith, w.3, w.4, size)),
-    ))
-    (λ w. (
-      rw w.1 (passing_plain inv.0 taken names w.0.left),
-      fields_plain inv.0 inv.1 taken names field_inside.ensures put.ensures w.0.left (omega (arith, w.2, wide2.ensures.0)),
-    ))
-    if1.branch
+    elim c.if-names_node.branch [
+      | then-names_node w ↦
+          let yes = w.if-names_node.true in
+          let size = child_size inv.0 taken names yes field_inside.ensures wide2.ensures.0 w.wide-start.ensures.0 in (
+            passing_node inv.0 taken names yes field_inside.ensures (omega (arith, w.start-is, size)),
+            fields_node inv.0 inv.1 taken names field_inside.ensures put.ensures yes (omega (arith, w.start-is, w.new-is, size)),
+          )
+      | else-names_node w ↦
+          let no = w.if-names_node.false in (
+            rw w.start-is (passing_plain inv.0 taken names no),
+            fields_plain inv.0 inv.1 taken names field_inside.ensures put.ensures no (omega (arith, w.new-is, wide2.ensures.0)),
+          )
+    ]
 
 pub shape_of-out : goal.shape_of-out
 shape_of-out c = c.loop-i.invariant.1.wrote.kept

@@ -1,0 +1,11 @@
+-- `batch::checks::rows_allowed` meets its contract.
+use Rattle.batch.proofs.Refusals.{many_rows, few_rows}
+use borrow.Author.Rules.{rules}
+use Rattle.allowances.proofs.allowed.Reads as allowed-reads
+use Rattle.batch.proofs.checks.rows_allowed.Goals as goal
+
+pub returns-then-rows-gt-MOST_ROWS : goal.returns-then-rows-gt-MOST_ROWS
+returns-then-rows-gt-MOST_ROWS c = many_rows _ c.if-rows-gt-MOST_ROWS.true
+
+pub returns : goal.returns
+returns c = few_rows c.if-rows-gt-MOST_ROWS.false c.allowed.ensures

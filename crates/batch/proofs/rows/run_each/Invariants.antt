@@ -1,0 +1,15 @@
+-- `batch::rows::run_each` meets its contract: the rows passed were run.
+use mathlib.Core.Path.{refl, ◌∙◌}
+use Prim.Native.Nat.{◌-◌}
+use Rattle.batch.proofs.InTurn.{Running, ran_none, ran_more, row_fits, running_kept, all_ran}
+use native.Mathlib.Omega.{arith}
+use borrow.Author.Rules.{rules}
+use Rattle.batch.proofs.rows.run_row.Reads as run-row-reads
+use Rattle.batch.proofs.rows.run_each.Given as goal
+
+abbrev pub invariant-loop-row : goal.invariant-loop-row
+invariant-loop-row l =
+    Running l.file l.table l.rows l.readings l.steps l.nesting l.cells_allowed l.initial.cells l.initial.records l.cells l.records l.row
+
+abbrev pub decreases-loop-row : goal.decreases-loop-row
+decreases-loop-row l = l.rows - l.row
