@@ -9,7 +9,7 @@ use Rattle.definitions.specs.SheetKinds
 use Rattle.definitions.specs.Records.{kind_of, field, field_count}
 use Rattle.definitions.specs.References.{from_first, from_second, every_other, child_count, child_field, children, child, clauses, clause_constructor}
 use Rattle.definitions.specs.NodeFields.{Clause, fields_from, clause_list}
-use Rattle.definitions.specs.SheetNodes.{SheetNode, operator, conditional, case_of}
+use Rattle.definitions.specs.SheetNodes.{SheetNode}
 use Rattle.accepted.specs.Child.{Child, left, right, condition, if_nonzero, if_zero, argument, component, scrutinee, clause}
 use Rattle.accepted.proofs.Elements.{Listed, listed_element, listed_found}
 use Rattle.accepted.proofs.SheetRecords.{SheetRecord, is_operator, is_conditional, is_call, is_build, is_case_law, is_number, is_reading, is_parameter, is_pattern_variable}

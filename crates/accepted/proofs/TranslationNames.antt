@@ -8,14 +8,13 @@ use native.Mathlib.Omega.{arith}
 use native.Mathlib.Nat.{zero-add}
 use lib.Dec.{ltb}
 use borrow.Author.Tests.{ltb-true}
-use Rattle.definitions.specs.OperatorCodes
 use Rattle.definitions.specs.TranslationKinds
 use Rattle.definitions.specs.Records.{record_of, kind_of, field, field_count}
 use Rattle.definitions.specs.Lists.{all_of}
 use Rattle.definitions.specs.Layouts.{readings, items, functions, nodes, first_node, due, item_record, node_record}
 use Rattle.definitions.specs.References.{from_first, from_second, every_other, child_count, child_field, children, child, clauses, names_in_range, in_range}
 use Rattle.definitions.specs.NodeFields.{fields_from}
-use Rattle.definitions.specs.TranslationNodes.{TranslationNode, reading, formal, operator, call, translation_node_of, actual}
+use Rattle.definitions.specs.TranslationNodes.{TranslationNode, reading, formal, call, translation_node_of, actual}
 use Rattle.definitions.specs.Checks.{translation_verdict}
 use Rattle.definitions.specs.declared.Layout.TheVariants.{Translation}
 use Rattle.definitions.specs.declared.Verdict.TheVariants.{Accepted}

@@ -6,7 +6,6 @@ use mathlib.Core.List.{List}
 use native.Mathlib.Omega.{arith}
 use native.Mathlib.Nat.{not-suc-le-zero}
 use lib.Dec.{eqb}
-use Rattle.definitions.specs.SheetKinds
 use Rattle.definitions.specs.Records.{field, field_count}
 use Rattle.definitions.specs.Layouts.{nodes, node_record}
 use Rattle.definitions.specs.SheetNodes.{SheetNode}

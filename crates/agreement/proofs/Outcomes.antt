@@ -13,7 +13,7 @@ use Rattle.definitions.specs.Outcomes.{Outcome, number_outcome, constructor_outc
 use Rattle.definitions.specs.Checks.{sheet_verdict}
 use Rattle.definitions.specs.Labels.{never_shared}
 use Rattle.definitions.specs.Translate.{unshared_translation}
-use Rattle.definitions.specs.Rule.{Ending, value, integer}
+use Rattle.definitions.specs.Rule.{Ending}
 use Rattle.definitions.specs.Run.{ending_outcome}
 use Rattle.laws.proofs.Ranges.{within_both}
 use Rattle.laws.proofs.Classes.{fault_answer}

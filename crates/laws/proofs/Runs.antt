@@ -2,7 +2,6 @@
 use mathlib.Core.Path.{◌≡◌, refl, sym, ◌∙◌}
 use Prim.Native.Nat.{ℕ, ◌+◌}
 use mathlib.Core.List.{List}
-use native.Mathlib.Omega.{arith}
 use Rattle.definitions.specs.Records.{record_of, field}
 use Rattle.definitions.specs.Lists.{sum_of}
 use Rattle.definitions.specs.Layouts.{first_function, function_record, count_field, node_count}

@@ -32,7 +32,7 @@ use Rattle.accepted.proofs.Owners.{body_below}
 use Rattle.accepted.proofs.Checks.{translation_shape}
 use Rattle.accepted.proofs.ParameterCounts.{formal_position}
 use Rattle.accepted.proofs.TranslationNames.{formal_below, translation_call_below, mention_below, actual_below}
-use Rattle.rule_laws.specs.Keeps.{Keeps, Proper, a_constructor, an_end, Keeping}
+use Rattle.rule_laws.specs.Keeps.{Keeps, Proper, an_end, Keeping}
 use Rattle.rule_laws.specs.SideBySide.{SideBySide, AlikeEnds, integers, constructors, ends, Both, cut, arrive, Due, Beside, Alike, InStep}
 use Rattle.rule_laws.proofs.Lockstep.{both_back, both_here, both_due, due_itself, alike_itself, evaluations_in_step}
 use Rattle.lent_rule.specs.Lent.{Lent, keeping_lent, under_lent, formal_by_lent, with_lent_cell, closing_lent, closed_lent, call_by_lent, by_lent}

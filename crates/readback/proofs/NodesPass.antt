@@ -13,7 +13,7 @@ use Rattle.definitions.specs.Bytes.{words32, bytes_of}
 use Rattle.definitions.specs.Records.{kind_of, field_count}
 use Rattle.definitions.specs.Kinds.{row, rows, row_in, row_of, allows}
 use Rattle.definitions.specs.Layouts.{readings, functions, nodes, first_node, node_record, owner_of}
-use Rattle.definitions.specs.Shape.{counts, operator_code}
+use Rattle.definitions.specs.Shape.{operator_code}
 use Rattle.definitions.specs.References.{from_first, from_second, every_other, children, child, clauses, names_in_range}
 use Rattle.definitions.specs.NodeFields.{Clause}
 use Rattle.definitions.specs.Operators.{residue}

@@ -18,7 +18,7 @@ use Rattle.definitions.specs.Lists.{joined, sum_of, count_of}
 use Rattle.definitions.specs.Layouts.{readings, items, functions, nodes, first_node, due, function_record, node_record}
 use Rattle.definitions.specs.References.{parameters, clauses, clause_constructor}
 use Rattle.definitions.specs.NodeFields.{Clause, fields_from, clause_list}
-use Rattle.definitions.specs.SheetNodes.{SheetNode, call, sheet_node_of}
+use Rattle.definitions.specs.SheetNodes.{SheetNode, sheet_node_of}
 use Rattle.definitions.specs.Checks.{sheet_verdict}
 use Rattle.definitions.specs.Labels.{Labelling, calls, first_call, is_first, actuals}
 use Rattle.definitions.specs.Translate.{formals, head_words, function_words, formal_words, node_words, translation_words, translation_by}

@@ -11,7 +11,6 @@ use Rattle.definitions.specs.Operators.{Computed, gives, faults, computed, is_ze
 use Rattle.definitions.specs.NodeFields.{chosen}
 use Rattle.definitions.specs.TranslationNodes.{TranslationNode, number, reading, formal, select, operator, conditional, call, tuple, case_of, tag_of}
 use Rattle.definitions.specs.Rule.{Ending, State, Reached, Visit, Contexts, reach, number_due, constructor_due, node_due, result_of, selected, evaluated, visited}
-use Rattle.accepted.specs.Mention as Mention
 use Rattle.accepted.specs.Mention.{Mention}
 use Rattle.rule_laws.specs.SideBySide.{SideBySide, AlikeEnds, integers, constructors, ends, Both, cut, arrive, Due, neither, each, Beside, Alike, numbers, readings, formals}
 use Rattle.rule_laws.specs.SideBySide.{selects, operators, conditionals, calls, tuples, cases, InStep}

@@ -8,7 +8,6 @@ use native.Mathlib.Omega.{arith}
 use native.Mathlib.Nat.{not-suc-le-zero}
 use Rattle.definitions.specs.Records.{field}
 use Rattle.definitions.specs.Layouts.{nodes, node_record}
-use Rattle.definitions.specs.SheetKinds
 use Rattle.definitions.specs.SheetNodes.{scrutinee_of}
 use Rattle.definitions.specs.Checks.{sheet_verdict}
 use Rattle.definitions.specs.Trees.{same_tree, deepest}

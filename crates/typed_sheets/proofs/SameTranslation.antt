@@ -9,7 +9,7 @@ use Rattle.definitions.specs.Records.{kind_of, field}
 use Rattle.definitions.specs.SheetKinds
 use Rattle.definitions.specs.TranslationKinds
 use Rattle.definitions.specs.Lists.{joined, sum_of, count_of, first_passing}
-use Rattle.definitions.specs.Layouts.{functions, nodes, owner_of}
+use Rattle.definitions.specs.Layouts.{owner_of}
 use Rattle.definitions.specs.SheetNodes.{SheetNode, number, reading, parameter, pattern_variable, operator, conditional, call, build, case_of, sheet_node, sheet_node_of}
 use Rattle.definitions.specs.Trees.{equal_trees}
 use Rattle.definitions.specs.Labels.{Labelling, calls, first_call, is_first, label_of, actuals}

@@ -1,6 +1,5 @@
 -- `allowances::allowed` meets its contract.
 use Rattle.allowances.proofs.Limits.{no_nesting_law, much_nesting, many_cells, cells_lent}
-use borrow.Author.Rules.{rules}
 use Rattle.allowances.proofs.allowed.Goals as goal
 
 pub returns-then-nesting-lt1 : goal.returns-then-nesting-lt1

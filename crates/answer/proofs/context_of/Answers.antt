@@ -1,7 +1,6 @@
 -- `answers::context_of` meets its contract, case by case.
 use Rattle.answer.specs.Answers.{context_of}
 use mathlib.Core.Path.{ap, sym}
-use borrow.Author.Rules.{rules}
 use Rattle.answer.proofs.context_of.Goals as goal
 
 pub returns-in-Number : goal.returns-in-Number

@@ -1,7 +1,6 @@
 -- `answers::outcome_of` meets its contract, case by case.
 use Rattle.answer.specs.Answers.{outcome_of}
 use mathlib.Core.Path.{ap, sym}
-use borrow.Author.Rules.{rules}
 use Rattle.answer.proofs.outcome_of.Goals as goal
 
 pub returns-in-Number : goal.returns-in-Number

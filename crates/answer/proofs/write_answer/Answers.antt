@@ -1,7 +1,6 @@
 -- `answer::write_answer` meets its contract: eight fields one after the other are the record's bytes.
 -- The calls are named from the last back to the first, each reached from the one after it.
 use Rattle.answer.proofs.Records.{record_short, record_bytes_law, record_written}
-use borrow.Author.Rules.{rules}
 use Rattle.answer.proofs.write_answer.Goals as goal
 
 pub returns-then-out-lt-ANSWER_BYTES : goal.returns-then-out-lt-ANSWER_BYTES

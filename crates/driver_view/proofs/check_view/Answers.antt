@@ -1,6 +1,5 @@
 -- `driver_view::check_view` meets its contract: the two tests in their order.
 use Rattle.driver_view.proofs.Views.{checked}
-use borrow.Author.Rules.{rules}
 use Rattle.driver_view.proofs.check_view.Goals as goal
 
 pub returns : goal.returns

@@ -1,6 +1,5 @@
 -- `driver_view::is_answer_record` meets its contract, test by test.
 use Rattle.driver_view.proofs.Views.{other_size, other_length, by_kind}
-use borrow.Author.Rules.{rules}
 use Rattle.driver_view.proofs.is_answer_record.Goals as goal
 
 pub returns-then-rec-ne-ANSWER_BYTES : goal.returns-then-rec-ne-ANSWER_BYTES

@@ -1,6 +1,5 @@
 -- `driver_view::put_fields` meets its contract: the two fields one after the other.
 use Rattle.driver_view.proofs.Views.{fields_written}
-use borrow.Author.Rules.{rules}
 use Rattle.driver_view.proofs.put_fields.Goals as goal
 
 pub returns : goal.returns

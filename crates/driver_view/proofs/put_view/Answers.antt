@@ -1,7 +1,6 @@
 -- `driver_view::put_view` meets its contract, by whether the record's outcome is a number's.
 use native.Mathlib.Omega.{arith}
 use Rattle.driver_view.proofs.Views.{number_shown, nothing_shown}
-use borrow.Author.Rules.{rules}
 use Rattle.driver_view.proofs.put_view.Goals as goal
 
 pub returns-then-outcome-eq-NUMBER : goal.returns-then-outcome-eq-NUMBER

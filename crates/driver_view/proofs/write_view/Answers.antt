@@ -1,6 +1,5 @@
 -- `driver_view::write_view` meets its contract: the refusal, or the view over the front of the output.
 use Rattle.driver_view.proofs.Views.{refused, view_written}
-use borrow.Author.Rules.{rules}
 use Rattle.driver_view.proofs.write_view.Goals as goal
 
 pub returns-in-Refused : goal.returns-in-Refused

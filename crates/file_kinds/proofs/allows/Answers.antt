@@ -1,7 +1,6 @@
 -- `file_kinds::allows` meets its contract: the comparisons of a row, or a kind past the table.
 use Rattle.laws.proofs.KindRows.{past_table}
 use Rattle.file_kinds.proofs.KindTable.{length_below, length_above, length_by_four, length_by_two}
-use borrow.Author.Rules.{rules}
 use Rattle.file_kinds.proofs.allows.Goals as goal
 
 pub returns-then-k-ge-KINDS : goal.returns-then-k-ge-KINDS

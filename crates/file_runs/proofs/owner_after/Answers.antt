@@ -1,6 +1,5 @@
 -- `file_runs::owner_after` meets its contract.
 use Rattle.file_runs.proofs.RunTables.{owner_next, owner_same}
-use borrow.Author.Rules.{rules}
 use Rattle.file_runs.proofs.owner_after.Goals as goal
 
 pub returns-then-wide-k : goal.returns-then-wide-k

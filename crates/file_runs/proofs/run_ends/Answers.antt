@@ -1,10 +1,8 @@
 -- `file_runs::run_ends` meets its contract. The loop's invariant: the ends of the runs passed are in the table, and the total is the last of them.
-use Rattle.file_runs.proofs.RunTables.{FillingEnds, ending_begins, next_fits, ending_goes_on, ending_done}
+use Rattle.file_runs.proofs.RunTables.{ending_begins, next_fits, ending_goes_on, ending_done}
 use Rattle.file_records.proofs.Indices.{indexed_field}
 use native.Mathlib.Omega.{arith}
 use mathlib.Core.Path.{◌∙◌}
-use Prim.Native.Nat.{◌-◌}
-use borrow.Author.Rules.{rules}
 use Rattle.file_runs.proofs.run_ends.Goals as goal
 
 pub loop-f-init : goal.loop-f-init

@@ -1,8 +1,6 @@
 -- `file_runs::run_owners` meets its contract. The loop's invariant: the owners of the nodes passed are in the table.
-use Rattle.file_runs.proofs.RunTables.{Owning, owning_begins, owner_small, owning_goes_on, owning_done}
-use native.Mathlib.Omega.{arith}
+use Rattle.file_runs.proofs.RunTables.{Owning}
 use Prim.Native.Nat.{◌-◌}
-use borrow.Author.Rules.{rules}
 use Rattle.file_runs.proofs.run_owners.Given as goal
 
 abbrev pub invariant-loop-k : goal.invariant-loop-k

@@ -1,7 +1,5 @@
 -- `file_shape::counts` meets its contract, kind by kind.
 use Rattle.laws.proofs.Shape.{counts_head, counts_constructor, counts_parameters, counts_sheet_run, counts_typed_constructor, counts_typed_function, counts_formals, counts_run, counts_other}
-use borrow.Author.Tests.{not-true, not-false}
-use borrow.Author.Rules.{rules}
 use Rattle.file_shape.proofs.counts.Goals as goal
 
 pub returns-then-r-eq0 : goal.returns-then-r-eq0

@@ -1,10 +1,7 @@
 -- `file_shape::field_total` meets its contract. The loop's invariant: the total is the sum over the functions passed.
 use native.Mathlib.Omega.{arith}
-use Rattle.definitions.specs.Records.{field}
 use Rattle.file_records.proofs.Indices.{indexed_field, as_many}
-use Rattle.laws.proofs.Runs.{Totalled, total_none, total_more, total_fields}
-use Rattle.file_records.specs.Index.{Indexed}
-use Prim.Native.Nat.{◌≤◌, ◌-◌, ◌+◌, ◌*◌}
+use Rattle.laws.proofs.Runs.{total_none, total_more, total_fields}
 use borrow.Author.Rules.{rules}
 use Rattle.file_shape.proofs.field_total.Goals as goal
 

@@ -1,6 +1,5 @@
 -- `file_shape::file_shape` meets its contract: the size first, then the walk.
 use Rattle.file_shape.proofs.Walking.{oversized}
-use borrow.Author.Rules.{rules}
 use Rattle.file_shape.proofs.file_shape.Goals as goal
 
 pub returns-then-file_limit-b : goal.returns-then-file_limit-b

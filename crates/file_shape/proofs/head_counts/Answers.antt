@@ -1,6 +1,5 @@
 -- `file_shape::head_counts` meets its contract: the ranges in the definition's order.
 use Rattle.laws.proofs.Shape.{readings_above, items_above, functions_below, functions_above, nodes_below, nodes_test}
-use borrow.Author.Rules.{rules}
 use Rattle.file_shape.proofs.head_counts.Goals as goal
 
 pub returns-then-readings-gt-MOST_READINGS : goal.returns-then-readings-gt-MOST_READINGS

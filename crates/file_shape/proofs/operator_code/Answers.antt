@@ -1,6 +1,5 @@
 -- `file_shape::operator_code` meets its contract, kind by kind.
 use Rattle.laws.proofs.Shape.{code_sheet, code_translation, code_none}
-use borrow.Author.Rules.{rules}
 use Rattle.file_shape.proofs.operator_code.Goals as goal
 
 pub returns-then-k-eq-OPERATOR : goal.returns-then-k-eq-OPERATOR

@@ -2,7 +2,6 @@
 use native.Mathlib.Omega.{arith}
 use Rattle.file_records.proofs.Indices.{as_many}
 use Rattle.laws.proofs.Shape.{parameters_above, parameters_last, parameters_inner}
-use borrow.Author.Rules.{rules}
 use Rattle.file_shape.proofs.parameter_counts.Goals as goal
 
 pub returns-then-field-gt-MOST_FIELDS : goal.returns-then-field-gt-MOST_FIELDS

@@ -2,7 +2,6 @@
 use native.Mathlib.Omega.{arith}
 use Rattle.file_records.proofs.Indices.{as_many}
 use Rattle.laws.proofs.Shape.{run_empty, run_last, run_inner}
-use borrow.Author.Rules.{rules}
 use Rattle.file_shape.proofs.run_counts.Goals as goal
 
 pub returns-then-field-lt1 : goal.returns-then-field-lt1

@@ -1,8 +1,6 @@
 -- `file_shape::shape_at` meets its contract: the checks in document 01's order.
-use borrow.Author.Tests.{not-true, not-false}
 use Rattle.laws.proofs.Shape.{shape_short, shape_not_due, shape_length, shape_cut, shape_code, shape_counts, shape_accepted}
 use native.Mathlib.Omega.{arith}
-use borrow.Author.Rules.{rules}
 use Rattle.file_shape.proofs.shape_at.Goals as goal
 
 pub returns-then-left-lt4 : goal.returns-then-left-lt4

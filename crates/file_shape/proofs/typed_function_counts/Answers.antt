@@ -1,7 +1,5 @@
 -- `file_shape::typed_function_counts` meets its contract, count by count.
 use Rattle.laws.proofs.TypedCounts.{typed_parameters_above, typed_run_not, function_types}
-use borrow.Author.Tests.{not-true, not-false}
-use borrow.Author.Rules.{rules}
 use Rattle.file_shape.proofs.typed_function_counts.Goals as goal
 
 pub returns-then-n-gt-MOST_FIELDS : goal.returns-then-n-gt-MOST_FIELDS

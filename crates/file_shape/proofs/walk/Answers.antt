@@ -1,7 +1,5 @@
 -- `file_shape::walk` meets its contract: the turns keep `Walking`, and each way out ends as `Walked` says.
-use Rattle.file_shape.proofs.Walking.{Walking, begins, room_here, index_more, refused_here, goes_on, ends_there, bytes_left}
-use Prim.Native.Nat.{◌-◌}
-use borrow.Author.Rules.{rules}
+use Rattle.file_shape.proofs.Walking.{begins, room_here, index_more, refused_here, goes_on, ends_there, bytes_left}
 use Rattle.file_shape.proofs.walk.Goals as goal
 
 pub loop-r-init : goal.loop-r-init

@@ -1,7 +1,6 @@
 -- `file_shape::walk` meets its contract: the turns keep `Walking`, and each way out ends as `Walked` says.
-use Rattle.file_shape.proofs.Walking.{Walking, begins, room_here, index_more, refused_here, goes_on, ends_there, bytes_left}
+use Rattle.file_shape.proofs.Walking.{Walking}
 use Prim.Native.Nat.{◌-◌}
-use borrow.Author.Rules.{rules}
 use Rattle.file_shape.proofs.walk.Given as goal
 
 abbrev pub invariant-loop-r : goal.invariant-loop-r

@@ -1,5 +1,4 @@
 -- The word is put where the walk over the lengths and the words before it lead. Assumes nothing.
-use borrow.Author.Rules.{rules}
 use Rattle.file_writer.proofs.Laws.{word_changed}
 use Rattle.file_writer.proofs.change.Goals as goal
 

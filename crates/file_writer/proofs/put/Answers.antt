@@ -1,6 +1,5 @@
 -- A word fits at every place but the last of the space, and its two bytes are stored there; at any other place it does not fit,
 -- and nothing is stored. Assumes nothing.
-use borrow.Author.Rules.{rules}
 use native.Mathlib.Omega.{arith}
 use Rattle.file_writer.proofs.Laws.{word_written, word_unwritten}
 use Rattle.file_writer.proofs.put.Goals as goal

@@ -1,9 +1,8 @@
 -- The loop has walked over `i` records. Assumes nothing.
 use borrow.Author.Rules.{rules}
-use mathlib.Core.Path.{◌≡◌, ap, ◌∙◌}
-use Prim.Native.Nat.{◌≤◌, ◌<◌, ◌-◌}
+use mathlib.Core.Path.{ap, ◌∙◌}
 use native.Mathlib.Omega.{arith}
-use Rattle.file_writer.specs.Writing.{walk_end, start_of}
+use Rattle.file_writer.specs.Writing.{start_of}
 use Rattle.file_writer.proofs.Laws.{start_first, start_more}
 use Rattle.file_writer.proofs.start.Goals as goal
 

@@ -1,10 +1,7 @@
 -- The loop has walked over `i` records. Assumes nothing.
-use borrow.Author.Rules.{rules}
-use mathlib.Core.Path.{◌≡◌, ap, ◌∙◌}
+use mathlib.Core.Path.{◌≡◌}
 use Prim.Native.Nat.{◌≤◌, ◌<◌, ◌-◌}
-use native.Mathlib.Omega.{arith}
 use Rattle.file_writer.specs.Writing.{walk_end, start_of}
-use Rattle.file_writer.proofs.Laws.{start_first, start_more}
 use Rattle.file_writer.proofs.start.Given as goal
 
 abbrev pub invariant-loop-i : goal.invariant-loop-i

@@ -1,6 +1,5 @@
 -- `live_counts::close_call` meets its contract.
 use Rattle.live_counts.proofs.Counts.{four_of, closed_set}
-use borrow.Author.Rules.{rules}
 use Rattle.live_counts.proofs.close_call.Goals as goal
 
 pub returns : goal.returns

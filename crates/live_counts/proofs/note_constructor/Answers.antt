@@ -1,6 +1,5 @@
 -- `live_counts::note_constructor` meets its contract.
 use Rattle.live_counts.proofs.Counts.{four_of, constructor_noted_law, nothing_noted, not_own_noted}
-use borrow.Author.Rules.{rules}
 use Rattle.live_counts.proofs.note_constructor.Goals as goal
 
 pub returns-then-kind-eq-CONSTRUCTOR : goal.returns-then-kind-eq-CONSTRUCTOR

@@ -1,6 +1,5 @@
 -- `live_counts::open_call` meets its contract.
 use Rattle.live_counts.proofs.Counts.{four_of, opened_set}
-use borrow.Author.Rules.{rules}
 use Rattle.live_counts.proofs.open_call.Goals as goal
 
 pub returns : goal.returns

@@ -3,7 +3,7 @@ use Rattle.operators.proofs.Answers.{number_answer, read_both, code_add, code_su
 use Rattle.operators.specs.Results.{computed_of}
 use Rattle.definitions.specs.Operators.{reduced, product, quotient, truth, equal}
 use lib.Signed.{lt_z}
-use Rattle.std.proofs.Common.{◌+ℤ◌, ◌-ℤ◌, ◌∙◌, w32, rules}
+use Rattle.std.proofs.Common.{◌+ℤ◌, ◌-ℤ◌, ◌∙◌, w32}
 use Rattle.operators.proofs.compute.Goals as goal
 
 pub returns-then-code-eq-MULTIPLY : goal.returns-then-code-eq-MULTIPLY

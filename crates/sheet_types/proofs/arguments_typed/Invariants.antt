@@ -1,13 +1,9 @@
 -- `sheet_types::arguments_typed` meets its contract. The loop's invariant: the arguments so far have the types declared.
-use mathlib.Core.Path.{refl, ◌∙◌}
 use Prim.Native.Nat.{◌+◌, ◌-◌}
 use lib.Dec.{eqb}
-use native.Mathlib.Omega.{arith}
 use Rattle.definitions.specs.Records.{field, field_count}
-use Rattle.laws.proofs.Tests.{Testing, tests_begin, tests_go_on, tests_fail, tests_end, same_test, differ_test}
-use Rattle.laws.proofs.Types.{arguments_tested}
+use Rattle.laws.proofs.Tests.{Testing}
 use Rattle.sheet_types.specs.Tables.{type_in}
-use borrow.Author.Rules.{rules}
 use Rattle.sheet_types.proofs.arguments_typed.Given as goal
 
 abbrev pub invariant-loop-i : goal.invariant-loop-i

@@ -3,7 +3,6 @@ use mathlib.Core.Path.{refl, sym, ◌∙◌}
 use native.Mathlib.Omega.{arith}
 use Rattle.laws.proofs.Types.{left_no_number, right_tested, condition_no_number, arms_tested, call_tested, build_tested, scrutinee_number, clauses_tested, childless}
 use Rattle.sheet_types.proofs.TypeSteps.{few_arguments, callee_record, constructor_record}
-use borrow.Author.Rules.{rules}
 use Rattle.sheet_types.proofs.children_typed.Goals as goal
 
 pub returns-then-type_in-ne-NUMBER_TYPE : goal.returns-then-type_in-ne-NUMBER_TYPE

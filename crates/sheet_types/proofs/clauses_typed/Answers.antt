@@ -1,13 +1,7 @@
 -- `sheet_types::clauses_typed` meets its contract. The loop's invariant: the clauses so far are of the type.
 use mathlib.Core.Path.{refl, ◌∙◌}
-use Prim.Native.Nat.{◌-◌}
-use lib.Dec.{eqb}
-use Rattle.definitions.specs.References.{clauses, clause_constructor}
-use Rattle.definitions.specs.Types.{own_type}
-use Rattle.laws.proofs.Tests.{Testing, tests_begin, tests_go_on, tests_fail, tests_end, same_test, differ_test}
-use Rattle.sheet_types.specs.Tables.{CaseAt}
+use Rattle.laws.proofs.Tests.{tests_begin, tests_go_on, tests_fail, tests_end, same_test, differ_test}
 use Rattle.sheet_types.proofs.TypeSteps.{clause_type}
-use borrow.Author.Rules.{rules}
 use Rattle.sheet_types.proofs.clauses_typed.Goals as goal
 
 pub loop-j-init : goal.loop-j-init

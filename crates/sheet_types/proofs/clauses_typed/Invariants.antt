@@ -1,13 +1,10 @@
 -- `sheet_types::clauses_typed` meets its contract. The loop's invariant: the clauses so far are of the type.
-use mathlib.Core.Path.{refl, ◌∙◌}
 use Prim.Native.Nat.{◌-◌}
 use lib.Dec.{eqb}
 use Rattle.definitions.specs.References.{clauses, clause_constructor}
 use Rattle.definitions.specs.Types.{own_type}
-use Rattle.laws.proofs.Tests.{Testing, tests_begin, tests_go_on, tests_fail, tests_end, same_test, differ_test}
+use Rattle.laws.proofs.Tests.{Testing}
 use Rattle.sheet_types.specs.Tables.{CaseAt}
-use Rattle.sheet_types.proofs.TypeSteps.{clause_type}
-use borrow.Author.Rules.{rules}
 use Rattle.sheet_types.proofs.clauses_typed.Given as goal
 
 abbrev pub invariant-loop-j : goal.invariant-loop-j

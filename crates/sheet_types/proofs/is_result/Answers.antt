@@ -2,7 +2,6 @@
 use mathlib.Core.Path.{◌∙◌}
 use Rattle.sheet_rules.proofs.TreeSteps.{node_in_table}
 use Rattle.sheet_types.proofs.TypeSteps.{result_body, result_no_case, result_clause}
-use borrow.Author.Rules.{rules}
 use Rattle.sheet_types.proofs.is_result.Goals as goal
 
 pub returns-then-is_body : goal.returns-then-is_body

@@ -2,7 +2,6 @@
 use mathlib.Core.Path.{refl, ◌∙◌}
 use native.Mathlib.Omega.{arith}
 use Rattle.sheet_types.proofs.TypeSteps.{node_in_table, pattern_outside, pattern_inside}
-use borrow.Author.Rules.{rules}
 use Rattle.sheet_types.proofs.pattern_type.Goals as goal
 
 pub bounds-held-k : goal.bounds-held-k

@@ -1,8 +1,6 @@
 -- `sheet_types::result_typed` meets its contract.
 use Rattle.sheet_rules.proofs.TreeSteps.{node_in_table}
-use borrow.Author.Tests.{not-true, not-false}
 use Rattle.sheet_types.proofs.TypeSteps.{result_elsewhere, result_compared}
-use borrow.Author.Rules.{rules}
 use Rattle.sheet_types.proofs.result_typed.Goals as goal
 
 pub returns-then-not-is_result : goal.returns-then-not-is_result

@@ -2,7 +2,6 @@
 use mathlib.Core.Path.{refl, ◌∙◌}
 use Rattle.laws.proofs.Types.{parameter_by, pattern_by, conditional_by, call_by, build_by, case_by, number_by}
 use Rattle.sheet_types.proofs.TypeSteps.{node_in_table, owner_field, callee_field, constructor_field}
-use borrow.Author.Rules.{rules}
 use Rattle.sheet_types.proofs.type_at.Goals as goal
 
 pub bounds-owners-k : goal.bounds-owners-k

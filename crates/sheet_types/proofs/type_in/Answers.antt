@@ -1,6 +1,5 @@
 -- `sheet_types::type_in` meets its contract.
 use Rattle.sheet_types.proofs.TypeSteps.{type_inside, type_past}
-use borrow.Author.Rules.{rules}
 use Rattle.sheet_types.proofs.type_in.Goals as goal
 
 pub returns-then-c-lt-MOST_NODES : goal.returns-then-c-lt-MOST_NODES

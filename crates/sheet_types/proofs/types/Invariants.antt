@@ -1,11 +1,6 @@
 -- `sheet_types::types` meets its contract. The loop's invariant: the nodes passed keep the rules, and their types are in the table.
-use mathlib.Core.Path.{◌∙◌}
 use Prim.Native.Nat.{◌-◌}
-use native.Mathlib.Omega.{arith}
-use borrow.Author.Tests.{not-true, not-false}
-use Rattle.sheet_rules.proofs.Ruling.{ruling_done}
-use Rattle.sheet_types.proofs.Typing.{Typing, typing_begins, named_at, typed_at, node_at, typing_room, typing_record, children_refused, result_refused, typing_goes_on}
-use borrow.Author.Rules.{rules}
+use Rattle.sheet_types.proofs.Typing.{Typing}
 use Rattle.sheet_types.proofs.types.Given as goal
 
 abbrev pub invariant-loop-k : goal.invariant-loop-k

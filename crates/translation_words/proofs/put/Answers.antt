@@ -1,6 +1,5 @@
 -- `translation_words::put` meets its contract: the two bytes of a word, or a place that is not counted.
 use Rattle.translation_words.proofs.Writing.{wrote_past, wrote_word}
-use borrow.Author.Rules.{rules}
 use Rattle.translation_words.proofs.put.Goals as goal
 
 pub returns-then-at-ge-TRANSLATION_BYTES : goal.returns-then-at-ge-TRANSLATION_BYTES

@@ -1,7 +1,6 @@
 -- `translation_words::put_copy` meets its contract: the record's start, then the fields of the other.
 use mathlib.Core.Path.{◌∙◌}
 use Rattle.translation_words.proofs.Writing.{wrote_copy}
-use borrow.Author.Rules.{rules}
 use Rattle.translation_words.proofs.put_copy.Goals as goal
 
 pub returns : goal.returns

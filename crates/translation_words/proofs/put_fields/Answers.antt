@@ -1,11 +1,7 @@
 -- `translation_words::put_fields` meets its contract. The loop's invariant: the fields passed are written.
 use mathlib.Core.Path.{◌∙◌}
-use Rattle.translation_words.proofs.Writing.{PartsWritten, parts_begin, parts_go_on, wrote_element, parts_end}
-use Prim.Native.Nat.{◌-◌}
-use mathlib.Core.List.{[], ◌∷◌}
+use Rattle.translation_words.proofs.Writing.{parts_begin, parts_go_on, wrote_element, parts_end}
 use Rattle.translation_words.specs.Writing.{field_words}
-use Rattle.definitions.specs.Records.{field}
-use borrow.Author.Rules.{rules}
 use Rattle.translation_words.proofs.put_fields.Goals as goal
 
 pub loop-j-init : goal.loop-j-init

@@ -1,11 +1,8 @@
 -- `translation_words::put_fields` meets its contract. The loop's invariant: the fields passed are written.
-use mathlib.Core.Path.{◌∙◌}
-use Rattle.translation_words.proofs.Writing.{PartsWritten, parts_begin, parts_go_on, wrote_element, parts_end}
+use Rattle.translation_words.proofs.Writing.{PartsWritten}
 use Prim.Native.Nat.{◌-◌}
 use mathlib.Core.List.{[], ◌∷◌}
-use Rattle.translation_words.specs.Writing.{field_words}
 use Rattle.definitions.specs.Records.{field}
-use borrow.Author.Rules.{rules}
 use Rattle.translation_words.proofs.put_fields.Given as goal
 
 abbrev pub invariant-loop-j : goal.invariant-loop-j

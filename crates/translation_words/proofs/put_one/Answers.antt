@@ -1,7 +1,6 @@
 -- `translation_words::put_one` meets its contract: the record's start, then its field.
 use mathlib.Core.Path.{refl}
 use Rattle.translation_words.proofs.Writing.{wrote_record}
-use borrow.Author.Rules.{rules}
 use Rattle.translation_words.proofs.put_one.Goals as goal
 
 pub returns : goal.returns

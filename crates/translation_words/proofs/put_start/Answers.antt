@@ -1,6 +1,5 @@
 -- `translation_words::put_start` meets its contract: two words, one after the other.
 use Rattle.translation_words.proofs.Writing.{wrote_then}
-use borrow.Author.Rules.{rules}
 use Rattle.translation_words.proofs.put_start.Goals as goal
 
 pub returns : goal.returns

@@ -1,7 +1,6 @@
 -- `translation_words::put_two` meets its contract: the record's start, then its fields.
 use mathlib.Core.Path.{refl}
 use Rattle.translation_words.proofs.Writing.{wrote_record, wrote_then}
-use borrow.Author.Rules.{rules}
 use Rattle.translation_words.proofs.put_two.Goals as goal
 
 pub returns : goal.returns

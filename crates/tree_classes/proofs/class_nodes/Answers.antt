@@ -1,6 +1,5 @@
 -- `tree_classes::class_nodes` meets its contract: the second numbers are the first nodes with equal trees.
 use Rattle.tree_classes.proofs.FirstNodes.{classes_first}
-use borrow.Author.Rules.{rules}
 use Rattle.tree_classes.proofs.class_nodes.Goals as goal
 
 pub returns : goal.returns

@@ -1,6 +1,5 @@
 -- `cells::cell::add_cell` meets its contract: label, previous number, empty entries and callee, where the cell fits.
 use Rattle.cells.proofs.Entries.{cell_added_law, cell_past}
-use borrow.Author.Rules.{rules}
 use Rattle.cells.proofs.cell.add_cell.Goals as goal
 
 pub returns-then-live-cells : goal.returns-then-live-cells

@@ -1,6 +1,5 @@
 -- `cells::cell::callee_at` meets its contract.
 use Rattle.cells.proofs.Entries.{callee_by}
-use borrow.Author.Rules.{rules}
 use Rattle.cells.proofs.cell.callee_at.Goals as goal
 
 pub returns : goal.returns

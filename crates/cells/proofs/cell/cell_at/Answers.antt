@@ -1,6 +1,5 @@
 -- `cells::cell::cell_at` meets its contract: by its bytes where they are there, else by its fields.
 use Rattle.cells.proofs.Places.{cell_by_fields, cell_by_bytes}
-use borrow.Author.Rules.{rules}
 use Rattle.cells.proofs.cell.cell_at.Goals as goal
 
 pub returns-then-end-cells : goal.returns-then-end-cells

@@ -1,6 +1,5 @@
 -- `cells::cell::label_at` meets its contract: a cell far past the end has no byte.
 use Rattle.cells.proofs.Places.{label_read, label_past}
-use borrow.Author.Rules.{rules}
 use Rattle.cells.proofs.cell.label_at.Goals as goal
 
 pub returns-then-i-cells : goal.returns-then-i-cells

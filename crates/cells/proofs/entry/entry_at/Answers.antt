@@ -1,6 +1,5 @@
 -- `cells::entry::entry_at` meets its contract: an entry by its bytes, where they are there.
 use Rattle.cells.proofs.Entries.{entry_read, entry_past}
-use borrow.Author.Rules.{rules}
 use Rattle.cells.proofs.entry.entry_at.Goals as goal
 
 pub returns-then-at-cells : goal.returns-then-at-cells

@@ -1,6 +1,5 @@
 -- `cells::entry::write_entry` meets its contract: six bytes of an entry, where they fit.
 use Rattle.cells.proofs.Entries.{entry_written_law, entry_kept}
-use borrow.Author.Rules.{rules}
 use Rattle.cells.proofs.entry.write_entry.Goals as goal
 
 pub returns-then-at-cells : goal.returns-then-at-cells

@@ -1,7 +1,6 @@
 -- `cells::listing::count_labels` meets its contract. The invariant: the labels counted and those of the walk
 -- from `at` are all; the measure is the cell's number, since each previous number is smaller.
-use borrow.Author.Rules.{rules}
-use Rattle.cells.proofs.Walks.{CountedSo, count_none, counted_beyond, counted_back, count_more, counted_all}
+use Rattle.cells.proofs.Walks.{count_none, counted_beyond, counted_back, count_more, counted_all}
 use Rattle.cells.proofs.listing.count_labels.Goals as goal
 
 pub loop-at-init : goal.loop-at-init

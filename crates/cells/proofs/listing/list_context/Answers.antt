@@ -1,6 +1,5 @@
 -- `cells::listing::list_context` meets its contract: the labels are counted first, so that a refusal writes nothing.
 use Rattle.cells.proofs.Walks.{walk_refused, output_short, listed_whole, listable}
-use borrow.Author.Rules.{rules}
 use Rattle.cells.proofs.listing.list_context.Goals as goal
 
 pub returns-in_default : goal.returns-in_default

@@ -1,7 +1,5 @@
 -- `cells::listing::write_labels` meets its contract. The invariant: what is to be written from here on gives the whole output; the measure is what is left to write.
-use Rattle.cells.proofs.Walks.{WrittenSo, write_none, write_more, written_all}
-use borrow.Author.Rules.{rules}
-use Prim.Native.Nat.{◌-◌}
+use Rattle.cells.proofs.Walks.{write_none, write_more, written_all}
 use Rattle.cells.proofs.listing.write_labels.Goals as goal
 
 pub loop-i-init : goal.loop-i-init

@@ -1,6 +1,5 @@
 -- `file_fields::bytes::word32` meets its contract: where the upper half is past the end, the lower half is the whole.
 use Rattle.laws.proofs.Bytes.{word32_words, word32_low}
-use Rattle.definitions.specs.Bytes.{word}
 use borrow.Author.Rules.{rules}
 use Rattle.file_fields.proofs.bytes.word32.Goals as goal
 

@@ -1,6 +1,5 @@
 -- `file_layout::layout::constructor_kind` meets its contract.
 use Rattle.laws.proofs.Shape.{constructor_typed, constructor_untyped}
-use borrow.Author.Rules.{rules}
 use Rattle.file_layout.proofs.layout.constructor_kind.Goals as goal
 
 pub returns-then-is_typed : goal.returns-then-is_typed

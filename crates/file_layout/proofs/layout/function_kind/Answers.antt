@@ -1,6 +1,5 @@
 -- `file_layout::layout::function_kind` meets its contract.
 use Rattle.laws.proofs.Shape.{function_typed, function_untyped}
-use borrow.Author.Rules.{rules}
 use Rattle.file_layout.proofs.layout.function_kind.Goals as goal
 
 pub returns-then-is_typed : goal.returns-then-is_typed

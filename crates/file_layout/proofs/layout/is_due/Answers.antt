@@ -1,6 +1,5 @@
 -- `file_layout::layout::is_due` meets its contract: the tests in the definition's order.
 use Rattle.laws.proofs.Shape.{due_head, due_section, due_below, due_node}
-use borrow.Author.Rules.{rules}
 use Rattle.file_layout.proofs.layout.is_due.Goals as goal
 
 pub returns-then-r-eq0 : goal.returns-then-r-eq0

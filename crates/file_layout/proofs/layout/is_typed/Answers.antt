@@ -1,6 +1,5 @@
 -- `file_layout::layout::is_typed` meets its contract.
 use Rattle.laws.proofs.Shape.{typed_constructor_first, typed_function_first}
-use borrow.Author.Rules.{rules}
 use Rattle.file_layout.proofs.layout.is_typed.Goals as goal
 
 pub returns-then-k-eq-TYPED_CONSTRUCTOR : goal.returns-then-k-eq-TYPED_CONSTRUCTOR

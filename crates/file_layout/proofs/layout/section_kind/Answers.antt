@@ -1,6 +1,5 @@
 -- `file_layout::layout::section_kind` meets its contract, layout by layout and section by section.
 use Rattle.laws.proofs.Shape.{section_constructor, section_sheet_function, section_function, section_formal}
-use borrow.Author.Rules.{rules}
 use Rattle.file_layout.proofs.layout.section_kind.Goals as goal
 
 pub returns-then-r-items : goal.returns-then-r-items

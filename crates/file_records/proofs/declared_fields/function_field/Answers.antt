@@ -1,6 +1,5 @@
 -- `file_records::declared_fields::function_field` meets its contract.
 use Rattle.file_records.proofs.Indices.{shown_field}
-use borrow.Author.Rules.{rules}
 use Rattle.file_records.proofs.declared_fields.function_field.Goals as goal
 
 pub returns : goal.returns

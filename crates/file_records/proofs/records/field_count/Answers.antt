@@ -1,7 +1,6 @@
 use Rattle.definitions.specs.Records.{field_count}
 use Rattle.laws.proofs.Records.{fields_none}
 use mathlib.Core.Path.{refl}
-use borrow.Author.Rules.{rules}
 use Rattle.file_records.proofs.records.field_count.Goals as goal
 
 pub returns-then-rec-lt4 : goal.returns-then-rec-lt4

@@ -1,7 +1,6 @@
 -- `file_records::records::field_inside` meets its contract: both bytes of the field are in the record.
 use Rattle.laws.proofs.Records.{field_room}
 use native.Mathlib.Omega.{arith}
-use borrow.Author.Rules.{rules}
 use Rattle.file_records.proofs.records.field_inside.Goals as goal
 
 pub overflow_mul-j : goal.overflow_mul-j

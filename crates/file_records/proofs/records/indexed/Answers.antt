@@ -1,7 +1,6 @@
 -- `file_records::records::indexed` meets its contract.
 use Rattle.definitions.specs.Records.{record_at}
 use mathlib.Core.Path.{◌∙◌, ap}
-use borrow.Author.Rules.{rules}
 use Rattle.file_records.proofs.records.indexed.Goals as goal
 
 pub returns : goal.returns

@@ -1,7 +1,6 @@
 -- `file_records::records::indexed_from` meets its contract: where the sum is not formed, it is past the index.
 use Rattle.file_records.proofs.Indices.{record_past}
 use native.Mathlib.Omega.{arith}
-use borrow.Author.Rules.{rules}
 use Rattle.file_records.proofs.records.indexed_from.Goals as goal
 
 pub returns-then-first-ge-MOST_RECORDS : goal.returns-then-first-ge-MOST_RECORDS

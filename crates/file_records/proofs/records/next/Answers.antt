@@ -1,7 +1,6 @@
 -- `file_records::records::next` meets its contract: a whole record ends inside the file, so the sum fits.
 use Rattle.laws.proofs.Records.{next_whole, next_none, whole_inside}
 use native.Mathlib.Omega.{arith}
-use borrow.Author.Rules.{rules}
 use Rattle.file_records.proofs.records.next.Goals as goal
 
 pub overflow_add-result : goal.overflow_add-result

@@ -1,7 +1,6 @@
 -- `file_records::records::record` meets its contract: the record at the place where record r starts.
 use mathlib.Core.Path.{◌∙◌, ap}
 use Rattle.definitions.specs.Records.{record_of, record_at}
-use borrow.Author.Rules.{rules}
 use Rattle.file_records.proofs.records.record.Goals as goal
 
 pub returns : goal.returns

@@ -1,7 +1,6 @@
 -- `file_records::records::record_at` meets its contract: a whole record ends inside the file.
 use Rattle.laws.proofs.Records.{whole_inside, record_part, record_none}
 use native.Mathlib.Omega.{arith}
-use borrow.Author.Rules.{rules}
 use Rattle.file_records.proofs.records.record_at.Goals as goal
 
 pub overflow_add-end : goal.overflow_add-end

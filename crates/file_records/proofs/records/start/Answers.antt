@@ -2,8 +2,7 @@
 use native.Mathlib.Omega.{arith}
 use Rattle.laws.proofs.Records.{start_next, start_zero}
 use Rattle.definitions.specs.Records.{start_of}
-use mathlib.Core.Path.{◌≡◌, ap, ◌∙◌}
-use Prim.Native.Nat.{◌≤◌, ◌-◌}
+use mathlib.Core.Path.{ap, ◌∙◌}
 use borrow.Author.Rules.{rules}
 use Rattle.file_records.proofs.records.start.Goals as goal
 

@@ -1,10 +1,7 @@
 -- `file_records::records::start` meets its contract. The loop's invariant: the place is where record i starts.
-use native.Mathlib.Omega.{arith}
-use Rattle.laws.proofs.Records.{start_next, start_zero}
 use Rattle.definitions.specs.Records.{start_of}
-use mathlib.Core.Path.{◌≡◌, ap, ◌∙◌}
+use mathlib.Core.Path.{◌≡◌}
 use Prim.Native.Nat.{◌≤◌, ◌-◌}
-use borrow.Author.Rules.{rules}
 use Rattle.file_records.proofs.records.start.Given as goal
 
 abbrev pub invariant-loop-i : goal.invariant-loop-i

@@ -1,6 +1,5 @@
 -- `file_references::references::child` meets its contract: the tests in the definition's order, and past the record's end 0.
 use Rattle.laws.proofs.References.{child_past, child_other, child_first, child_second}
-use borrow.Author.Rules.{rules}
 use Rattle.file_references.proofs.references.child.Goals as goal
 
 pub returns-then-rec-j : goal.returns-then-rec-j

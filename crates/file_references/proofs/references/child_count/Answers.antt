@@ -1,6 +1,5 @@
 -- `file_references::references::child_count` meets its contract: the tests in the definition's order.
 use Rattle.laws.proofs.References.{count_other, count_first, count_second, count_second_none, count_none}
-use borrow.Author.Rules.{rules}
 use Rattle.file_references.proofs.references.child_count.Goals as goal
 
 pub returns-then-every_other : goal.returns-then-every_other

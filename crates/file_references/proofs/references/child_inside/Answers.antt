@@ -2,7 +2,6 @@
 use Rattle.laws.proofs.References.{child_other, child_first, child_second, room_other, room_first, room_second}
 use Rattle.laws.proofs.Records.{field_room}
 use native.Mathlib.Omega.{arith}
-use borrow.Author.Rules.{rules}
 use Rattle.file_references.proofs.references.child_inside.Goals as goal
 
 pub overflow_mul-j : goal.overflow_mul-j

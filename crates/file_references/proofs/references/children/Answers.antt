@@ -1,6 +1,5 @@
 -- `file_references::references::children` meets its contract.
 use Rattle.laws.proofs.References.{children_counted}
-use borrow.Author.Rules.{rules}
 use Rattle.file_references.proofs.references.children.Goals as goal
 
 pub returns : goal.returns

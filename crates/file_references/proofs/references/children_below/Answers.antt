@@ -1,7 +1,6 @@
 -- `file_references::references::children_below` meets its contract: the tests of the kind in the definition's order, then the fields that it names.
 use Rattle.laws.proofs.References.{below_other, below_first, below_second, below_none}
 use mathlib.Core.Bool.{true}
-use borrow.Author.Rules.{rules}
 use Rattle.file_references.proofs.references.children_below.Goals as goal
 
 pub returns-then-every_other : goal.returns-then-every_other

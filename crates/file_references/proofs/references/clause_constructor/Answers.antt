@@ -1,6 +1,5 @@
 -- `file_references::references::clause_constructor` meets its contract; past the record's end 0.
 use Rattle.laws.proofs.References.{constructor_past, constructor_field}
-use borrow.Author.Rules.{rules}
 use Rattle.file_references.proofs.references.clause_constructor.Goals as goal
 
 pub returns-then-rec-j : goal.returns-then-rec-j

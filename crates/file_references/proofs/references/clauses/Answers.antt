@@ -1,6 +1,5 @@
 -- `file_references::references::clauses` meets its contract.
 use Rattle.laws.proofs.References.{clauses_counted}
-use borrow.Author.Rules.{rules}
 use Rattle.file_references.proofs.references.clauses.Goals as goal
 
 pub returns : goal.returns

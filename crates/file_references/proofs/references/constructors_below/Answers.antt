@@ -1,10 +1,5 @@
 -- `file_references::references::constructors_below` meets its contract. The loop's invariant: every constructor so far is below the limit.
-use Rattle.laws.proofs.Tests.{Testing, tests_begin, tests_go_on, tests_fail, tests_end, below_test, below_not}
-use Rattle.definitions.specs.References.{clauses, clause_constructor}
-use lib.Dec.{ltb}
-use Prim.Native.Nat.{◌-◌}
-use native.Mathlib.Omega.{arith}
-use borrow.Author.Rules.{rules}
+use Rattle.laws.proofs.Tests.{tests_begin, tests_go_on, tests_fail, tests_end, below_test, below_not}
 use Rattle.file_references.proofs.references.constructors_below.Goals as goal
 
 pub loop-j-init : goal.loop-j-init

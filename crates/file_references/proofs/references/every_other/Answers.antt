@@ -1,6 +1,5 @@
 -- `file_references::references::every_other` meets its contract, kind by kind.
 use Rattle.laws.proofs.References.{other_sheet_case, other_case, other_select}
-use borrow.Author.Rules.{rules}
 use Rattle.file_references.proofs.references.every_other.Goals as goal
 
 pub returns-then-kind-eq-CASE : goal.returns-then-kind-eq-CASE

@@ -1,10 +1,6 @@
 -- `file_references::references::fields_below` meets its contract. The loop's invariant: every field so far is below the limit.
-use Rattle.laws.proofs.Tests.{Testing, tests_begin, tests_go_on, tests_fail, tests_end, below_test, below_not}
-use Rattle.definitions.specs.Records.{field, field_count}
-use lib.Dec.{ltb}
+use Rattle.laws.proofs.Tests.{tests_begin, tests_go_on, tests_fail, tests_end, below_test, below_not}
 use native.Mathlib.Omega.{arith}
-use Prim.Native.Nat.{◌+◌, ◌-◌}
-use borrow.Author.Rules.{rules}
 use Rattle.file_references.proofs.references.fields_below.Goals as goal
 
 pub returns-then-n-from : goal.returns-then-n-from

@@ -1,6 +1,5 @@
 -- `file_references::references::from_first` meets its contract, kind by kind.
 use Rattle.laws.proofs.References.{first_sheet_if, first_if, first_list, first_other}
-use borrow.Author.Rules.{rules}
 use Rattle.file_references.proofs.references.from_first.Goals as goal
 
 pub returns-then-kind-eq-CONDITIONAL : goal.returns-then-kind-eq-CONDITIONAL

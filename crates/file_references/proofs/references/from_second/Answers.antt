@@ -1,6 +1,5 @@
 -- `file_references::references::from_second` meets its contract, kind by kind.
 use Rattle.laws.proofs.References.{second_sheet_operator, second_call, second_build, second_operator, second_tuple}
-use borrow.Author.Rules.{rules}
 use Rattle.file_references.proofs.references.from_second.Goals as goal
 
 pub returns-then-kind-eq-OPERATOR : goal.returns-then-kind-eq-OPERATOR

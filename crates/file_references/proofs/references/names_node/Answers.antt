@@ -1,6 +1,5 @@
 -- `file_references::references::names_node` meets its contract: the tests in the definition's order.
 use Rattle.laws.proofs.References.{named_other, named_first, named_second, named_none}
-use borrow.Author.Rules.{rules}
 use Rattle.file_references.proofs.references.names_node.Goals as goal
 
 pub returns-then-every_other : goal.returns-then-every_other

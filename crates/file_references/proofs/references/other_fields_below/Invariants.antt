@@ -1,10 +1,8 @@
 -- `file_references::references::other_fields_below` meets its contract. The loop's invariant: every field so far is below the limit.
-use Rattle.laws.proofs.Tests.{Testing, tests_begin, tests_go_on, tests_fail, tests_end, below_test, below_not}
+use Rattle.laws.proofs.Tests.{Testing}
 use Rattle.definitions.specs.Records.{field, field_count}
 use lib.Dec.{ltb}
-use native.Mathlib.Omega.{arith}
 use Prim.Native.Nat.{◌+◌, ◌*◌, ◌-◌, ◌/◌}
-use borrow.Author.Rules.{rules}
 use Rattle.file_references.proofs.references.other_fields_below.Given as goal
 
 abbrev pub invariant-loop-j : goal.invariant-loop-j

@@ -1,6 +1,5 @@
 -- `file_shape::types::typed_constructor_counts` meets its contract, count by count.
 use Rattle.laws.proofs.TypedCounts.{arity_above, own_type_none, own_type_above, constructor_types}
-use borrow.Author.Rules.{rules}
 use Rattle.file_shape.proofs.types.typed_constructor_counts.Goals as goal
 
 pub returns-then-n-gt-MOST_FIELDS : goal.returns-then-n-gt-MOST_FIELDS

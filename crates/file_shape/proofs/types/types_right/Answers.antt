@@ -1,13 +1,8 @@
 -- `file_shape::types::types_right` meets its contract. The loop's invariant: every type so far is in its range.
 use mathlib.Core.Path.{refl}
 use native.Mathlib.Omega.{arith}
-use Prim.Native.Nat.{◌+◌, ◌-◌}
-use Rattle.definitions.specs.Sizes.{most_types}
-use Rattle.definitions.specs.Records.{field}
-use Rattle.definitions.specs.Ranges.{within}
-use Rattle.laws.proofs.Tests.{Testing, tests_begin, tests_go_on, tests_fail, tests_end}
+use Rattle.laws.proofs.Tests.{tests_begin, tests_go_on, tests_fail, tests_end}
 use Rattle.laws.proofs.TypedCounts.{type_test, type_not, types_other_count, types_tested}
-use borrow.Author.Rules.{rules}
 use Rattle.file_shape.proofs.types.types_right.Goals as goal
 
 pub returns-then-field_count-n : goal.returns-then-field_count-n

@@ -4,7 +4,6 @@ use Rattle.sheet_rules.proofs.SeenTables.{seen_none}
 use Rattle.definitions.specs.Sizes.{most_nodes}
 use lib.ListN.{get_or-replicate}
 use mathlib.Core.Path.{refl}
-use borrow.Author.Rules.{rules}
 use Rattle.format.proofs.sheet.checks.Goals as goal
 
 pub returns-in_default : goal.returns-in_default

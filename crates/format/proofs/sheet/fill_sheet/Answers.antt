@@ -1,6 +1,5 @@
 -- `format::sheet::fill_sheet` meets its contract: a refused shape, or the verdict of the checks after it.
 use Rattle.format.proofs.Readings.{opened, sheet_refused, sheet_read}
-use borrow.Author.Rules.{rules}
 use Rattle.format.proofs.sheet.fill_sheet.Goals as goal
 
 pub returns-in_default : goal.returns-in_default

@@ -1,7 +1,5 @@
 -- `format::sheet::last_checks` meets its contract: the pattern rules, then the types.
-use borrow.Author.Tests.{not-true, not-false}
 use Rattle.format.proofs.Readings.{patterns_refused, types_none, types_last}
-use borrow.Author.Rules.{rules}
 use Rattle.format.proofs.sheet.last_checks.Goals as goal
 
 pub returns-in_default : goal.returns-in_default

@@ -1,6 +1,5 @@
 -- `format::translation::fill_translation` meets its contract: a refused shape, or the verdict on the references.
 use Rattle.format.proofs.Readings.{opened, translation_refused, translation_read}
-use borrow.Author.Rules.{rules}
 use Rattle.format.proofs.translation.fill_translation.Goals as goal
 
 pub returns-in_default : goal.returns-in_default

@@ -1,6 +1,5 @@
 -- `format::translation::names_in_range` meets its contract, kind by kind.
 use Rattle.laws.proofs.Names.{names_reading, names_function, names_formal, names_none}
-use borrow.Author.Rules.{rules}
 use Rattle.format.proofs.translation.names_in_range.Goals as goal
 
 pub returns-then-k-eq-READING : goal.returns-then-k-eq-READING

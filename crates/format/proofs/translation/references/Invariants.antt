@@ -1,13 +1,11 @@
 -- `format::translation::references` meets its contract. The loop's invariant: the rules of the records passed are accepted.
-use native.Mathlib.Omega.{arith}
 use Rattle.file_records.specs.Index.{Opened}
-use Rattle.laws.proofs.Verdicts.{Passed, passed_none, passed_more, passed_refused, passed_all}
+use Rattle.laws.proofs.Verdicts.{Passed}
 use Rattle.definitions.specs.declared.Layout.TheVariants.{Translation}
 use Rattle.definitions.specs.References.{references}
 use Rattle.definitions.specs.Layouts.{due}
 use mathlib.Core.Path.{◌≡◌}
 use Prim.Native.Nat.{◌≤◌, ◌-◌}
-use borrow.Author.Rules.{rules}
 use Rattle.format.proofs.translation.references.Given as goal
 
 abbrev pub invariant-loop-r : goal.invariant-loop-r

@@ -1,8 +1,6 @@
 -- `format::translation::references_at` meets its contract: the record that the index reaches is the record of that number.
 use Rattle.file_records.proofs.Indices.{opened_record, opened_translation_kind}
 use Rattle.laws.proofs.Names.{children_out, names_out, all_in}
-use borrow.Author.Tests.{not-true, not-false}
-use borrow.Author.Rules.{rules}
 use Rattle.format.proofs.translation.references_at.Goals as goal
 
 pub returns-then-not-children_below : goal.returns-then-not-children_below

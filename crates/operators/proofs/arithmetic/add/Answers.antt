@@ -1,6 +1,6 @@
 -- `operators::arithmetic::add` meets its contract: the sum of the bits, reduced, is the bits of the sum.
 use Rattle.operators.proofs.Conversions.{sum_number}
-use Rattle.std.proofs.Common.{w32, rules}
+use Rattle.std.proofs.Common.{w32}
 use Rattle.operators.proofs.arithmetic.add.Goals as goal
 
 pub returns : goal.returns

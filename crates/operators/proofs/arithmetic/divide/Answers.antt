@@ -1,7 +1,7 @@
 -- `operators::arithmetic::divide` meets its contract: the quotient is held unless the lowest number is divided by -1.
 use Rattle.operators.proofs.Division.{zero_quotient, lowest_quotient, nonzero_divisor, quotient_fits, plain_quotient}
 use Rattle.operators.specs.Results.{computed_of}
-use Rattle.std.proofs.Common.{⊎_elim, w32}
+use Rattle.std.proofs.Common.{w32}
 use Rattle.operators.proofs.arithmetic.divide.Goals as goal
 use Rattle.operators.proofs.arithmetic.divide.Goals.{then-y-eqminus1+else-x-eqminus2147483648, else-y-eqminus1}
 

@@ -1,7 +1,7 @@
 -- `operators::arithmetic::multiply` meets its contract: the exact product, or the fault where it is out of range.
 use Rattle.operators.proofs.Products.{range_cast, product_given, product_overflows}
 use Rattle.operators.specs.Results.{computed_of}
-use Rattle.std.proofs.Common.{w32, w64, rules}
+use Rattle.std.proofs.Common.{w32, w64}
 use Rattle.operators.proofs.arithmetic.multiply.Goals as goal
 
 pub overflow_cast-result : goal.overflow_cast-result

@@ -2,7 +2,6 @@
 use mathlib.Core.Path.{◌∙◌}
 use Rattle.laws.proofs.Arguments.{callee_below, constructor_below, match_result, match_call, match_build, match_other}
 use Rattle.sheet_rules.proofs.SheetTables.{opened_parameters, opened_constructor}
-use borrow.Author.Rules.{rules}
 use Rattle.sheet_rules.proofs.names.arguments_match.Goals as goal
 
 pub returns-then-r-first_function : goal.returns-then-r-first_function

@@ -1,15 +1,6 @@
 -- `sheet_rules::names::names` meets its contract. The loop's invariant: the records passed are accepted.
-use Rattle.file_records.specs.Index.{Opened}
-use Rattle.file_runs.specs.Runs.{Owners}
-use Rattle.laws.proofs.Verdicts.{Passed, passed_none, passed_more, passed_refused, passed_all}
-use Rattle.definitions.specs.declared.Layout.TheVariants.{Sheet}
-use Rattle.definitions.specs.Verdicts.{◌and_then◌}
-use Rattle.definitions.specs.SheetRules.{arguments}
-use Rattle.definitions.specs.References.{references}
-use Rattle.definitions.specs.Layouts.{due}
+use Rattle.laws.proofs.Verdicts.{passed_none, passed_more, passed_refused, passed_all}
 use native.Mathlib.Omega.{arith}
-use mathlib.Core.Path.{◌≡◌}
-use Prim.Native.Nat.{◌≤◌, ◌-◌}
 use borrow.Author.Rules.{rules}
 use Rattle.sheet_rules.proofs.names.names.Goals as goal
 

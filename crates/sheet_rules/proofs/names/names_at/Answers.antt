@@ -3,8 +3,6 @@ use Rattle.file_records.proofs.Indices.{opened_record}
 use Rattle.laws.proofs.Arguments.{out_of_range_law, mismatched, matched}
 use Rattle.laws.proofs.Names.{children_out, names_out, all_in}
 use mathlib.Core.Path.{sym, ◌∙◌}
-use borrow.Author.Tests.{not-true, not-false}
-use borrow.Author.Rules.{rules}
 use Rattle.sheet_rules.proofs.names.names_at.Goals as goal
 
 pub returns-then-not-children_below : goal.returns-then-not-children_below

@@ -2,7 +2,6 @@
 use mathlib.Core.Path.{◌∙◌}
 use Rattle.file_records.proofs.Indices.{numbered_sheet_kind}
 use Rattle.laws.proofs.Names.{names_sheet_reading, names_parameter, names_callee, names_constructor, names_clauses, names_sheet_none}
-use borrow.Author.Rules.{rules}
 use Rattle.sheet_rules.proofs.names.names_in_range.Goals as goal
 
 pub returns-then-k-eq-READING : goal.returns-then-k-eq-READING

@@ -1,7 +1,6 @@
 -- `sheet_rules::names::owner_parameters` meets its contract; a record before the nodes stands for node 0, as the definition's difference does.
 use Rattle.sheet_rules.proofs.SheetTables.{node_narrow, owner_parameters}
 use native.Mathlib.Omega.{arith}
-use borrow.Author.Rules.{rules}
 use Rattle.sheet_rules.proofs.names.owner_parameters.Goals as goal
 
 pub bounds-owners-r : goal.bounds-owners-r

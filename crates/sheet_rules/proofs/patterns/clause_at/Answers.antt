@@ -1,7 +1,6 @@
 -- `sheet_rules::patterns::clause_at` meets its contract: a body stands in no clause, a clause's node in its own, any other node in its parent's.
 use Rattle.sheet_rules.proofs.PatternSteps.{body_entry, parent_in_table, clause_entry, parent_entry}
 use Rattle.sheet_rules.proofs.TreeSteps.{node_in_table}
-use borrow.Author.Rules.{rules}
 use Rattle.sheet_rules.proofs.patterns.clause_at.Goals as goal
 
 pub is_body-requires : goal.is_body-requires

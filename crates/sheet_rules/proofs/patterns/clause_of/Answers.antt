@@ -1,8 +1,6 @@
 -- `sheet_rules::patterns::clause_of` meets its contract. The loop's invariant: the clauses passed are not the one.
-use Rattle.sheet_rules.proofs.ClauseTable.{ClauseLeft, clause_left_all, clause_left_fewer, clause_found, clause_not_found}
-use Rattle.definitions.specs.References.{clauses}
+use Rattle.sheet_rules.proofs.ClauseTable.{clause_left_all, clause_left_fewer, clause_found, clause_not_found}
 use mathlib.Core.Path.{◌∙◌}
-use borrow.Author.Rules.{rules}
 use Rattle.sheet_rules.proofs.patterns.clause_of.Goals as goal
 
 pub loop-j-init : goal.loop-j-init

@@ -1,8 +1,5 @@
 -- `sheet_rules::patterns::clause_of` meets its contract. The loop's invariant: the clauses passed are not the one.
-use Rattle.sheet_rules.proofs.ClauseTable.{ClauseLeft, clause_left_all, clause_left_fewer, clause_found, clause_not_found}
-use Rattle.definitions.specs.References.{clauses}
-use mathlib.Core.Path.{◌∙◌}
-use borrow.Author.Rules.{rules}
+use Rattle.sheet_rules.proofs.ClauseTable.{ClauseLeft}
 use Rattle.sheet_rules.proofs.patterns.clause_of.Given as goal
 
 abbrev pub invariant-loop-j : goal.invariant-loop-j

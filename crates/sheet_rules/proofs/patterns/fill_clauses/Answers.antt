@@ -1,8 +1,7 @@
 -- `sheet_rules::patterns::fill_clauses` meets its contract. The loop's invariant: the entries from node k on are right.
-use Rattle.sheet_rules.proofs.PatternSteps.{FillingClauses, filling_begins, filling_node, filling_from, filling_goes_on, filling_done}
+use Rattle.sheet_rules.proofs.PatternSteps.{filling_begins, filling_node, filling_from, filling_goes_on, filling_done}
 use native.Mathlib.Omega.{arith}
 use mathlib.Core.Path.{◌∙◌}
-use borrow.Author.Rules.{rules}
 use Rattle.sheet_rules.proofs.patterns.fill_clauses.Goals as goal
 
 pub loop-k-init : goal.loop-k-init

@@ -3,7 +3,6 @@ use Rattle.sheet_rules.proofs.PatternSteps.{entry_in_table, constructor_there, p
 use Rattle.sheet_rules.proofs.SheetTables.{opened_constructor}
 use native.Mathlib.Omega.{arith}
 use mathlib.Core.Path.{refl, ◌∙◌}
-use borrow.Author.Rules.{rules}
 use Rattle.sheet_rules.proofs.patterns.pattern_right.Goals as goal
 
 pub returns-then-kind-ne-PATTERN_VARIABLE : goal.returns-then-kind-ne-PATTERN_VARIABLE

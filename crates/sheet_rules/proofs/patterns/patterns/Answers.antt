@@ -1,13 +1,7 @@
 -- `sheet_rules::patterns::patterns` meets its contract. The loop's invariant: the rules of the nodes passed are accepted.
 use Rattle.sheet_rules.proofs.PatternSteps.{pattern_refused, pattern_accepted}
-use Rattle.sheet_rules.proofs.Ruling.{Ruling, ruling_begins, ruling_below, ruling_more, ruling_refused, ruling_done}
-use Rattle.sheet_rules.specs.Clauses.{ClausesOf}
-use Rattle.sheet_rules.specs.Seen.{TreesAccepted}
-use Rattle.definitions.specs.SheetRules.{pattern}
-use borrow.Author.Tests.{not-true, not-false}
+use Rattle.sheet_rules.proofs.Ruling.{ruling_begins, ruling_below, ruling_more, ruling_refused, ruling_done}
 use mathlib.Core.Path.{◌∙◌, refl}
-use Prim.Native.Nat.{◌-◌}
-use borrow.Author.Rules.{rules}
 use Rattle.sheet_rules.proofs.patterns.patterns.Goals as goal
 
 pub loop-k-init : goal.loop-k-init

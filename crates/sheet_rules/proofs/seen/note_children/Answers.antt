@@ -1,10 +1,7 @@
 -- `sheet_rules::seen::note_children` meets its contract. The loop's invariant: the nodes named so far are noted.
 use Rattle.sheet_rules.proofs.SeenTables.{noted_none, noted_more, noted_all}
-use Rattle.sheet_rules.specs.Seen.{Noted}
-use Rattle.definitions.specs.References.{children}
 use native.Mathlib.Omega.{arith}
-use mathlib.Core.Path.{◌≡◌, ◌∙◌}
-use Prim.Native.Nat.{◌≤◌, ◌-◌}
+use mathlib.Core.Path.{◌∙◌}
 use borrow.Author.Rules.{rules}
 use Rattle.sheet_rules.proofs.seen.note_children.Goals as goal
 

@@ -1,11 +1,8 @@
 -- `sheet_rules::seen::note_children` meets its contract. The loop's invariant: the nodes named so far are noted.
-use Rattle.sheet_rules.proofs.SeenTables.{noted_none, noted_more, noted_all}
 use Rattle.sheet_rules.specs.Seen.{Noted}
 use Rattle.definitions.specs.References.{children}
-use native.Mathlib.Omega.{arith}
-use mathlib.Core.Path.{◌≡◌, ◌∙◌}
+use mathlib.Core.Path.{◌≡◌}
 use Prim.Native.Nat.{◌≤◌, ◌-◌}
-use borrow.Author.Rules.{rules}
 use Rattle.sheet_rules.proofs.seen.note_children.Given as goal
 
 abbrev pub invariant-loop-j : goal.invariant-loop-j

@@ -1,8 +1,6 @@
 -- `sheet_rules::seen::note_sheet` meets its contract. The loop's invariant: the children of the nodes passed are noted.
-use Rattle.sheet_rules.proofs.SeenTables.{Seeing, seeing_goes_on, seeing_done}
-use Prim.Native.Nat.{◌-◌}
+use Rattle.sheet_rules.proofs.SeenTables.{seeing_goes_on, seeing_done}
 use native.Mathlib.Omega.{arith}
-use borrow.Author.Rules.{rules}
 use Rattle.sheet_rules.proofs.seen.note_sheet.Goals as goal
 
 pub loop-p-init : goal.loop-p-init

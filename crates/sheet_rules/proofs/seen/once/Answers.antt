@@ -1,6 +1,5 @@
 -- `sheet_rules::seen::once` meets its contract.
 use Rattle.sheet_rules.proofs.SeenTables.{once_first, once_more}
-use borrow.Author.Rules.{rules}
 use Rattle.sheet_rules.proofs.seen.once.Goals as goal
 
 pub returns-then-n-lt1 : goal.returns-then-n-lt1

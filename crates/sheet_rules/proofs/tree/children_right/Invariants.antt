@@ -1,12 +1,8 @@
 -- `sheet_rules::tree::children_right` meets its contract. The loop's invariant: the nodes named so far are right.
-use Rattle.sheet_rules.proofs.TreeSteps.{child_not_smaller, child_elsewhere, child_right_law}
 use Rattle.sheet_rules.specs.Nodes.{child_right}
-use Rattle.laws.proofs.Tests.{Testing, tests_begin, tests_go_on, tests_fail, tests_end}
+use Rattle.laws.proofs.Tests.{Testing}
 use Rattle.definitions.specs.References.{children}
-use native.Mathlib.Omega.{arith}
-use mathlib.Core.Path.{◌∙◌}
 use Prim.Native.Nat.{◌-◌}
-use borrow.Author.Rules.{rules}
 use Rattle.sheet_rules.proofs.tree.children_right.Given as goal
 
 abbrev pub invariant-loop-j : goal.invariant-loop-j

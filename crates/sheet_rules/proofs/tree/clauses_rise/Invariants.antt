@@ -1,12 +1,8 @@
 -- `sheet_rules::tree::clauses_rise` meets its contract. The loop's invariant: the clauses so far rise.
-use Rattle.sheet_rules.proofs.TreeSteps.{clauses_fall, clauses_rise_here}
-use Rattle.laws.proofs.Tests.{Testing, tests_begin, tests_go_on, tests_fail, tests_end}
-use Rattle.definitions.specs.SheetRules.{clauses_rise}
+use Rattle.laws.proofs.Tests.{Testing}
 use Rattle.definitions.specs.References.{clauses, clause_constructor}
 use lib.Dec.{ltb}
 use Prim.Native.Nat.{◌-◌, suc}
-use native.Mathlib.Omega.{arith}
-use borrow.Author.Rules.{rules}
 use Rattle.sheet_rules.proofs.tree.clauses_rise.Given as goal
 
 abbrev pub invariant-loop-j : goal.invariant-loop-j

@@ -1,6 +1,5 @@
 -- `sheet_rules::tree::is_body` meets its contract: a body is the last node before the end of its run.
 use Rattle.sheet_rules.proofs.TreeSteps.{node_in_table, owner_in_table, body_test}
-use borrow.Author.Rules.{rules}
 use Rattle.sheet_rules.proofs.tree.is_body.Goals as goal
 
 pub bounds-owners-k : goal.bounds-owners-k

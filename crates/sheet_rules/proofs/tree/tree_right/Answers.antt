@@ -1,7 +1,5 @@
 -- `sheet_rules::tree::tree_right` meets its contract: the rules in the definition's order.
 use Rattle.sheet_rules.proofs.TreeSteps.{node_in_table, node_record_law, tree_child_wrong, tree_case_body, tree_body, tree_times_wrong, tree_inner}
-use borrow.Author.Tests.{not-true, not-false}
-use borrow.Author.Rules.{rules}
 use Rattle.sheet_rules.proofs.tree.tree_right.Goals as goal
 
 pub children_right-requires : goal.children_right-requires

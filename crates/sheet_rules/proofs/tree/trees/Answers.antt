@@ -1,14 +1,7 @@
 -- `sheet_rules::tree::trees` meets its contract. The loop's invariant: the rules of the nodes passed are accepted.
-use Rattle.sheet_rules.proofs.Ruling.{Ruling, ruling_begins, ruling_below, ruling_more, ruling_refused, ruling_done}
+use Rattle.sheet_rules.proofs.Ruling.{ruling_begins, ruling_below, ruling_more, ruling_refused, ruling_done}
 use Rattle.sheet_rules.proofs.TreeSteps.{tree_refused, tree_accepted}
-use Rattle.file_runs.specs.Runs.{RunEndTable, Owners}
-use Rattle.sheet_rules.specs.Seen.{TimesOf}
-use Rattle.definitions.specs.declared.Layout.TheVariants.{Sheet}
-use Rattle.definitions.specs.SheetRules.{tree}
-use borrow.Author.Tests.{not-true, not-false}
 use mathlib.Core.Path.{◌∙◌, refl}
-use Prim.Native.Nat.{◌-◌}
-use borrow.Author.Rules.{rules}
 use Rattle.sheet_rules.proofs.tree.trees.Goals as goal
 
 pub loop-k-init : goal.loop-k-init

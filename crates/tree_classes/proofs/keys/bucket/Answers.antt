@@ -1,8 +1,6 @@
 -- `tree_classes::keys::bucket` meets its contract. The loop's invariant: the bucket by the fields so far.
-use mathlib.Core.Path.{◌≡◌, ◌∙◌}
-use Prim.Native.Nat.{◌-◌, ◌≤◌, ◌<◌}
+use mathlib.Core.Path.{◌∙◌}
 use native.Mathlib.Omega.{arith}
-use Rattle.tree_classes.specs.Keys.{entry_of, bucket_after, buckets}
 use Rattle.tree_classes.proofs.SameKeys.{bucket_begins, bucket_more, bucket_done}
 use borrow.Author.Rules.{rules}
 use Rattle.tree_classes.proofs.keys.bucket.Goals as goal

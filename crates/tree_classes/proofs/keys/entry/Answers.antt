@@ -1,7 +1,6 @@
 -- `tree_classes::keys::entry` meets its contract.
 use mathlib.Core.Path.{refl}
 use Rattle.tree_classes.proofs.SameKeys.{entry_past}
-use borrow.Author.Rules.{rules}
 use Rattle.tree_classes.proofs.keys.entry.Goals as goal
 
 pub returns-then-at-lt-MOST_NODES : goal.returns-then-at-lt-MOST_NODES

@@ -1,13 +1,9 @@
 -- `tree_classes::keys::same_values` meets its contract. The loop's invariant: the values compared so far are equal.
-use mathlib.Core.Path.{◌∙◌}
 use lib.Dec.{eqb}
 use Prim.Native.Nat.{◌-◌}
-use native.Mathlib.Omega.{arith}
 use Rattle.definitions.specs.Records.{field_count}
-use Rattle.laws.proofs.Tests.{Testing, tests_begin, tests_go_on, tests_fail, tests_end, same_test, differ_test}
+use Rattle.laws.proofs.Tests.{Testing}
 use Rattle.tree_classes.specs.Keys.{entry_of, value_of}
-use Rattle.tree_classes.proofs.SameKeys.{kinds_differ, counts_differ, values_tested}
-use borrow.Author.Rules.{rules}
 use Rattle.tree_classes.proofs.keys.same_values.Given as goal
 
 abbrev pub invariant-loop-i : goal.invariant-loop-i

@@ -1,6 +1,5 @@
 -- `tree_classes::keys::value` meets its contract.
 use Rattle.tree_classes.proofs.SameKeys.{value_named, value_plain}
-use borrow.Author.Rules.{rules}
 use Rattle.tree_classes.proofs.keys.value.Goals as goal
 
 pub returns-then-names_node : goal.returns-then-names_node

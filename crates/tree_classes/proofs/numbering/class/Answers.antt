@@ -1,7 +1,6 @@
 -- `tree_classes::numbering::class` meets its contract.
 use mathlib.Core.Path.{refl}
 use Rattle.tree_classes.proofs.NumberedNodes.{class_anew, class_likewise}
-use borrow.Author.Rules.{rules}
 use Rattle.tree_classes.proofs.numbering.class.Goals as goal
 
 pub returns-then-found-eq0 : goal.returns-then-found-eq0

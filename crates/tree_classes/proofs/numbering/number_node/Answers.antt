@@ -4,7 +4,6 @@ use native.Mathlib.Omega.{arith}
 use Rattle.definitions.specs.declared.Layout.TheVariants.{Sheet}
 use Rattle.file_records.proofs.Indices.{node_reached}
 use Rattle.tree_classes.proofs.NumberedNodes.{found_limit, chain_begins, node_numbered}
-use borrow.Author.Rules.{rules}
 use Rattle.tree_classes.proofs.numbering.number_node.Goals as goal
 
 pub find_same-found-requires : goal.find_same-found-requires

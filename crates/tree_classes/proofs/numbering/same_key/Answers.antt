@@ -4,7 +4,6 @@ use native.Mathlib.Omega.{arith}
 use Rattle.definitions.specs.declared.Layout.TheVariants.{Sheet}
 use Rattle.file_records.proofs.Indices.{node_reached}
 use Rattle.tree_classes.proofs.SameKeys.{places_differ, places_same}
-use borrow.Author.Rules.{rules}
 use Rattle.tree_classes.proofs.numbering.same_key.Goals as goal
 
 pub returns-then-places-j : goal.returns-then-places-j

@@ -1,7 +1,6 @@
 -- `tree_classes::places::place` meets its contract.
 use mathlib.Core.Path.{refl}
 use Rattle.tree_classes.proofs.PlacedNodes.{place_parameter, place_pattern, place_other}
-use borrow.Author.Rules.{rules}
 use Rattle.tree_classes.proofs.places.place.Goals as goal
 
 pub returns-then-kind-eq-PARAMETER : goal.returns-then-kind-eq-PARAMETER

@@ -1,10 +1,7 @@
 -- `tree_classes::places::place_nodes` meets its contract. The loop's invariant: the nodes passed have their places in the table.
-use mathlib.Core.Path.{refl, ◌∙◌}
 use Prim.Native.Nat.{◌-◌, ◌≤◌}
 use Rattle.tree_classes.specs.Keys.{entry_of}
 use Rattle.tree_classes.specs.Places.{Placed}
-use Rattle.tree_classes.proofs.PlacedNodes.{placed_none, place_narrow, owner_narrow, placed_more, placed_all}
-use borrow.Author.Rules.{rules}
 use Rattle.tree_classes.proofs.places.place_nodes.Given as goal
 
 abbrev pub invariant-loop-k : goal.invariant-loop-k
