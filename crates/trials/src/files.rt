@@ -1,6 +1,7 @@
 // Files written and changed as the text of the trials says, outputs, and readings.
 ghost use Rattle.std.specs.Prelude.{◌≤◌};
 
+use crate::printer::Printer;
 use crate::shown::show_misfit;
 use crate::text::{COMMA, after, number, number_starts, place, signed_bits, until, word};
 use definitions::sizes::{CELL_BYTES, MOST_READINGS, MOST_ROWS};
@@ -14,13 +15,13 @@ pub(crate) const READINGS_ROOM: usize = (MOST_ROWS as usize + 1) * MOST_READINGS
 pub(crate) type Readings = [i32; READINGS_ROOM];
 
 // A size that fits; of one that does not the trial's line says so, and the trial goes on with the greatest.
-pub(crate) fn within(size: usize, greatest: usize) -> usize
+pub(crate) fn within(size: usize, greatest: usize, printer: &mut Printer) -> usize
     ensures { result ≤ greatest }
 {
     if size <= greatest {
         return size;
     }
-    show_misfit();
+    show_misfit(printer);
     greatest
 }
 
@@ -46,27 +47,38 @@ fn at_turn(word: u16, step: u16, turn: u16) -> u16 {
 }
 
 // The word whose digits start at a place, at a turn.
-fn word_at_turn(text: &[u8], at: usize, turn: u16) -> u16 {
-    at_turn(word(text, at), word(text, after(text, at, b'+')), turn)
+fn word_at_turn(text: &[u8], at: usize, turn: u16, printer: &mut Printer) -> u16 {
+    at_turn(
+        word(text, at, printer),
+        word(text, after(text, at, b'+'), printer),
+        turn,
+    )
 }
 
 // Writes a word that fits, and answers the place after it.
-fn put_word(file: &mut Space, at: usize, word: u16) -> usize {
+fn put_word(file: &mut Space, at: usize, word: u16, printer: &mut Printer) -> usize {
     let next = put(file, at, word);
     if next == at {
-        show_misfit();
+        show_misfit(printer);
     }
     next
 }
 
 // Writes one turn of an entry's words, and answers the place after them.
-fn put_turn(text: &[u8], from: usize, turn: u16, file: &mut Space, at: usize) -> usize {
+fn put_turn(
+    text: &[u8],
+    from: usize,
+    turn: u16,
+    file: &mut Space,
+    at: usize,
+    printer: &mut Printer,
+) -> usize {
     let end = until(text, from, COMMA);
     let mut next = at;
     let mut i = from;
     while i < end {
         if number_starts(text, i) {
-            next = put_word(file, next, word_at_turn(text, i, turn));
+            next = put_word(file, next, word_at_turn(text, i, turn, printer), printer);
         }
         i += 1;
     }
@@ -78,24 +90,41 @@ const CELL_WORDS: u32 = CELL_BYTES as u32 / 2;
 
 // Writes one turn of a cell, and answers the place after it: the entry's first number is the cell's last word, and the numbers after
 // it, 0 where there are none, are the words before. More numbers do not fit.
-fn put_cell(text: &[u8], from: usize, turn: u16, file: &mut Space, at: usize) -> usize {
+fn put_cell(
+    text: &[u8],
+    from: usize,
+    turn: u16,
+    file: &mut Space,
+    at: usize,
+    printer: &mut Printer,
+) -> usize {
     let mut next = at;
     let mut k: u32 = 1;
     while k < CELL_WORDS {
-        next = put_word(file, next, word_at_turn(text, place(text, from, k), turn));
+        next = put_word(
+            file,
+            next,
+            word_at_turn(text, place(text, from, k), turn, printer),
+            printer,
+        );
         k += 1;
     }
     if place(text, from, CELL_WORDS) < text.len() {
-        show_misfit();
+        show_misfit(printer);
     }
-    put_word(file, next, word(text, place(text, from, 0)))
+    put_word(
+        file,
+        next,
+        word(text, place(text, from, 0), printer),
+        printer,
+    )
 }
 
 // How many turns an entry has: the number after `x`, or one.
-fn turns(text: &[u8], from: usize) -> u16 {
+fn turns(text: &[u8], from: usize, printer: &mut Printer) -> u16 {
     if from < text.len() {
         if text[from] == b'x' {
-            return word(text, from + 1);
+            return word(text, from + 1, printer);
         }
     }
     1
@@ -108,15 +137,16 @@ pub(crate) fn put_entry(
     cells: bool,
     file: &mut Space,
     at: usize,
+    printer: &mut Printer,
 ) -> usize {
-    let count = turns(text, from);
+    let count = turns(text, from, printer);
     let mut next = at;
     let mut turn: u16 = 0;
     while turn < count {
         if cells {
-            next = put_cell(text, from, turn, file, next);
+            next = put_cell(text, from, turn, file, next, printer);
         } else {
-            next = put_turn(text, from, turn, file, next);
+            next = put_turn(text, from, turn, file, next, printer);
         }
         turn += 1;
     }
@@ -136,19 +166,19 @@ pub(crate) fn copy(from: &Space, size: usize, to: &mut Space) {
 
 // Makes the changes that an entry lists: `r.j=w` sets word `j` of record `r`, of which word 0 is the length and word 1 the
 // kind. A number that no dot follows is no change.
-pub(crate) fn change_words(text: &[u8], from: usize, file: &mut Space) {
+pub(crate) fn change_words(text: &[u8], from: usize, file: &mut Space, printer: &mut Printer) {
     let end = until(text, from, COMMA);
     let mut i = from;
     while i < end {
         if number_starts(text, i) {
             let j = after(text, i, b'.');
             if j < text.len() {
-                let record = number(text, i) as usize;
+                let record = number(text, i, printer) as usize;
                 change(
                     file,
                     record,
-                    word(text, j),
-                    word(text, after(text, j, b'=')),
+                    word(text, j, printer),
+                    word(text, after(text, j, b'='), printer),
                 );
             }
         }
@@ -157,22 +187,29 @@ pub(crate) fn change_words(text: &[u8], from: usize, file: &mut Space) {
 }
 
 // The reading whose digits start at a place, at a turn.
-fn reading(text: &[u8], at: usize, turn: u16) -> i32 {
-    let step = word(text, after(text, at, b'+'));
+fn reading(text: &[u8], at: usize, turn: u16, printer: &mut Printer) -> i32 {
+    let step = word(text, after(text, at, b'+'), printer);
     let grown = at_turn(0, step, turn);
-    number_of(wrapping_add_u32(signed_bits(text, at), grown as u32))
+    number_of(wrapping_add_u32(signed_bits(text, at, printer), grown as u32))
 }
 
 // Puts one turn of the readings that an entry lists after a bar, past the first `count`, and answers how many there are then; a
 // reading past the room has no place.
-fn put_row(text: &[u8], from: usize, turn: u16, readings: &mut Readings, count: usize) -> usize {
+fn put_row(
+    text: &[u8],
+    from: usize,
+    turn: u16,
+    readings: &mut Readings,
+    count: usize,
+    printer: &mut Printer,
+) -> usize {
     let end = until(text, from, COMMA);
     let mut next = count;
     let mut i = until(text, from, b'|');
     while i < end {
         if number_starts(text, i) {
             if next < READINGS_ROOM {
-                readings[next] = reading(text, i, turn);
+                readings[next] = reading(text, i, turn, printer);
                 next += 1;
             }
         }
@@ -182,21 +219,26 @@ fn put_row(text: &[u8], from: usize, turn: u16, readings: &mut Readings, count: 
 }
 
 // How many turns the readings of an entry have.
-fn reading_turns(text: &[u8], from: usize) -> u16 {
+fn reading_turns(text: &[u8], from: usize, printer: &mut Printer) -> u16 {
     let bar = until(text, from, b'|');
     if bar < text.len() {
-        return turns(text, bar + 2);
+        return turns(text, bar + 2, printer);
     }
     1
 }
 
 // Puts the readings that an entry lists after a bar, all turns of them, and answers how many they are.
-pub(crate) fn put_readings(text: &[u8], from: usize, readings: &mut Readings) -> usize {
-    let rows = reading_turns(text, from);
+pub(crate) fn put_readings(
+    text: &[u8],
+    from: usize,
+    readings: &mut Readings,
+    printer: &mut Printer,
+) -> usize {
+    let rows = reading_turns(text, from, printer);
     let mut count: usize = 0;
     let mut turn: u16 = 0;
     while turn < rows {
-        count = put_row(text, from, turn, readings, count);
+        count = put_row(text, from, turn, readings, count, printer);
         turn += 1;
     }
     count

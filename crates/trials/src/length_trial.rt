@@ -1,5 +1,6 @@
 // A trial of asking how long a translation would be: a line says what was answered.
 use crate::files::within;
+use crate::printer::Printer;
 use crate::shown::{show_named, show_number, show_refusal};
 use crate::text::{is_negative, number, numbered, place};
 use definitions::Written;
@@ -10,20 +11,20 @@ use translation_length::translated_length;
 const GREATEST: usize = 0xffff_ffff_ffff_ffff;
 
 // What asking for the length of the first `size` bytes of a sheet's file answers, for an output of `room` bytes.
-fn asked(sheet: &[u8], size: usize, room: usize) -> Written {
-    let bytes = within(size, sheet.len());
+fn asked(sheet: &[u8], size: usize, room: usize, printer: &mut Printer) -> Written {
+    let bytes = within(size, sheet.len(), printer);
     translated_length(&sheet[0..bytes], room)
 }
 
 // The same with a whole space.
-pub(crate) fn asked_in(sheet: &Space, size: usize, room: usize) -> Written {
-    asked(sheet, size, room)
+pub(crate) fn asked_in(sheet: &Space, size: usize, room: usize, printer: &mut Printer) -> Written {
+    asked(sheet, size, room, printer)
 }
 
 // The stated length of an entry: its number 1, or with a minus as many below the greatest number.
-fn stated(text: &[u8], from: usize) -> usize {
+fn stated(text: &[u8], from: usize, printer: &mut Printer) -> usize {
     let at = place(text, from, 1);
-    let length = number(text, at) as usize;
+    let length = number(text, at, printer) as usize;
     if is_negative(text, at) {
         return GREATEST - length;
     }
@@ -48,15 +49,15 @@ pub(crate) fn same_answer(one: Written, other: Written) -> bool {
 }
 
 // A trial. The entry has the sheet's bytes and the stated length.
-pub(crate) fn try_length(text: &[u8], from: usize, sheet: &Space) {
-    let size = numbered(text, from, 0) as usize;
-    let answer = asked_in(sheet, size, stated(text, from));
-    show_named(b"  length asked ", text, from, b": ");
+pub(crate) fn try_length(text: &[u8], from: usize, sheet: &Space, printer: &mut Printer) {
+    let size = numbered(text, from, 0, printer) as usize;
+    let answer = asked_in(sheet, size, stated(text, from, printer), printer);
+    show_named(b"  length asked ", text, from, b": ", printer);
     match answer {
-        Written::Length(n) => show_number(b"length ", n, b"\n"),
+        Written::Length(n) => show_number(b"length ", n, b"\n", printer),
         Written::Refused { number, place } => {
-            show_refusal(number, place);
-            io::write_all(1, b"\n");
+            show_refusal(number, place, printer);
+            printer.write(b"\n");
         }
     }
 }

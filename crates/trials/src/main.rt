@@ -54,6 +54,7 @@ mod files;
 mod hirer_trial;
 mod length_trial;
 mod listing_trial;
+mod printer;
 mod reader_trial;
 mod rows_trial;
 mod run_trial;
@@ -68,6 +69,7 @@ use crate::files::{fill, put_entry};
 use crate::hirer_trial::try_for_hirer;
 use crate::length_trial::try_length;
 use crate::listing_trial::try_listing;
+use crate::printer::Printer;
 use crate::reader_trial::try_reader;
 use crate::rows_trial::try_rows;
 use crate::run_trial::{try_joined, try_run};
@@ -78,6 +80,8 @@ use crate::translator_trial::try_translator;
 use crate::view_trial::try_view;
 use definitions::Layout;
 use file_writer::{SPACE_BYTES, Space};
+use standard_input::read_full;
+use std::io;
 
 // More bytes than the text of the trials has.
 const TEXT_BYTES: usize = 131072;
@@ -99,6 +103,7 @@ fn written(
     sheet: &mut Space,
     translation: &mut Space,
     cells: &mut Space,
+    printer: &mut Printer,
 ) -> Sizes {
     if letter == b'=' {
         fill(sheet);
@@ -111,14 +116,14 @@ fn written(
         };
     }
     if letter == b's' {
-        let size = put_entry(text, from, false, sheet, sizes.sheet);
+        let size = put_entry(text, from, false, sheet, sizes.sheet, printer);
         return Sizes {
             sheet: size,
             ..sizes
         };
     }
     if letter == b't' {
-        let size = put_entry(text, from, false, translation, sizes.translation);
+        let size = put_entry(text, from, false, translation, sizes.translation, printer);
         return Sizes {
             translation: size,
             ..sizes
@@ -126,7 +131,7 @@ fn written(
     }
     if letter == b'c' || letter == b'k' {
         let first = if letter == b'c' { sizes.cells } else { 0 };
-        let size = put_entry(text, from, true, cells, first);
+        let size = put_entry(text, from, true, cells, first, printer);
         return Sizes {
             cells: size,
             ..sizes
@@ -144,50 +149,51 @@ fn tried(
     sheet: &Space,
     translation: &Space,
     cells: &Space,
+    printer: &mut Printer,
 ) {
     if letter == b'=' {
-        show_named(b"", text, from, b"\n");
+        show_named(b"", text, from, b"\n", printer);
     }
     if letter == b'-' {
-        show_named(b"- ", text, from, b"\n");
+        show_named(b"- ", text, from, b"\n", printer);
     }
     if letter == b'S' {
-        try_reader(text, from, Layout::Sheet, sheet);
+        try_reader(text, from, Layout::Sheet, sheet, printer);
     }
     if letter == b'T' {
-        try_reader(text, from, Layout::Translation, translation);
+        try_reader(text, from, Layout::Translation, translation, printer);
     }
     if letter == b'r' {
-        let size = numbered(text, from, 0) as usize;
-        let room = numbered(text, from, 1) as usize;
-        try_translator(sheet, size, room, translation, sizes.translation);
+        let size = numbered(text, from, 0, printer) as usize;
+        let room = numbered(text, from, 1, printer) as usize;
+        try_translator(sheet, size, room, translation, sizes.translation, printer);
     }
     if letter == b'm' {
-        try_length(text, from, sheet);
+        try_length(text, from, sheet, printer);
     }
     if letter == b'o' {
-        try_canonical(text, from, sheet, translation, sizes.translation);
+        try_canonical(text, from, sheet, translation, sizes.translation, printer);
     }
     if letter == b'j' {
-        try_joined(text, from, sheet, cells);
+        try_joined(text, from, sheet, cells, printer);
     }
     if letter == b'u' {
-        try_run(text, from, translation, cells);
+        try_run(text, from, translation, cells, printer);
     }
     if letter == b'w' {
-        try_rows(text, from, translation, cells);
+        try_rows(text, from, translation, cells, printer);
     }
     if letter == b'h' {
-        try_for_hirer(text, from, translation, cells);
+        try_for_hirer(text, from, translation, cells, printer);
     }
     if letter == b'f' {
-        try_search(text, from, translation, cells);
+        try_search(text, from, translation, cells, printer);
     }
     if letter == b'l' {
-        try_listing(text, from, cells);
+        try_listing(text, from, cells, printer);
     }
     if letter == b'v' {
-        try_view(text, from, translation);
+        try_view(text, from, translation, printer);
     }
 }
 
@@ -199,6 +205,7 @@ fn entry(
     sheet: &mut Space,
     translation: &mut Space,
     cells: &mut Space,
+    printer: &mut Printer,
 ) -> Sizes {
     if text.len() <= at {
         return sizes;
@@ -207,16 +214,35 @@ fn entry(
         return sizes;
     }
     let letter = text[at];
-    let after = written(text, letter, at + 2, sizes, sheet, translation, cells);
-    tried(text, letter, at + 2, after, sheet, translation, cells);
+    let after = written(
+        text,
+        letter,
+        at + 2,
+        sizes,
+        sheet,
+        translation,
+        cells,
+        printer,
+    );
+    tried(
+        text,
+        letter,
+        at + 2,
+        after,
+        sheet,
+        translation,
+        cells,
+        printer,
+    );
     after
 }
 
-fn main() {
+fn main(rt: HostRuntime) -> io::Result<()> {
     let mut text = [0u8; TEXT_BYTES];
-    let size = io::read_full(0, &mut text);
+    let size = read_full(&mut rt.stdin(), &mut text)?;
+    let mut printer = Printer::new(rt.stdout());
     if size == text.len() {
-        show_misfit();
+        show_misfit(&mut printer);
     }
     let mut sheet = [0u8; SPACE_BYTES];
     let mut translation = [0u8; SPACE_BYTES];
@@ -229,8 +255,17 @@ fn main() {
     let mut at: usize = 0;
     while at < size {
         if line_starts(&text, at) {
-            sizes = entry(&text, at, sizes, &mut sheet, &mut translation, &mut cells);
+            sizes = entry(
+                &text,
+                at,
+                sizes,
+                &mut sheet,
+                &mut translation,
+                &mut cells,
+                &mut printer,
+            );
         }
         at += 1;
     }
+    printer.end()
 }

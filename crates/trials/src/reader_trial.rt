@@ -1,5 +1,6 @@
 // A trial of a reader: a file with some of its words changed is read, and a line says what the reader answers.
 use crate::files::{change_words, copy, within};
+use crate::printer::Printer;
 use crate::shown::{show_named, show_refusal};
 use crate::text::number;
 use definitions::{Layout, Verdict};
@@ -24,31 +25,37 @@ fn verdict(layout: Layout, file: &[u8]) -> Verdict {
 }
 
 // The same of the first `size` bytes.
-fn verdict_of(layout: Layout, file: &Space, size: usize) -> Verdict {
+fn verdict_of(layout: Layout, file: &Space, size: usize, printer: &mut Printer) -> Verdict {
     let bytes: &[u8] = file;
-    let count = within(size, bytes.len());
+    let count = within(size, bytes.len(), printer);
     verdict(layout, &bytes[0..count])
 }
 
 // The end of a line.
-fn show(verdict: Verdict) {
+fn show(verdict: Verdict, printer: &mut Printer) {
     match verdict {
         Verdict::Accepted => {
-            io::write_all(1, b"accepted");
+            printer.write(b"accepted");
         }
         Verdict::Refused { number, place } => {
-            show_refusal(number, place);
+            show_refusal(number, place, printer);
         }
     }
-    io::write_all(1, b"\n");
+    printer.write(b"\n");
 }
 
 // A trial. The entry has the number of bytes that are read, the changes, and after a comma what the trial is.
-pub(crate) fn try_reader(text: &[u8], from: usize, layout: Layout, base: &Space) {
+pub(crate) fn try_reader(
+    text: &[u8],
+    from: usize,
+    layout: Layout,
+    base: &Space,
+    printer: &mut Printer,
+) {
     let mut file = [0u8; SPACE_BYTES];
     copy(base, SPACE_BYTES, &mut file);
-    change_words(text, from, &mut file);
-    let size = number(text, from) as usize;
-    show_named(b"  ", text, from, b": ");
-    show(verdict_of(layout, &file, size));
+    change_words(text, from, &mut file, printer);
+    let size = number(text, from, printer) as usize;
+    show_named(b"  ", text, from, b": ", printer);
+    show(verdict_of(layout, &file, size, printer), printer);
 }

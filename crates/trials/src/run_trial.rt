@@ -1,6 +1,7 @@
 // A trial of a run: a line says what was answered, by the fields of the answer's record, and whether the lent bytes are what
 // they should be.
 use crate::files::{READINGS_ROOM, Readings, change_words, copy, filled, put_readings, within};
+use crate::printer::Printer;
 use crate::shown::{show_misfit, show_named, show_record, show_whether};
 use crate::text::numbered;
 use crate::translator_trial::{agree, translated_in};
@@ -26,17 +27,17 @@ pub(crate) struct Given {
 }
 
 // The first numbers of an entry from a place on, with a count of readings.
-pub(crate) fn read_given(text: &[u8], from: usize, count: usize) -> Given {
+pub(crate) fn read_given(text: &[u8], from: usize, count: usize, printer: &mut Printer) -> Given {
     if READINGS_ROOM <= count {
-        show_misfit();
+        show_misfit(printer);
     }
     Given {
-        steps: numbered(text, from, 0),
-        nesting: numbered(text, from, 1),
-        cells_allowed: numbered(text, from, 2),
-        lent: numbered(text, from, 3) as usize,
-        size: numbered(text, from, 4) as usize,
-        room: numbered(text, from, 5) as usize,
+        steps: numbered(text, from, 0, printer),
+        nesting: numbered(text, from, 1, printer),
+        cells_allowed: numbered(text, from, 2, printer),
+        lent: numbered(text, from, 3, printer) as usize,
+        size: numbered(text, from, 4, printer) as usize,
+        room: numbered(text, from, 5, printer) as usize,
         count,
     }
 }
@@ -56,11 +57,12 @@ fn ran(
     first: usize,
     g: Given,
     before: Space,
+    printer: &mut Printer,
 ) -> Answered {
-    let bytes = within(size, file.len());
-    let start = within(first, readings.len());
-    let values = within(g.count, readings.len() - start);
-    let lent_bytes = within(g.lent, SPACE_BYTES);
+    let bytes = within(size, file.len(), printer);
+    let start = within(first, readings.len(), printer);
+    let values = within(g.count, readings.len() - start, printer);
+    let lent_bytes = within(g.lent, SPACE_BYTES, printer);
     let mut cells = before;
     let mut lent: &mut [u8] = &mut cells[0..lent_bytes];
     let answer = run(
@@ -82,16 +84,23 @@ pub(crate) fn ran_in(
     first: usize,
     g: Given,
     before: Space,
+    printer: &mut Printer,
 ) -> Answered {
-    ran(file, size, readings, first, g, before)
+    ran(file, size, readings, first, g, before, printer)
 }
 
 // Translates and runs a sheet in one call, with new cells.
-fn joined(sheet: &[u8], out: &mut [u8], readings: &[i32], g: Given) -> Answered {
-    let bytes = within(g.size, sheet.len());
-    let out_bytes = within(g.room, out.len());
-    let values = within(g.count, readings.len());
-    let lent_bytes = within(g.lent, SPACE_BYTES);
+fn joined(
+    sheet: &[u8],
+    out: &mut [u8],
+    readings: &[i32],
+    g: Given,
+    printer: &mut Printer,
+) -> Answered {
+    let bytes = within(g.size, sheet.len(), printer);
+    let out_bytes = within(g.room, out.len(), printer);
+    let values = within(g.count, readings.len(), printer);
+    let lent_bytes = within(g.lent, SPACE_BYTES, printer);
     let mut cells = filled();
     let mut lent: &mut [u8] = &mut cells[0..lent_bytes];
     let answer = translate_and_run(
@@ -107,15 +116,27 @@ fn joined(sheet: &[u8], out: &mut [u8], readings: &[i32], g: Given) -> Answered 
 }
 
 // The same with whole spaces.
-fn joined_in(sheet: &Space, out: &mut Space, readings: &Readings, g: Given) -> Answered {
-    joined(sheet, out, readings, g)
+fn joined_in(
+    sheet: &Space,
+    out: &mut Space,
+    readings: &Readings,
+    g: Given,
+    printer: &mut Printer,
+) -> Answered {
+    joined(sheet, out, readings, g, printer)
 }
 
 // The same in two calls.
-fn in_two_calls(sheet: &Space, out: &mut Space, readings: &Readings, g: Given) -> Answered {
-    let translated = translated_in(sheet, g.size, out, g.room);
+fn in_two_calls(
+    sheet: &Space,
+    out: &mut Space,
+    readings: &Readings,
+    g: Given,
+    printer: &mut Printer,
+) -> Answered {
+    let translated = translated_in(sheet, g.size, out, g.room, printer);
     match translated {
-        Written::Length(n) => ran_in(out, n, readings, 0, g, filled()),
+        Written::Length(n) => ran_in(out, n, readings, 0, g, filled(), printer),
         Written::Refused { number, place } => Answered {
             answer: refused(number, place),
             cells: filled(),
@@ -152,9 +173,9 @@ fn recorded(answer: Answer) -> Space {
 }
 
 // Shows the fields of an answer's record.
-pub(crate) fn show_answer(answer: Answer) {
+pub(crate) fn show_answer(answer: Answer, printer: &mut Printer) {
     let record = recorded(answer);
-    show_record(&record);
+    show_record(&record, printer);
 }
 
 // Whether two answers have the same record.
@@ -166,53 +187,69 @@ pub(crate) fn same_record(one: Answer, other: Answer) -> bool {
 
 // A trial of a run of a sheet, in one call and in two. The entry has the allowances, the bytes lent for cells, the sheet's
 // bytes, the output's bytes, the changes, and the readings.
-pub(crate) fn try_joined(text: &[u8], from: usize, base: &Space, expected: &Space) {
+pub(crate) fn try_joined(
+    text: &[u8],
+    from: usize,
+    base: &Space,
+    expected: &Space,
+    printer: &mut Printer,
+) {
     let mut sheet = [0u8; SPACE_BYTES];
     copy(base, SPACE_BYTES, &mut sheet);
-    change_words(text, from, &mut sheet);
+    change_words(text, from, &mut sheet, printer);
     let mut readings = [0i32; READINGS_ROOM];
-    let count = put_readings(text, from, &mut readings);
-    let g = read_given(text, from, count);
+    let count = put_readings(text, from, &mut readings, printer);
+    let g = read_given(text, from, count, printer);
     let mut out = filled();
-    let ran = joined_in(&sheet, &mut out, &readings, g);
+    let ran = joined_in(&sheet, &mut out, &readings, g, printer);
     let answer = ran.answer;
     let mut alone = filled();
-    let second = in_two_calls(&sheet, &mut alone, &readings, g);
-    show_named(b"  ", text, from, b": ");
-    show_answer(answer);
+    let second = in_two_calls(&sheet, &mut alone, &readings, g, printer);
+    show_named(b"  ", text, from, b": ", printer);
+    show_answer(answer, printer);
     show_whether(
         cells_right(answer.cells, &ran.cells, expected),
         b", cells",
         b", CELLS WRONG",
+        printer,
     );
     show_whether(
         output_right(answer, &out, &alone),
         b" and output right",
         b", OUTPUT WRONG",
+        printer,
     );
     show_whether(
         same_record(answer, second.answer) && agree(&ran.cells, &second.cells),
         b", the same in two calls\n",
         b", NOT THE SAME IN TWO CALLS\n",
+        printer,
     );
 }
 
 // A trial of a run of a translation. The entry has the allowances, the bytes lent for cells, the translation's bytes, the
 // changes, and the readings.
-pub(crate) fn try_run(text: &[u8], from: usize, base: &Space, expected: &Space) {
+pub(crate) fn try_run(
+    text: &[u8],
+    from: usize,
+    base: &Space,
+    expected: &Space,
+    printer: &mut Printer,
+) {
     let mut translation = [0u8; SPACE_BYTES];
     copy(base, SPACE_BYTES, &mut translation);
-    change_words(text, from, &mut translation);
+    change_words(text, from, &mut translation, printer);
     let mut readings = [0i32; READINGS_ROOM];
-    let count = put_readings(text, from, &mut readings);
-    let g = read_given(text, from, count);
-    let ran = ran_in(&translation, g.size, &readings, 0, g, filled());
+    let count = put_readings(text, from, &mut readings, printer);
+    let g = read_given(text, from, count, printer);
+    let ran = ran_in(&translation, g.size, &readings, 0, g, filled(), printer);
     let answer = ran.answer;
-    show_named(b"  ", text, from, b": ");
-    show_answer(answer);
+    show_named(b"  ", text, from, b": ", printer);
+    show_answer(answer, printer);
     show_whether(
         cells_right(answer.cells, &ran.cells, expected),
         b", cells right\n",
         b", CELLS WRONG\n",
+        printer,
     );
 }

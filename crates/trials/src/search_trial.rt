@@ -1,6 +1,7 @@
 // A trial of a search for a reading's value: a line says what was answered, whether the lent cells are what they should be, and
 // whether single runs in turn, from the lowest value on, find the same and leave the same cells.
 use crate::files::{READINGS_ROOM, Readings, change_words, copy, filled, put_readings, within};
+use crate::printer::Printer;
 use crate::run_trial::{Given, cells_right, ran_in, read_given};
 use crate::shown::{show_named, show_number, show_refusal, show_value, show_whether};
 use crate::text::{numbered, place, signed_bits};
@@ -38,20 +39,26 @@ struct RanInTurn {
     cells: Space,
 }
 
-fn read_query(text: &[u8], from: usize) -> Query {
+fn read_query(text: &[u8], from: usize, printer: &mut Printer) -> Query {
     Query {
-        position: numbered(text, from, 0),
-        lowest: signed_bits(text, place(text, from, 1)),
-        highest: signed_bits(text, place(text, from, 2)),
-        wanted: number_of(signed_bits(text, place(text, from, 3))),
+        position: numbered(text, from, 0, printer),
+        lowest: signed_bits(text, place(text, from, 1), printer),
+        highest: signed_bits(text, place(text, from, 2), printer),
+        wanted: number_of(signed_bits(text, place(text, from, 3), printer)),
     }
 }
 
 // Searches with new cells.
-fn searched(file: &[u8], readings: &[i32], q: Query, g: Given) -> SearchAnswered {
-    let bytes = within(g.size, file.len());
-    let values = within(g.count, readings.len());
-    let lent_bytes = within(g.lent, SPACE_BYTES);
+fn searched(
+    file: &[u8],
+    readings: &[i32],
+    q: Query,
+    g: Given,
+    printer: &mut Printer,
+) -> SearchAnswered {
+    let bytes = within(g.size, file.len(), printer);
+    let values = within(g.count, readings.len(), printer);
+    let lent_bytes = within(g.lent, SPACE_BYTES, printer);
     let mut cells = filled();
     let mut lent: &mut [u8] = &mut cells[0..lent_bytes];
     let answer = find_reading(
@@ -70,8 +77,14 @@ fn searched(file: &[u8], readings: &[i32], q: Query, g: Given) -> SearchAnswered
 }
 
 // The same with whole spaces.
-fn searched_in(file: &Space, readings: &Readings, q: Query, g: Given) -> SearchAnswered {
-    searched(file, readings, q, g)
+fn searched_in(
+    file: &Space,
+    readings: &Readings,
+    q: Query,
+    g: Given,
+    printer: &mut Printer,
+) -> SearchAnswered {
+    searched(file, readings, q, g, printer)
 }
 
 // Sets the reading at a position that has one.
@@ -101,13 +114,20 @@ fn larger(a: u16, b: u16) -> u16 {
 
 // Makes at most `count` single runs in turn in the same new cells, from the lowest value on, to the first that gives the number. The
 // readings are those of the last of them then.
-fn ran_in_turn(file: &Space, readings: &mut Readings, q: Query, count: u32, g: Given) -> RanInTurn {
+fn ran_in_turn(
+    file: &Space,
+    readings: &mut Readings,
+    q: Query,
+    count: u32,
+    g: Given,
+    printer: &mut Printer,
+) -> RanInTurn {
     let mut cells = filled();
     let mut most: u16 = 0;
     let mut runs: u32 = 0;
     while runs < count {
         set_value(readings, q.position, wrapping_add_u32(q.lowest, runs));
-        let ran = ran_in(file, g.size, readings, 0, g, cells);
+        let ran = ran_in(file, g.size, readings, 0, g, cells, printer);
         cells = ran.cells;
         most = larger(most, ran.answer.cells);
         runs += 1;
@@ -129,20 +149,20 @@ fn ran_in_turn(file: &Space, readings: &mut Readings, q: Query, count: u32, g: G
 }
 
 // Shows what was answered, and answers how many runs there may be: none where the search is refused.
-fn show_searched(answer: Searched, q: Query) -> u32 {
+fn show_searched(answer: Searched, q: Query, printer: &mut Printer) -> u32 {
     let count = wrapping_add_u32(wrapping_sub_u32(q.highest, q.lowest), 1);
     match answer {
         Searched::Found(z) => {
-            io::write_all(1, b"found");
-            show_value(wide32(bits_of(z)));
+            printer.write(b"found");
+            show_value(wide32(bits_of(z)), printer);
             count
         }
         Searched::NoValue => {
-            show_number(b"none ", numbers::NO_VALUE as usize, b"");
+            show_number(b"none ", numbers::NO_VALUE as usize, b"", printer);
             count
         }
         Searched::Refused { number, place } => {
-            show_refusal(number, place);
+            show_refusal(number, place, printer);
             0
         }
     }
@@ -164,27 +184,35 @@ fn same_found(answer: Searched, lowest: u32, alone: RanInTurn) -> bool {
 
 // A trial. The entry has the position, the lowest and the highest value, the wanted number, the allowances, the bytes lent for
 // cells, the translation's bytes, the changes, and the readings.
-pub(crate) fn try_search(text: &[u8], from: usize, base: &Space, expected: &Space) {
+pub(crate) fn try_search(
+    text: &[u8],
+    from: usize,
+    base: &Space,
+    expected: &Space,
+    printer: &mut Printer,
+) {
     let mut translation = [0u8; SPACE_BYTES];
     copy(base, SPACE_BYTES, &mut translation);
-    change_words(text, from, &mut translation);
+    change_words(text, from, &mut translation, printer);
     let mut readings = [0i32; READINGS_ROOM];
-    let count = put_readings(text, from, &mut readings);
-    let q = read_query(text, from);
-    let g = read_given(text, place(text, from, 4), count);
-    let ran = searched_in(&translation, &readings, q, g);
+    let count = put_readings(text, from, &mut readings, printer);
+    let q = read_query(text, from, printer);
+    let g = read_given(text, place(text, from, 4), count, printer);
+    let ran = searched_in(&translation, &readings, q, g, printer);
     let answer = ran.answer;
-    show_named(b"  find ", text, from, b": ");
-    let runs = show_searched(answer, q);
-    let alone = ran_in_turn(&translation, &mut readings, q, runs, g);
+    show_named(b"  find ", text, from, b": ", printer);
+    let runs = show_searched(answer, q, printer);
+    let alone = ran_in_turn(&translation, &mut readings, q, runs, g, printer);
     show_whether(
         cells_right(alone.most, &ran.cells, expected),
         b", cells right",
         b", CELLS WRONG",
+        printer,
     );
     show_whether(
         same_found(answer, q.lowest, alone) && agree(&ran.cells, &alone.cells),
         b", the same by single runs\n",
         b", NOT THE SAME BY SINGLE RUNS\n",
+        printer,
     );
 }

@@ -1,5 +1,6 @@
 // The text of the trials: entries, and the numbers in them. An entry begins at the start of a line with its letter, and goes
 // on over the lines that begin with a blank.
+use crate::printer::Printer;
 use crate::shown::show_misfit;
 use std::num::wrapping_sub_u32;
 
@@ -80,10 +81,10 @@ pub(crate) fn number_starts(text: &[u8], at: usize) -> bool {
 }
 
 // A number with one digit more, where it fits into 32 bits. The lower half of a digit's byte is its value.
-fn with_digit(number: u32, byte: u8) -> u32 {
+fn with_digit(number: u32, byte: u8, printer: &mut Printer) -> u32 {
     let longer = 10 * (number as u64) + (byte % 16) as u64;
     if 0x1_0000_0000 <= longer {
-        show_misfit();
+        show_misfit(printer);
     }
     (longer % 0x1_0000_0000) as u32
 }
@@ -101,13 +102,13 @@ fn after_digits(text: &[u8], from: usize) -> usize {
 }
 
 // The number whose digits start at a place, 0 where there are none.
-pub(crate) fn number(text: &[u8], from: usize) -> u32 {
+pub(crate) fn number(text: &[u8], from: usize, printer: &mut Printer) -> u32 {
     let end = after_digits(text, from);
     let mut value: u32 = 0;
     let mut at = from;
     while at < end {
         if at < text.len() {
-            value = with_digit(value, text[at]);
+            value = with_digit(value, text[at], printer);
         }
         at += 1;
     }
@@ -126,10 +127,10 @@ pub(crate) fn after(text: &[u8], from: usize, byte: u8) -> usize {
 }
 
 // The word whose digits start at a place, where it fits into 16 bits.
-pub(crate) fn word(text: &[u8], from: usize) -> u16 {
-    let value = number(text, from);
+pub(crate) fn word(text: &[u8], from: usize, printer: &mut Printer) -> u16 {
+    let value = number(text, from, printer);
     if 65536 <= value {
-        show_misfit();
+        show_misfit(printer);
     }
     (value % 65536) as u16
 }
@@ -152,8 +153,8 @@ pub(crate) fn place(text: &[u8], from: usize, k: u32) -> usize {
 }
 
 // Number `k` of an entry, 0 where it has not as many.
-pub(crate) fn numbered(text: &[u8], from: usize, k: u32) -> u32 {
-    number(text, place(text, from, k))
+pub(crate) fn numbered(text: &[u8], from: usize, k: u32, printer: &mut Printer) -> u32 {
+    number(text, place(text, from, k), printer)
 }
 
 // Whether a minus stands before a place.
@@ -165,8 +166,8 @@ pub(crate) fn is_negative(text: &[u8], at: usize) -> bool {
 }
 
 // The bits of the number whose digits start at a place, which is negative where a minus stands before them.
-pub(crate) fn signed_bits(text: &[u8], at: usize) -> u32 {
-    let bits = number(text, at);
+pub(crate) fn signed_bits(text: &[u8], at: usize, printer: &mut Printer) -> u32 {
+    let bits = number(text, at, printer);
     if is_negative(text, at) {
         return wrapping_sub_u32(0, bits);
     }

@@ -2,6 +2,7 @@
 // be, and where asking for the length answers otherwise.
 use crate::files::{copy, filled, within};
 use crate::length_trial::{asked_in, same_answer};
+use crate::printer::Printer;
 use crate::shown::{show_number, show_refusal, show_whether};
 use check::same;
 use definitions::Written;
@@ -21,15 +22,27 @@ pub(crate) fn rest_kept(out: &Space, changed: usize) -> bool {
 }
 
 // Translates the first `size` bytes of a sheet's file into the first `room` bytes of an output.
-fn translated(sheet: &[u8], size: usize, out: &mut [u8], room: usize) -> Written {
-    let bytes = within(size, sheet.len());
-    let out_bytes = within(room, out.len());
+fn translated(
+    sheet: &[u8],
+    size: usize,
+    out: &mut [u8],
+    room: usize,
+    printer: &mut Printer,
+) -> Written {
+    let bytes = within(size, sheet.len(), printer);
+    let out_bytes = within(room, out.len(), printer);
     translate(&sheet[0..bytes], &mut out[0..out_bytes])
 }
 
 // The same with whole spaces.
-pub(crate) fn translated_in(sheet: &Space, size: usize, out: &mut Space, room: usize) -> Written {
-    translated(sheet, size, out, room)
+pub(crate) fn translated_in(
+    sheet: &Space,
+    size: usize,
+    out: &mut Space,
+    room: usize,
+    printer: &mut Printer,
+) -> Written {
+    translated(sheet, size, out, room, printer)
 }
 
 // A trial. The expected output is the expected translation of `length` bytes and past it what stood there before; where the
@@ -40,20 +53,21 @@ pub(crate) fn try_translator(
     room: usize,
     expected: &Space,
     length: usize,
+    printer: &mut Printer,
 ) {
     let mut out = filled();
     let before = filled();
-    show_number(b"  ", size, b" bytes");
-    show_number(b" into ", room, b": ");
-    let answer = translated_in(sheet, size, &mut out, room);
-    let asked = asked_in(sheet, size, room);
+    show_number(b"  ", size, b" bytes", printer);
+    show_number(b" into ", room, b": ", printer);
+    let answer = translated_in(sheet, size, &mut out, room, printer);
+    let asked = asked_in(sheet, size, room, printer);
     let right = match answer {
         Written::Length(n) => {
-            show_number(b"length ", n, b"");
+            show_number(b"length ", n, b"", printer);
             n == length && agree(&out, expected)
         }
         Written::Refused { number, place } => {
-            show_refusal(number, place);
+            show_refusal(number, place, printer);
             agree(&out, &before)
         }
     };
@@ -61,6 +75,12 @@ pub(crate) fn try_translator(
         same_answer(answer, asked),
         b"",
         b", LENGTH ASKED: OTHERWISE",
+        printer,
     );
-    show_whether(right, b", output as it should be\n", b", OUTPUT WRONG\n");
+    show_whether(
+        right,
+        b", output as it should be\n",
+        b", OUTPUT WRONG\n",
+        printer,
+    );
 }

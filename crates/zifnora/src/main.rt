@@ -7,6 +7,8 @@ ghost use Rattle.zifnora.specs.Program.{ShowsAnswer};
 use definitions::sizes::{CELL_BYTES, SHEET_BYTES, TRANSLATION_BYTES};
 use join::translate_and_run;
 use report::{LINE_BYTES, Line, write_line};
+use standard_input::read_full;
+use std::io;
 
 // One byte more than a sheet may have, so that a longer input is seen to be oversize.
 const INPUT_BYTES: usize = SHEET_BYTES + 1;
@@ -40,10 +42,10 @@ fn show_answer(sheet: &[u8], line: &mut Line) -> usize
     write_line(answer, line)
 }
 
-fn main() {
+fn main(rt: HostRuntime) -> io::Result<()> {
     let mut input = [0u8; INPUT_BYTES];
-    let size = io::read_full(0, &mut input);
+    let size = read_full(&mut rt.stdin(), &mut input)?;
     let mut line = [0u8; LINE_BYTES];
     let length = show_answer(&input[..size], &mut line);
-    io::write_all(1, &line[..length]);
+    rt.write_all(&line[..length])
 }

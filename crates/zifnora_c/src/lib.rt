@@ -1,5 +1,5 @@
 // The calls for programs in C and Rust: numbers, slices of numbers, and a reference to a slice of cells, which stays the same
-// slice. include/zifnora.h says the same for C.
+// slice. include/zifnora.h says the same for C; the static library `zifnora_exports` exports them under these names.
 #![tactic(auto)]
 
 ghost use Rattle.std.specs.Prelude.{◌≡◌};
@@ -22,32 +22,28 @@ use translation_length::translated_length;
 use translator::translate;
 
 // Translates a sheet into a lent output.
-#[unsafe(no_mangle)]
-pub extern "C" fn zifnora_translate(sheet: &[u8], out: &mut [u8]) -> u64
+pub fn zifnora_translate(sheet: &[u8], out: &mut [u8]) -> u64
     ensures { TranslatesC sheet.now out.old result out.new }
 {
     written_code(translate(sheet, out))
 }
 
 // What translating a sheet into an output of `room` bytes would answer.
-#[unsafe(no_mangle)]
-pub extern "C" fn zifnora_translated_length(sheet: &[u8], room: u64) -> u64
+pub fn zifnora_translated_length(sheet: &[u8], room: u64) -> u64
     ensures { result ≡ translation_code sheet.now room }
 {
     written_code(translated_length(sheet, room as usize))
 }
 
 // Writes a sheet in canonical form into a lent output.
-#[unsafe(no_mangle)]
-pub extern "C" fn zifnora_canonical_sheet(sheet: &[u8], out: &mut [u8]) -> u64
+pub fn zifnora_canonical_sheet(sheet: &[u8], out: &mut [u8]) -> u64
     ensures { WritesCanonicalC sheet.now out.old result out.new }
 {
     written_code(write_canonical(sheet, out))
 }
 
 // Runs a translation, and writes the answer's record.
-#[unsafe(no_mangle)]
-pub extern "C" fn zifnora_run_slice(
+pub fn zifnora_run_slice(
     file: &[u8],
     readings: &[i32],
     steps: u32,
@@ -69,8 +65,7 @@ pub extern "C" fn zifnora_run_slice(
 }
 
 // Runs a translation for a hirer, with a set of allowed readings, and writes the answer's record.
-#[unsafe(no_mangle)]
-pub extern "C" fn zifnora_run_for_hirer_slice(
+pub fn zifnora_run_for_hirer_slice(
     file: &[u8],
     set: u32,
     readings: &[i32],
@@ -94,8 +89,7 @@ pub extern "C" fn zifnora_run_for_hirer_slice(
 }
 
 // Runs a translation on rows of readings in turn, and writes their answers' records.
-#[unsafe(no_mangle)]
-pub extern "C" fn zifnora_run_rows_slice(
+pub fn zifnora_run_rows_slice(
     file: &[u8],
     rows: u32,
     readings: &[i32],
@@ -123,8 +117,7 @@ pub extern "C" fn zifnora_run_rows_slice(
 }
 
 // Finds the smallest value of a range for a reading with which the run of a translation ends in a wanted number.
-#[unsafe(no_mangle)]
-pub extern "C" fn zifnora_find_reading_slice(
+pub fn zifnora_find_reading_slice(
     file: &[u8],
     readings: &[i32],
     position: u32,
@@ -156,8 +149,7 @@ pub extern "C" fn zifnora_find_reading_slice(
 }
 
 // Translates a sheet and runs the translation, and writes the answer's record.
-#[unsafe(no_mangle)]
-pub extern "C" fn zifnora_translate_and_run_slice(
+pub fn zifnora_translate_and_run_slice(
     sheet: &[u8],
     out: &mut [u8],
     readings: &[i32],
@@ -181,16 +173,14 @@ pub extern "C" fn zifnora_translate_and_run_slice(
 }
 
 // Lists the context of a cell.
-#[unsafe(no_mangle)]
-pub extern "C" fn zifnora_list_context(cells: &[u8], cell: u32, out: &mut [u8]) -> u64
+pub fn zifnora_list_context(cells: &[u8], cell: u32, out: &mut [u8]) -> u64
     ensures { ListsC cells.now cell out.old result out.new }
 {
     listed_code(list_context(cells, cell as usize, out))
 }
 
 // Writes the driver's view of an answer record.
-#[unsafe(no_mangle)]
-pub extern "C" fn zifnora_driver_view(rec: &[u8], out: &mut [u8]) -> u64
+pub fn zifnora_driver_view(rec: &[u8], out: &mut [u8]) -> u64
     ensures { WritesViewC rec.now out.old result out.new }
 {
     written_code(write_view(rec, out))
