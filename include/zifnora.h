@@ -5,7 +5,7 @@
  * must not overlap any other buffer of the call. A buffer of length 0 may be any non-null pointer that is aligned for its type.
  * The inline functions here are plain C.
  *
- * Platform: x86-64, System V calling convention; the archive is ELF. Build it with `rt staticlib zifnora_c`, and link
+ * Platform: x86-64, System V calling convention; the archive is ELF. Build it with `tools/archive`, and link
  * target/staticlib/libzifnora_c.a. It needs `memcpy` and `memset` from what it is linked with, and nothing else (`nm -u`).
  *
  * Stack: a run takes less than 112 KiB, for an owner or a hirer, on one row of readings or on several, in a search and in the joined

@@ -19,7 +19,7 @@ fn main() {
     println!("cargo::rerun-if-changed={}", archive.display());
     if !archive.is_file() {
         println!(
-            "cargo::error=there is no archive {}: build it with `rt staticlib zifnora_c` at \
+            "cargo::error=there is no archive {}: build it with `tools/archive` at \
              the repository's root, or set ZIFNORA_LIB_DIR to the whole path of the folder that holds it",
             archive.display()
         );

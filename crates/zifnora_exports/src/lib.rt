@@ -42,7 +42,7 @@ pub extern "C" fn zifnora_run_slice(
     rec: &mut [u8],
 ) -> u64
     ensures { RunsC file.now readings.now steps nesting cells_allowed cells.old.now rec.old result cells.new.now rec.new
-        × (cells.new.ptr ≡ cells.old.ptr) }
+        × (cells.new.ref_ptr ≡ cells.old.ref_ptr) }
 {
     zifnora_c::zifnora_run_slice(file, readings, steps, nesting, cells_allowed, cells, rec)
 }
@@ -61,7 +61,7 @@ pub extern "C" fn zifnora_run_for_hirer_slice(
 ) -> u64
     ensures { RunsForHirerC file.now set readings.now steps nesting cells_allowed cells.old.now rec.old result
         cells.new.now rec.new
-        × (cells.new.ptr ≡ cells.old.ptr) }
+        × (cells.new.ref_ptr ≡ cells.old.ref_ptr) }
 {
     zifnora_c::zifnora_run_for_hirer_slice(
         file,
@@ -89,7 +89,7 @@ pub extern "C" fn zifnora_run_rows_slice(
 ) -> u64
     ensures { RunsRowsC file.now rows readings.now steps nesting cells_allowed cells.old.now records.old result
         cells.new.now records.new
-        × (cells.new.ptr ≡ cells.old.ptr) }
+        × (cells.new.ref_ptr ≡ cells.old.ref_ptr) }
 {
     zifnora_c::zifnora_run_rows_slice(
         file,
@@ -119,7 +119,7 @@ pub extern "C" fn zifnora_find_reading_slice(
 ) -> u64
     ensures { FindsReadingC file.now readings.now (query position lowest highest wanted) steps nesting cells_allowed cells.old.now result
         cells.new.now
-        × (cells.new.ptr ≡ cells.old.ptr) }
+        × (cells.new.ref_ptr ≡ cells.old.ref_ptr) }
 {
     zifnora_c::zifnora_find_reading_slice(
         file,
@@ -149,7 +149,7 @@ pub extern "C" fn zifnora_translate_and_run_slice(
 ) -> u64
     ensures { JoinsC sheet.now out.old readings.now steps nesting cells_allowed cells.old.now rec.old result
         out.new cells.new.now rec.new
-        × (cells.new.ptr ≡ cells.old.ptr) }
+        × (cells.new.ref_ptr ≡ cells.old.ref_ptr) }
 {
     zifnora_c::zifnora_translate_and_run_slice(
         sheet,
