@@ -1,7 +1,6 @@
 -- `report::put_counted` meets its contract: the word, the number, the counts.
 use Rattle.report.specs.Lines.{counted_line}
 use Rattle.report.proofs.Writing.{wrote_then}
-use borrow.Author.Rules.{rules}
 use Rattle.report.proofs.put_counted.Goals as goal
 
 pub returns : goal.returns

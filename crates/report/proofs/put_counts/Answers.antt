@@ -1,7 +1,6 @@
 -- `report::put_counts` meets its contract: three words with two numbers between them.
 use Rattle.report.specs.Lines.{counts, steps_word, cells_word, line_end}
 use Rattle.report.proofs.Writing.{wrote_five}
-use borrow.Author.Rules.{rules}
 use Rattle.report.proofs.put_counts.Goals as goal
 
 pub returns : goal.returns

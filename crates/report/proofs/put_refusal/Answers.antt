@@ -1,7 +1,6 @@
 -- `report::put_refusal` meets its contract: three words with two numbers between them.
 use Rattle.report.specs.Lines.{refusal_line, refused_word, place_word, line_end}
 use Rattle.report.proofs.Writing.{wrote_five}
-use borrow.Author.Rules.{rules}
 use Rattle.report.proofs.put_refusal.Goals as goal
 
 pub returns : goal.returns

@@ -1,9 +1,5 @@
 -- `report::bytes::put_word` meets its contract: the loop has written the first `i` bytes of the word.
-use Prim.Native.Nat.{◌-◌}
-use lib.ListN.{length, take}
-use Rattle.report.specs.Writing.{WroteBytes}
 use Rattle.report.proofs.Writing.{wrote_nothing, wrote_more, wrote_all}
-use borrow.Author.Rules.{rules}
 use Rattle.report.proofs.bytes.put_word.Goals as goal
 
 pub loop-i-init : goal.loop-i-init

@@ -2,8 +2,6 @@
 use Prim.Native.Nat.{◌-◌}
 use lib.ListN.{length, take}
 use Rattle.report.specs.Writing.{WroteBytes}
-use Rattle.report.proofs.Writing.{wrote_nothing, wrote_more, wrote_all}
-use borrow.Author.Rules.{rules}
 use Rattle.report.proofs.bytes.put_word.Given as goal
 
 abbrev pub invariant-loop-i : goal.invariant-loop-i

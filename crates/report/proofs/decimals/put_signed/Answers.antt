@@ -1,6 +1,5 @@
 -- `report::decimals::put_signed` meets its contract: a minus before the size where there is one.
 use Rattle.report.proofs.Digits.{wrote_minus, wrote_plain}
-use borrow.Author.Rules.{rules}
 use Rattle.report.proofs.decimals.put_signed.Goals as goal
 
 pub returns-then-negative : goal.returns-then-negative

@@ -5,7 +5,6 @@ use native.Mathlib.Omega.{arith}
 use mir.Syntax.{w32, w64}
 use Rattle.operators.proofs.Conversions.{widened}
 use Rattle.report.proofs.Outcomes.{difference_fits, negative_size, positive_size, size_cast}
-use borrow.Author.Rules.{rules}
 use Rattle.report.proofs.shown.magnitude.Goals as goal
 
 pub overflow_cast-result : goal.overflow_cast-result
