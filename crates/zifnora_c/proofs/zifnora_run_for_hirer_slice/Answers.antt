@@ -1,0 +1,22 @@
+-- `zifnora_c::zifnora_run_for_hirer_slice` meets its contract.
+use mathlib.Core.Path.{refl}
+use Rattle.zifnora_c.proofs.Coding.{run_short, run_written}
+use borrow.Author.Rules.{rules}
+use Rattle.answer.proofs.write_answer.Reads as write-answer-reads
+use Rattle.hirer.proofs.run_for_hirer.Reads as run-for-hirer-reads
+use Rattle.zifnora_c.proofs.codes.record_code.Reads as record-code-reads
+use Rattle.zifnora_c.proofs.zifnora_run_for_hirer_slice.Goals as goal
+
+pub returns-then-short-ne0 : goal.returns-then-short-ne0
+returns-then-short-ne0 c = (run_short _ _ c.record_code-short.ensures c.if-short-ne0.true, refl)
+
+pub returns : goal.returns
+returns c =
+    let run = c.run_for_hirer-answer.ensures in
+    let record_code = c.record_code-short in
+    let if1 = c.if-short-ne0 in
+    let write_answer = c.write_answer in (
+      run_written _ _ record_code.ensures
+          if1.false run.0.answer run.0.cells write_answer.ensures,
+      run.1,
+    )
