@@ -26,7 +26,6 @@ use Rattle.laws.proofs.ByteFiles.{Bytes}
 use Rattle.lent_rule.specs.Standing.{TupleAt, NarrowReadings, Standing, Inside, Good}
 use Rattle.lent_rule.proofs.Tuples.{member_below, clause_below, branch_below}
 use Rattle.lent_rule.proofs.Good.{visit_good}
-use Rattle.run.specs.declared.state.Value.{Value}
 use Rattle.run.specs.declared.state.Value.TheVariants.{Constructor}
 use Rattle.run.specs.declared.state.Outcome.TheVariants as outcomes
 use Rattle.run.specs.declared.look_up.Found.{Found}

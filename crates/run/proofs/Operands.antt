@@ -15,7 +15,7 @@ use Rattle.definitions.specs.Records.{field}
 use Rattle.definitions.specs.Operators.{computed, is_zero}
 use Rattle.definitions.specs.NodeFields.{clause_list, chosen}
 use Rattle.definitions.specs.Layouts.{nodes, node_record}
-use Rattle.definitions.specs.TranslationNodes.{TranslationNode, select, operator, conditional, case_of, tag_of, translation_node_of}
+use Rattle.definitions.specs.TranslationNodes.{TranslationNode, tag_of, translation_node_of}
 use Rattle.definitions.specs.Rule as Rule
 use Rattle.definitions.specs.Rule.{Ending, Reached, reach, ended, number_due, constructor_due, node_due, result_of, selected, evaluated}
 use Rattle.accepted.specs.Mention as Mention

@@ -1,10 +1,6 @@
 -- `batch::run_accepted` meets its contract: the refusals in their order, or the runs in turn.
 use mathlib.Core.Path.{refl}
 use Rattle.batch.proofs.Refusals.{checks_refused, rows_fit, rows_ran}
-use borrow.Author.Rules.{rules}
-use Rattle.batch.proofs.checks.check_rows.Reads as check-rows-reads
-use Rattle.batch.proofs.rows.run_each.Reads as run-each-reads
-use Rattle.widths.proofs.wide32.Reads as wide32-reads
 use Rattle.batch.proofs.run_accepted.Goals as goal
 
 pub run_each-requires : goal.run_each-requires

@@ -2,9 +2,6 @@
 use mathlib.Core.Path.{refl}
 use Rattle.run.proofs.Answering.{readable_by}
 use Rattle.batch.proofs.Refusals.{file_refused}
-use borrow.Author.Rules.{rules}
-use Rattle.batch.proofs.run_accepted.Reads as run-accepted-reads
-use Rattle.run.proofs.read_file.Reads as read-file-reads
 use Rattle.batch.proofs.run_rows.Goals as goal
 
 pub run_accepted-requires : goal.run_accepted-requires

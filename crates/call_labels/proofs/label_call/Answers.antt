@@ -1,6 +1,5 @@
 -- `call_labels::label_call` meets its contract.
 use Rattle.call_labels.proofs.CallLabels.{labelled_likewise, labelled_anew}
-use borrow.Author.Rules.{rules}
 use Rattle.call_labels.proofs.label_call.Goals as goal
 
 pub returns-then-first-k : goal.returns-then-first-k

@@ -1,7 +1,6 @@
 -- `call_labels::label_node` meets its contract: a call is labelled and counted, and another node leaves the tables.
 use native.Mathlib.Omega.{arith}
 use Rattle.call_labels.proofs.CallLabels.{call_read, none_read, first_limit, count_small, call_labelled, call_counted, other_labelled, other_counted}
-use borrow.Author.Rules.{rules}
 use Rattle.call_labels.proofs.label_node.Goals as goal
 
 pub label_call-requires : goal.label_call-requires

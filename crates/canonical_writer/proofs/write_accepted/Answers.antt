@@ -2,7 +2,6 @@
 use mathlib.Core.Path.{refl}
 use native.Mathlib.Omega.{arith}
 use Rattle.canonical_writer.proofs.Promises.{output_short, output_written}
-use borrow.Author.Rules.{rules}
 use Rattle.canonical_writer.proofs.write_accepted.Goals as goal
 
 pub returns-then-out-sheet : goal.returns-then-out-sheet

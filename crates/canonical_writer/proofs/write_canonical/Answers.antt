@@ -1,6 +1,5 @@
 -- `canonical_writer::write_canonical` meets its contract: the reader's refusal, or what an accepted sheet gives.
 use Rattle.canonical_writer.proofs.Promises.{reader_accepts, reader_refuses}
-use borrow.Author.Rules.{rules}
 use Rattle.canonical_writer.proofs.write_canonical.Goals as goal
 
 pub write_accepted-requires : goal.write_accepted-requires

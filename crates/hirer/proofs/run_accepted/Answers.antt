@@ -1,14 +1,6 @@
 -- `hirer::run_accepted` meets its contract: the refusals in their order, or the owner's run.
 use mathlib.Core.Path.{refl}
 use Rattle.hirer.proofs.Refusals.{refused_in_order, ran}
-use borrow.Author.Rules.{rules}
-use Rattle.answer.proofs.refused.Reads as refused-reads
-use Rattle.definitions.proofs.verdicts.and_then.Reads as and-then-reads
-use Rattle.definitions.proofs.verdicts.required.Reads as required-reads
-use Rattle.file_layout.proofs.layout.readings.Reads as readings-reads
-use Rattle.hirer.proofs.closed.check_readings.Reads as check-readings-reads
-use Rattle.run.proofs.run_table.Reads as run-table-reads
-use Rattle.widths.proofs.wide.Reads as wide-reads
 use Rattle.hirer.proofs.run_accepted.Goals as goal
 
 pub run_table-requires : goal.run_table-requires

@@ -2,10 +2,6 @@
 use mathlib.Core.Path.{refl}
 use Rattle.run.proofs.Answering.{readable_by}
 use Rattle.hirer.proofs.Refusals.{file_refused}
-use borrow.Author.Rules.{rules}
-use Rattle.answer.proofs.refused.Reads as refused-reads
-use Rattle.hirer.proofs.run_accepted.Reads as run-accepted-reads
-use Rattle.run.proofs.read_file.Reads as read-file-reads
 use Rattle.hirer.proofs.run_for_hirer.Goals as goal
 
 pub run_accepted-requires : goal.run_accepted-requires

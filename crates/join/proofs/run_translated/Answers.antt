@@ -1,9 +1,7 @@
 -- `join::run_translated` meets its contract: the refusals 9 and 10, and else the run of what the translator wrote.
 use Rattle.join.proofs.Joining.{within, written_size, join_readings, join_allowance, join_answered}
-use borrow.Author.Tests.{not-true, not-false}
 use mathlib.Core.Path.{refl}
 use native.Mathlib.Omega.{arith}
-use borrow.Author.Rules.{rules}
 use Rattle.join.proofs.run_translated.Goals as goal
 
 pub returns-then-readings-wide : goal.returns-then-readings-wide

@@ -1,7 +1,6 @@
 -- `join::translate_and_run` meets its contract: what translating would refuse, or the run of a translation that fits.
 use Rattle.join.proofs.Joining.{not_translated, length_known, join_not_translated}
 use mathlib.Core.Path.{refl}
-use borrow.Author.Rules.{rules}
 use Rattle.join.proofs.translate_and_run.Goals as goal
 
 pub run_translated-requires : goal.run_translated-requires

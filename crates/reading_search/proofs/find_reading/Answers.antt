@@ -4,7 +4,6 @@ use mir.Syntax.{w32}
 use mir.ValLaws.{to_z-of_z}
 use Rattle.run.proofs.Answering.{readable_by}
 use Rattle.reading_search.proofs.Refusals.{file_refused}
-use borrow.Author.Rules.{rules}
 use Rattle.reading_search.proofs.find_reading.Goals as goal
 
 pub search_accepted-requires : goal.search_accepted-requires

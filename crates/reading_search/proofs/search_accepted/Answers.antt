@@ -3,7 +3,6 @@ use mathlib.Core.Path.{refl}
 use mir.Syntax.{w32}
 use mir.ValLaws.{to_z-of_z}
 use Rattle.reading_search.proofs.Refusals.{search_fits, checks_refused, range_searched}
-use borrow.Author.Rules.{rules}
 use Rattle.reading_search.proofs.search_accepted.Goals as goal
 
 pub search_range-requires : goal.search_range-requires

@@ -1,7 +1,6 @@
 -- `run::read_file` meets its contract.
 use mathlib.Core.Path.{refl}
 use Rattle.run.proofs.Answering.{ready_by, indexed_by, read_refused, read_accepted}
-use borrow.Author.Rules.{rules}
 use Rattle.run.proofs.read_file.Goals as goal
 
 pub fill_translation-verdict-requires : goal.fill_translation-verdict-requires

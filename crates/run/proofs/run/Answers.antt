@@ -1,6 +1,5 @@
 -- `run::run` meets its contract: the refusal of the file, or the run of its table.
 use mathlib.Core.Path.{refl}
-use borrow.Author.Rules.{rules}
 use Rattle.run.proofs.Answering.{file_refused, readable_by}
 use Rattle.run.proofs.run.Goals as goal
 

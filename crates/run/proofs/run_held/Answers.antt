@@ -10,7 +10,6 @@ use Rattle.run.proofs.Answering.{first_below, run_held}
 use Rattle.run.proofs.Counting.{first_there, first_context, first_visit}
 use Rattle.run.proofs.Packing.{last_opened}
 use Rattle.run.proofs.ReadingEntries.{held_in, equips}
-use borrow.Author.Rules.{rules}
 use Rattle.run.proofs.run_held.Goals as goal
 
 pub overflow_mul-limits : goal.overflow_mul-limits

@@ -1,9 +1,7 @@
 -- `run::run_table` meets its contract: the refusals in their order, or the answer of the rule.
 use mathlib.Core.Path.{refl, sym, ◌∙◌}
-use borrow.Author.Tests.{not-true, not-false}
 use Rattle.run.proofs.Answering.{readings_refused, allowance_refused, run_answered}
 use Rattle.run.proofs.ReadingEntries.{still_readable, set_held, readings_room}
-use borrow.Author.Rules.{rules}
 use Rattle.run.proofs.run_table.Goals as goal
 
 pub returns-then-readings-wide : goal.returns-then-readings-wide

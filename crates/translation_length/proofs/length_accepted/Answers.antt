@@ -2,7 +2,6 @@
 use native.Mathlib.Omega.{arith}
 use Rattle.call_labels.proofs.CallLabels.{none_passed}
 use Rattle.translation_length.proofs.WordCounts.{some_bytes, length_fits, length_short}
-use borrow.Author.Rules.{rules}
 use Rattle.translation_length.proofs.length_accepted.Goals as goal
 
 pub label_nodes-requires : goal.label_nodes-requires

@@ -1,7 +1,6 @@
 -- `translation_length::translated_length` meets its contract: the reader's refusal, or what is counted of an accepted sheet.
 use Rattle.call_labels.proofs.CallLabels.{reader_accepts}
 use Rattle.translation_length.proofs.WordCounts.{reader_refuses}
-use borrow.Author.Rules.{rules}
 use Rattle.translation_length.proofs.translated_length.Goals as goal
 
 pub length_accepted-requires : goal.length_accepted-requires

@@ -1,7 +1,6 @@
 -- `translator::translate` meets its contract: the reader's refusal, or what the translation of an accepted sheet gives.
 use Rattle.call_labels.proofs.CallLabels.{reader_accepts}
 use Rattle.translator.proofs.Promises.{reader_refuses}
-use borrow.Author.Rules.{rules}
 use Rattle.translator.proofs.translate.Goals as goal
 
 pub translate_accepted-requires : goal.translate_accepted-requires

@@ -1,7 +1,6 @@
 -- `translator::translate_accepted` meets its contract: an output that is too short, or the translation written.
 use Rattle.call_labels.proofs.CallLabels.{none_passed}
 use Rattle.translator.proofs.Promises.{output_short, output_written}
-use borrow.Author.Rules.{rules}
 use Rattle.translator.proofs.translate_accepted.Goals as goal
 
 pub label_nodes-requires : goal.label_nodes-requires

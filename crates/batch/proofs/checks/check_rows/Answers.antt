@@ -1,12 +1,5 @@
 -- `batch::checks::check_rows` meets its contract: the three tests in their order.
 use Rattle.batch.proofs.Refusals.{product_fits, checked}
-use borrow.Author.Rules.{rules}
-use Rattle.definitions.proofs.verdicts.and_then.Reads as and-then-reads
-use Rattle.definitions.proofs.verdicts.required.Reads as required-reads
-use Rattle.batch.proofs.checks.rows_allowed.Reads as rows-allowed-reads
-use Rattle.file_layout.proofs.layout.readings.Reads as readings-reads
-use Rattle.widths.proofs.wide.Reads as wide-reads
-use Rattle.widths.proofs.wide32.Reads as wide32-reads
 use Rattle.batch.proofs.checks.check_rows.Goals as goal
 
 pub overflow_mul-count : goal.overflow_mul-count

@@ -1,7 +1,5 @@
 -- `batch::checks::rows_allowed` meets its contract.
 use Rattle.batch.proofs.Refusals.{many_rows, few_rows}
-use borrow.Author.Rules.{rules}
-use Rattle.allowances.proofs.allowed.Reads as allowed-reads
 use Rattle.batch.proofs.checks.rows_allowed.Goals as goal
 
 pub returns-then-rows-gt-MOST_ROWS : goal.returns-then-rows-gt-MOST_ROWS

@@ -1,7 +1,5 @@
 -- `batch::rows::put_record` meets its contract.
 use Rattle.batch.proofs.InTurn.{put_is}
-use borrow.Author.Rules.{rules}
-use Rattle.answer.proofs.write_answer.Reads as write-answer-reads
 use Rattle.batch.proofs.rows.put_record.Goals as goal
 
 pub returns : goal.returns

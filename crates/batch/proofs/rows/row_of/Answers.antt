@@ -1,9 +1,6 @@
 -- `batch::rows::row_of` meets its contract: the row lies inside the list.
 use Rattle.batch.proofs.InTurn.{row_inside, row_is}
-use Prim.Native.Nat.{◌+◌, ◌*◌, ◌≤◌}
 use native.Mathlib.Omega.{arith}
-use lib.ListN.{length}
-use borrow.Author.Rules.{rules}
 use Rattle.batch.proofs.rows.row_of.Goals as goal
 
 pub overflow_mul-start : goal.overflow_mul-start

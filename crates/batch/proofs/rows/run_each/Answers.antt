@@ -1,10 +1,8 @@
 -- `batch::rows::run_each` meets its contract: the rows passed were run.
 use mathlib.Core.Path.{refl, ◌∙◌}
-use Prim.Native.Nat.{◌-◌}
-use Rattle.batch.proofs.InTurn.{Running, ran_none, ran_more, row_fits, running_kept, all_ran}
+use Rattle.batch.proofs.InTurn.{ran_none, ran_more, row_fits, running_kept, all_ran}
 use native.Mathlib.Omega.{arith}
 use borrow.Author.Rules.{rules}
-use Rattle.batch.proofs.rows.run_row.Reads as run-row-reads
 use Rattle.batch.proofs.rows.run_each.Goals as goal
 
 pub loop-row-init : goal.loop-row-init

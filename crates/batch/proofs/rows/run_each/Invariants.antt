@@ -1,10 +1,6 @@
 -- `batch::rows::run_each` meets its contract: the rows passed were run.
-use mathlib.Core.Path.{refl, ◌∙◌}
 use Prim.Native.Nat.{◌-◌}
-use Rattle.batch.proofs.InTurn.{Running, ran_none, ran_more, row_fits, running_kept, all_ran}
-use native.Mathlib.Omega.{arith}
-use borrow.Author.Rules.{rules}
-use Rattle.batch.proofs.rows.run_row.Reads as run-row-reads
+use Rattle.batch.proofs.InTurn.{Running}
 use Rattle.batch.proofs.rows.run_each.Given as goal
 
 abbrev pub invariant-loop-row : goal.invariant-loop-row

@@ -1,9 +1,5 @@
 -- `batch::rows::run_row` meets its contract.
 use Rattle.batch.proofs.InTurn.{ran_row}
-use borrow.Author.Rules.{rules}
-use Rattle.batch.proofs.rows.put_record.Reads as put-record-reads
-use Rattle.batch.proofs.rows.row_of.Reads as row-of-reads
-use Rattle.run.proofs.run_table.Reads as run-table-reads
 use Rattle.batch.proofs.rows.run_row.Goals as goal
 
 pub returns : goal.returns

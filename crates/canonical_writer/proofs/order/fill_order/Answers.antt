@@ -1,11 +1,7 @@
 -- `canonical_writer::order::fill_order` meets its contract. The loop's invariant: the nodes with the numbers passed are entered.
-use Prim.Native.Nat.{◌≤◌}
 use mathlib.Core.Path.{◌∙◌}
 use native.Mathlib.Omega.{arith}
-use Rattle.definitions.specs.Layouts.{nodes}
-use Rattle.canonical_writer.specs.Order.{OrderFrom}
 use Rattle.canonical_writer.proofs.OrderTable.{order_first, order_before, order_done}
-use borrow.Author.Rules.{rules}
 use Rattle.canonical_writer.proofs.order.fill_order.Goals as goal
 
 pub loop-q-init : goal.loop-q-init

@@ -1,16 +1,12 @@
 -- `canonical_writer::sizes::tree_size` meets its contract. The loop's invariant: the size so far is that of the fields passed, and one.
-use mathlib.Core.Path.{◌≡◌, ap}
-use mathlib.Core.Logic.{⊎_elim}
-use Prim.Native.Nat.{suc, ◌-◌}
+use mathlib.Core.Path.{ap}
 use native.Mathlib.Omega.{arith}
 use Rattle.definitions.specs.CanonicalSheet.{size_of}
 use Rattle.definitions.specs.declared.Layout.TheVariants.{Sheet}
 use Rattle.accepted.proofs.Head.{nodes_limit}
 use Rattle.file_records.proofs.Indices.{node_reached}
-use Rattle.canonical_sheets.proofs.WholeTrees.{up_to}
 use Rattle.canonical_writer.proofs.SizeLimits.{size_limit}
-use Rattle.canonical_writer.proofs.FieldSteps.{AtField, first_field, next_field, field_inside, none_passed, all_passed, plain_size, node_smaller, node_size, size_within, node_entry}
-use borrow.Author.Rules.{rules}
+use Rattle.canonical_writer.proofs.FieldSteps.{first_field, next_field, field_inside, none_passed, all_passed, plain_size, node_smaller, node_size, size_within, node_entry}
 use Rattle.canonical_writer.proofs.sizes.tree_size.Goals as goal
 use Rattle.canonical_writer.proofs.sizes.tree_size.Goals.{then-names_node, else-names_node}
 

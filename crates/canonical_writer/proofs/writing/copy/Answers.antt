@@ -1,8 +1,6 @@
 -- `canonical_writer::writing::copy` meets its contract. The loop's invariant: the bytes passed are copied.
-use Prim.Native.Nat.{◌-◌}
 use native.Mathlib.Omega.{arith}
-use Rattle.canonical_writer.proofs.Copying.{Copying, copying_begins, copying_goes_on, copying_done}
-use borrow.Author.Rules.{rules}
+use Rattle.canonical_writer.proofs.Copying.{copying_begins, copying_goes_on, copying_done}
 use Rattle.canonical_writer.proofs.writing.copy.Goals as goal
 
 pub loop-i-init : goal.loop-i-init

@@ -1,8 +1,6 @@
 -- `canonical_writer::writing::copy` meets its contract. The loop's invariant: the bytes passed are copied.
 use Prim.Native.Nat.{◌-◌}
-use native.Mathlib.Omega.{arith}
-use Rattle.canonical_writer.proofs.Copying.{Copying, copying_begins, copying_goes_on, copying_done}
-use borrow.Author.Rules.{rules}
+use Rattle.canonical_writer.proofs.Copying.{Copying}
 use Rattle.canonical_writer.proofs.writing.copy.Given as goal
 
 abbrev pub invariant-loop-i : goal.invariant-loop-i

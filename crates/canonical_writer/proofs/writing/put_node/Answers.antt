@@ -3,7 +3,6 @@ use mathlib.Core.Path.{◌∙◌}
 use Rattle.definitions.specs.declared.Layout.TheVariants.{Sheet}
 use Rattle.file_records.proofs.Indices.{node_reached}
 use Rattle.canonical_writer.proofs.NodeWriting.{number_few, renumbered, fields_few, node_written}
-use borrow.Author.Rules.{rules}
 use Rattle.canonical_writer.proofs.writing.put_node.Goals as goal
 
 pub bounds-order-q : goal.bounds-order-q

@@ -1,10 +1,7 @@
 -- `canonical_writer::writing::put_nodes` meets its contract. The loop's invariant: the nodes with the numbers passed are written.
 use mathlib.Core.Path.{sym, ◌∙◌}
-use Prim.Native.Nat.{◌-◌}
 use native.Mathlib.Omega.{arith}
-use Rattle.translation_words.proofs.Writing.{PartsWritten, parts_begin, parts_go_on, parts_end, wrote_as}
-use Rattle.canonical_writer.specs.Order.{entry_at, numbered_words}
-use borrow.Author.Rules.{rules}
+use Rattle.translation_words.proofs.Writing.{parts_begin, parts_go_on, parts_end, wrote_as}
 use Rattle.canonical_writer.proofs.writing.put_nodes.Goals as goal
 
 pub loop-q-init : goal.loop-q-init

@@ -1,6 +1,5 @@
 -- `canonical_writer::writing::write` meets its contract: the sections are copied, and the nodes written after them.
 use Rattle.canonical_writer.proofs.Promises.{sections_within, canonical_written}
-use borrow.Author.Rules.{rules}
 use Rattle.canonical_writer.proofs.writing.write.Goals as goal
 
 pub copy-requires : goal.copy-requires

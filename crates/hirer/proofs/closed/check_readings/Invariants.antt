@@ -1,14 +1,6 @@
 -- `hirer::closed::check_readings` meets its contract. The loop's invariant: the nodes passed are allowed.
-use Rattle.hirer.proofs.Closing.{Closing, closing_node, closing_more, closing_refused, closing_done}
-use Rattle.laws.proofs.Verdicts.{passed_none}
-use borrow.Author.Tests.{not-true, not-false}
-use native.Mathlib.Omega.{arith}
+use Rattle.hirer.proofs.Closing.{Closing}
 use Prim.Native.Nat.{◌-◌}
-use borrow.Author.Rules.{rules}
-use Rattle.file_layout.proofs.layout.first_node.Reads as first-node-reads
-use Rattle.file_layout.proofs.layout.nodes.Reads as nodes-reads
-use Rattle.hirer.proofs.closed.node_allowed.Reads as node-allowed-reads
-use Rattle.widths.proofs.wide.Reads as wide-reads
 use Rattle.hirer.proofs.closed.check_readings.Given as goal
 
 abbrev pub invariant-loop-k : goal.invariant-loop-k

@@ -1,10 +1,5 @@
 -- `hirer::closed::node_allowed` meets its contract, by the node's entry in the table.
 use Rattle.hirer.proofs.Closing.{node_place, other_allowed, reading_narrow, reading_by}
-use borrow.Author.Rules.{rules}
-use Rattle.hirer.proofs.closed.reading_allowed.Reads as reading-allowed-reads
-use Rattle.run.proofs.node_table.entry.Reads as entry-reads
-use Rattle.run.proofs.node_table.first_in.Reads as first-in-reads
-use Rattle.run.proofs.node_table.kind_in.Reads as kind-in-reads
 use Rattle.hirer.proofs.closed.node_allowed.Goals as goal
 
 pub entry-x-requires : goal.entry-x-requires

@@ -1,6 +1,5 @@
 -- `hirer::closed::reading_allowed` meets its contract.
 use mathlib.Core.Path.{refl}
-use borrow.Author.Rules.{rules}
 use Rattle.definitions.specs.Hirer.{reading_allowed}
 use Rattle.hirer.proofs.closed.reading_allowed.Goals as goal
 

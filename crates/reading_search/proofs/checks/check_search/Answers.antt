@@ -4,7 +4,6 @@ use mir.Syntax.{w32}
 use Rattle.definitions.specs.ReadingSearch.{range_fits}
 use Rattle.operators.proofs.Answers.{read_both}
 use Rattle.reading_search.proofs.Refusals.{checked}
-use borrow.Author.Rules.{rules}
 use Rattle.reading_search.proofs.checks.check_search.Goals as goal
 
 pub returns : goal.returns

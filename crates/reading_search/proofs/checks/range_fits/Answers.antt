@@ -5,7 +5,6 @@ use mir.Syntax.{w32}
 use Rattle.definitions.specs.ReadingSearch.{value_count}
 use Rattle.operators.proofs.Answers.{read_both}
 use Rattle.reading_search.proofs.Refusals.{no_values, many_values, by_position}
-use borrow.Author.Rules.{rules}
 use Rattle.reading_search.proofs.checks.range_fits.Goals as goal
 
 pub returns-then-count-lt1 : goal.returns-then-count-lt1

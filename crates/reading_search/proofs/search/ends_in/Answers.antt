@@ -2,7 +2,6 @@
 use mir.Syntax.{w32}
 use mir.ValLaws.{to_z-of_z}
 use Rattle.reading_search.proofs.Searching.{value_wanted, end_unwanted}
-use borrow.Author.Rules.{rules}
 use Rattle.reading_search.proofs.search.ends_in.Goals as goal
 
 pub returns-in-Value : goal.returns-in-Value

@@ -2,12 +2,11 @@
 use mathlib.Core.Path.{refl, ◌∙◌}
 use native.Mathlib.Omega.{arith}
 use mir.Syntax.{w32}
-use mir.Val.{to_z}
 use mir.ValLaws.{to_z-of_z}
-use Rattle.definitions.specs.ReadingSearch.{query, value_count}
+use Rattle.definitions.specs.ReadingSearch.{value_count}
 use Rattle.operators.proofs.Answers.{read_both}
 use Rattle.run.proofs.ReadingEntries.{still_readable, set_held, readings_room}
-use Rattle.reading_search.proofs.Searching.{Searching, read_fits, searching_begins, triable, value_fits, value_found, searching_goes_on, none_found}
+use Rattle.reading_search.proofs.Searching.{read_fits, searching_begins, triable, value_fits, value_found, searching_goes_on, none_found}
 use borrow.Author.Rules.{rules}
 use Rattle.reading_search.proofs.search.search_range.Goals as goal
 

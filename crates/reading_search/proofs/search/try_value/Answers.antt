@@ -7,7 +7,6 @@ use Rattle.accepted.proofs.Head.{readings_limit}
 use Rattle.accepted.proofs.Checks.{translation_shape}
 use Rattle.run.proofs.ReadingEntries.{one_readable}
 use Rattle.reading_search.proofs.Searching.{tried}
-use borrow.Author.Rules.{rules}
 use Rattle.reading_search.proofs.search.try_value.Goals as goal
 
 pub set_reading-requires : goal.set_reading-requires

@@ -3,7 +3,6 @@ use native.Mathlib.Omega.{arith}
 use mir.Syntax.{w32, w64}
 use Rattle.operators.proofs.Conversions.{widened}
 use Rattle.reading_search.proofs.Widened.{sum_fits, sum_cast, sum_is}
-use borrow.Author.Rules.{rules}
 use Rattle.reading_search.proofs.values.value_at.Goals as goal
 
 pub overflow_cast-result : goal.overflow_cast-result

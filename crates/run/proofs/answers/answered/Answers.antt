@@ -1,5 +1,4 @@
 -- `run::answers::answered` meets its contract.
-use borrow.Author.Rules.{rules}
 use Rattle.run.proofs.Answering.{answered_is}
 use Rattle.run.proofs.answers.answered.Goals as goal
 

@@ -1,6 +1,5 @@
 -- `run::answers::outcome` meets its contract, case by case.
 use Rattle.run.proofs.Answering.{value_in_table, shown_value, shown_end}
-use borrow.Author.Rules.{rules}
 use Rattle.run.proofs.answers.outcome.Goals as goal
 
 pub value_outcome-requires : goal.value_outcome-requires

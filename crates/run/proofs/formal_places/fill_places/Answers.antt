@@ -1,7 +1,5 @@
 -- `run::formal_places::fill_places` meets its contract: the places of the formals of the functions passed are right.
-use Prim.Native.Nat.{◌-◌}
-use Rattle.run.proofs.Places.{FillingPlaces, filling_begins, filling_below, filling_settable, filling_goes_on, places_filled}
-use borrow.Author.Rules.{rules}
+use Rattle.run.proofs.Places.{filling_begins, filling_below, filling_settable, filling_goes_on, places_filled}
 use Rattle.run.proofs.formal_places.fill_places.Goals as goal
 
 pub loop-f-init : goal.loop-f-init

@@ -1,7 +1,6 @@
 -- `run::formal_places::fill_places` meets its contract: the places of the formals of the functions passed are right.
 use Prim.Native.Nat.{◌-◌}
-use Rattle.run.proofs.Places.{FillingPlaces, filling_begins, filling_below, filling_settable, filling_goes_on, places_filled}
-use borrow.Author.Rules.{rules}
+use Rattle.run.proofs.Places.{FillingPlaces}
 use Rattle.run.proofs.formal_places.fill_places.Given as goal
 
 abbrev pub invariant-loop-f : goal.invariant-loop-f

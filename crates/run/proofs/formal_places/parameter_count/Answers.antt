@@ -1,6 +1,5 @@
 -- `run::formal_places::parameter_count` meets its contract.
 use Rattle.run.proofs.Places.{count_read}
-use borrow.Author.Rules.{rules}
 use Rattle.run.proofs.formal_places.parameter_count.Goals as goal
 
 pub returns : goal.returns

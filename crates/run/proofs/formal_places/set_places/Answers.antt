@@ -1,7 +1,5 @@
 -- `run::formal_places::set_places` meets its contract: the places of the formals passed are set.
-use Prim.Native.Nat.{◌-◌}
-use Rattle.run.proofs.Places.{SettingPlaces, setting_begins, setting_room, setting_goes_on, setting_ends}
-use borrow.Author.Rules.{rules}
+use Rattle.run.proofs.Places.{setting_begins, setting_room, setting_goes_on, setting_ends}
 use Rattle.run.proofs.formal_places.set_places.Goals as goal
 
 pub loop-j-init : goal.loop-j-init

@@ -1,7 +1,6 @@
 -- `run::formal_places::set_places` meets its contract: the places of the formals passed are set.
 use Prim.Native.Nat.{◌-◌}
-use Rattle.run.proofs.Places.{SettingPlaces, setting_begins, setting_room, setting_goes_on, setting_ends}
-use borrow.Author.Rules.{rules}
+use Rattle.run.proofs.Places.{SettingPlaces}
 use Rattle.run.proofs.formal_places.set_places.Given as goal
 
 abbrev pub invariant-loop-j : goal.invariant-loop-j

@@ -1,6 +1,5 @@
 -- `run::look_up::body` meets its contract: the body is the node before the end of the run.
 use Rattle.run.proofs.LookUps.{function_limit, end_least, body_reached}
-use borrow.Author.Rules.{rules}
 use Rattle.run.proofs.look_up.body.Goals as goal
 
 pub bounds-ends-wide : goal.bounds-ends-wide

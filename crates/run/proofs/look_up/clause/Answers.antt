@@ -1,10 +1,9 @@
 -- `run::look_up::clause` meets its contract: the clauses passed have other tags.
-use Prim.Native.Nat.{◌-◌}
 use borrow.Author.Rules.{rules}
 use Rattle.run.proofs.LookUps.{clause_word, clause_place, clause_room}
 use mathlib.Core.Path.{ap}
 use Prim.Native.Nat.{◌/◌}
-use Rattle.run.proofs.LookUps.{Choosing, choosing_begins, choosing_goes_on, choosing_found, choosing_done, clauses_at_law}
+use Rattle.run.proofs.LookUps.{choosing_begins, choosing_goes_on, choosing_found, choosing_done, clauses_at_law}
 use Rattle.run.proofs.look_up.clause.Goals as goal
 
 pub loop-j-init : goal.loop-j-init

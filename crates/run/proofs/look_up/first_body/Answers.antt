@@ -1,5 +1,4 @@
 -- `run::look_up::first_body` meets its contract: the body is the last node of the first run.
-use borrow.Author.Rules.{rules}
 use Rattle.run.proofs.LookUps.{first_count_least, first_body_reached}
 use Rattle.run.proofs.look_up.first_body.Goals as goal
 

@@ -1,5 +1,4 @@
 -- `run::look_up::found_at` meets its contract.
-use borrow.Author.Rules.{rules}
 use Rattle.run.proofs.LookUps.{found_nothing, found_node}
 use Rattle.run.proofs.look_up.found_at.Goals as goal
 

@@ -1,7 +1,6 @@
 -- `run::look_up::listed` meets its contract.
 use Rattle.run.specs.States.{found_of}
 use Rattle.run.proofs.LookUps.{listed_there, listed_past}
-use borrow.Author.Rules.{rules}
 use Rattle.run.proofs.look_up.listed.Goals as goal
 
 pub returns-then-i-count : goal.returns-then-i-count

@@ -1,6 +1,5 @@
 -- `run::look_up::node_record` meets its contract: the index reaches the node's record.
 use Rattle.run.proofs.LookUps.{node_reached}
-use borrow.Author.Rules.{rules}
 use Rattle.run.proofs.look_up.node_record.Goals as goal
 
 pub returns : goal.returns

@@ -1,6 +1,5 @@
 -- `run::memory::is_own` meets its contract.
 use mathlib.Core.Path.{refl}
-use borrow.Author.Rules.{rules}
 use Rattle.run.proofs.memory.is_own.Goals as goal
 
 pub returns : goal.returns

@@ -1,7 +1,6 @@
 -- `run::memory::recall` meets its contract.
 use mathlib.Core.Path.{refl}
 use Rattle.run.proofs.Remembered.{recalled_own, recalled_none}
-use borrow.Author.Rules.{rules}
 use Rattle.run.proofs.memory.recall.Goals as goal
 
 pub returns-then-own : goal.returns-then-own

@@ -1,7 +1,6 @@
 -- `run::memory::remember` meets its contract: a value is written into the formal's own cell.
 use mathlib.Core.Path.{sym, ◌∙◌}
 use Rattle.run.proofs.Remembered.{value_remembered, end_not_remembered, not_own_kept}
-use borrow.Author.Rules.{rules}
 use Rattle.run.proofs.memory.remember.Goals as goal
 
 pub returns-then-is_value : goal.returns-then-is_value

@@ -1,6 +1,5 @@
 -- `run::node_table::entry` meets its contract.
 use Rattle.run.proofs.EntryReads.{entry_at}
-use borrow.Author.Rules.{rules}
 use Rattle.run.proofs.node_table.entry.Goals as goal
 
 pub returns : goal.returns

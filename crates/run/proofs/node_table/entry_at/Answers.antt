@@ -1,7 +1,6 @@
 -- `run::node_table::entry_at` meets its contract, by the kind of the node.
 use Rattle.run.proofs.Entries.{opens, formal_place, formal_record, formal_entry, node_within, function_there, node_place}
 use Rattle.run.proofs.Entries.{entry_of_formal, entry_of_call, entry_of_list, entry_of_fields}
-use borrow.Author.Rules.{rules}
 use Rattle.run.proofs.node_table.entry_at.Goals as goal
 
 pub bounds-places-wide : goal.bounds-places-wide

@@ -1,7 +1,6 @@
 -- `run::node_table::fill_nodes` meets its contract: the entries of the nodes passed are right.
-use Rattle.run.proofs.Entries.{FillingEntries, filling_begins, filling_below, filling_room, filling_goes_on, filled}
+use Rattle.run.proofs.Entries.{FillingEntries}
 use Prim.Native.Nat.{◌-◌}
-use borrow.Author.Rules.{rules}
 use Rattle.run.proofs.node_table.fill_nodes.Given as goal
 
 abbrev pub invariant-loop-k : goal.invariant-loop-k

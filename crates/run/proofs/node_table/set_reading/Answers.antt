@@ -2,7 +2,6 @@
 use mathlib.Core.Path.{refl}
 use mir.Syntax.{w32}
 use mir.ValLaws.{to_z-of_z}
-use borrow.Author.Rules.{rules}
 use Rattle.run.proofs.node_table.set_reading.Goals as goal
 
 pub returns : goal.returns

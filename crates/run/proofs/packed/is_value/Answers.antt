@@ -1,6 +1,5 @@
 -- `run::packed::is_value` meets its contract.
 use Rattle.run.proofs.Remembered.{told_value, told_other}
-use borrow.Author.Rules.{rules}
 use Rattle.run.proofs.packed.is_value.Goals as goal
 
 pub returns-then-kind-eq-NUMBER : goal.returns-then-kind-eq-NUMBER

@@ -1,6 +1,5 @@
 -- `run::packed::packed` meets its contract.
 use Rattle.run.proofs.Packing.{value_packed, ended_packed}
-use borrow.Author.Rules.{rules}
 use Rattle.run.proofs.packed.packed.Goals as goal
 
 pub returns-in-Value : goal.returns-in-Value

@@ -1,20 +1,19 @@
 -- The cycle of visits meets its contracts.
-use mathlib.Core.Path.{◌≡◌, sym, ◌∙◌}
+use mathlib.Core.Path.{sym, ◌∙◌}
 use native.Mathlib.Omega.{arith}
-use Prim.Native.Nat.{ℕ, ◌%◌}
 use mir.Syntax.{w32}
 use mir.ValLaws.{to_z-of_z}
 use borrow.Author.Rules.{rules}
 use Rattle.run.proofs.EntryReads.{kind_read, kind_last, first_read, reading_narrow, entry_room, node_room, clauses_fit, actual_room}
 use Rattle.run.proofs.SimpleSteps.{number_ends, reading_ends, tuple_ends}
-use Rattle.run.proofs.Visiting.{no_step_left, no_nesting_left, kind_asked, step_counted, KindAsked, CountedBy}
-use Rattle.run.proofs.CallSteps.{call_ends, live_below, BodyBy, body_due, body_asked, body_returned}
+use Rattle.run.proofs.Visiting.{no_step_left, no_nesting_left, kind_asked, step_counted}
+use Rattle.run.proofs.CallSteps.{call_ends, live_below, body_due, body_asked, body_returned}
 use Rattle.run.proofs.Packing.{opens, opens_value}
 use Rattle.run.proofs.Remains.{visit_asked, visit_returned, node_missed, node_found}
-use Rattle.run.proofs.Operands.{no_constructor, of_case, AwaitsBy, VisitedBy, GivesOf, operand_awaits, operand_asked, operand_visited, operand_ended, operand_unwanted, tuple_room, no_number, of_conditional, of_operator, of_select, fields_room}
-use Rattle.run.proofs.ConstructorSteps.{case_seeks, ClauseSought, select_tag, select_seeks, FieldSought}
-use Rattle.run.proofs.NumberSteps.{conditional_onward, BranchOnward, right_awaits, result_ends, RightAwaits}
-use Rattle.run.proofs.FormalSteps.{formal_ends, ReadBy, cell_read, known_returned, SoughtBy, formal_seeks, actual_missed, actual_asked, actual_returned}
+use Rattle.run.proofs.Operands.{no_constructor, of_case, GivesOf, operand_awaits, operand_asked, operand_visited, operand_ended, operand_unwanted, tuple_room, no_number, of_conditional, of_operator, of_select, fields_room}
+use Rattle.run.proofs.ConstructorSteps.{case_seeks, select_tag, select_seeks}
+use Rattle.run.proofs.NumberSteps.{conditional_onward, right_awaits, result_ends}
+use Rattle.run.proofs.FormalSteps.{formal_ends, cell_read, known_returned, formal_seeks, actual_missed, actual_asked, actual_returned}
 use Rattle.run.proofs.visit.+visits.Goals as goal
 
 -- A visit meets its contract: the two stops, a step counted, and the function of the node's kind.

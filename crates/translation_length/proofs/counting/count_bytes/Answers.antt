@@ -1,7 +1,6 @@
 -- `translation_length::counting::count_bytes` meets its contract: the parts' words, doubled, are the translation's bytes.
 use native.Mathlib.Omega.{arith}
 use Rattle.translation_length.proofs.WordCounts.{bytes_counted}
-use borrow.Author.Rules.{rules}
 use Rattle.translation_length.proofs.counting.count_bytes.Goals as goal
 
 pub returns : goal.returns

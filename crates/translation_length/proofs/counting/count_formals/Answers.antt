@@ -1,11 +1,8 @@
 -- `translation_length::counting::count_formals` meets its contract. The loop's invariant: the words of the formals of the functions passed are
 -- summed.
-use Prim.Native.Nat.{◌-◌}
 use mathlib.Core.Path.{◌∙◌}
 use native.Mathlib.Omega.{arith}
-use Rattle.translation_length.specs.Words.{formal_length}
-use Rattle.translation_length.proofs.WordCounts.{Summed, none_summed, one_summed, sum_within, all_summed, words_limit}
-use borrow.Author.Rules.{rules}
+use Rattle.translation_length.proofs.WordCounts.{none_summed, one_summed, sum_within, all_summed, words_limit}
 use Rattle.translation_length.proofs.counting.count_formals.Goals as goal
 
 pub loop-f-init : goal.loop-f-init

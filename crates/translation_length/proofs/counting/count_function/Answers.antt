@@ -3,7 +3,6 @@ use native.Mathlib.Omega.{arith}
 use Rattle.definitions.specs.declared.Layout.TheVariants.{Sheet}
 use Rattle.accepted.proofs.Head.{functions_limit}
 use Rattle.translation_length.proofs.WordCounts.{formal_counted, formal_limit}
-use borrow.Author.Rules.{rules}
 use Rattle.translation_length.proofs.counting.count_function.Goals as goal
 
 pub bounds-counts-f : goal.bounds-counts-f

@@ -1,6 +1,5 @@
 -- `translation_length::counting::count_node` meets its contract, kind by kind.
 use Rattle.translation_length.proofs.WordCounts.{call_length, pattern_length, same_length}
-use borrow.Author.Rules.{rules}
 use Rattle.translation_length.proofs.counting.count_node.Goals as goal
 
 pub returns-then-node_kind-eq-CALL : goal.returns-then-node_kind-eq-CALL

@@ -1,10 +1,7 @@
 -- `translation_length::counting::count_nodes` meets its contract. The loop's invariant: the words of the nodes passed are summed.
 use Prim.Native.Nat.{◌-◌}
-use mathlib.Core.Path.{◌∙◌}
-use native.Mathlib.Omega.{arith}
 use Rattle.translation_length.specs.Words.{node_length}
-use Rattle.translation_length.proofs.WordCounts.{Summed, none_summed, one_summed, sum_within, all_summed, words_limit, node_counted}
-use borrow.Author.Rules.{rules}
+use Rattle.translation_length.proofs.WordCounts.{Summed}
 use Rattle.translation_length.proofs.counting.count_nodes.Given as goal
 
 abbrev pub invariant-loop-k : goal.invariant-loop-k

@@ -1,13 +1,7 @@
 -- `translator::calls::first_calls` meets its contract. The loop's invariant: the sums over the functions passed are in the table.
 use Prim.Native.Nat.{◌-◌}
-use mathlib.Core.Path.{refl, ◌∙◌}
-use native.Mathlib.Omega.{arith}
-use Rattle.definitions.specs.declared.Layout.TheVariants.{Sheet}
-use Rattle.accepted.proofs.Head.{functions_limit}
 use Rattle.call_labels.specs.Tables.{label_count}
-use Rattle.translator.proofs.SheetTables.{Summing, summing_begins, summing_goes_on, summing_done}
-use Rattle.translator.proofs.CallOrder.{count_is, total_few}
-use borrow.Author.Rules.{rules}
+use Rattle.translator.proofs.SheetTables.{Summing}
 use Rattle.translator.proofs.calls.first_calls.Given as goal
 
 abbrev pub invariant-loop-f : goal.invariant-loop-f

@@ -4,7 +4,6 @@ use Rattle.definitions.specs.declared.Layout.TheVariants.{Sheet}
 use Rattle.accepted.proofs.Head.{nodes_limit}
 use Rattle.call_labels.proofs.CallLabels.{call_read, none_read, none_first, not_first}
 use Rattle.translator.proofs.CallOrder.{place_read, is_first_law, place_narrow, call_ordered, other_ordered}
-use borrow.Author.Rules.{rules}
 use Rattle.translator.proofs.calls.place_node.Goals as goal
 
 pub returns-then-wide-k : goal.returns-then-wide-k

@@ -1,6 +1,5 @@
 -- `translator::file::fits` meets its contract: the greatest length, or the length that is counted.
 use Rattle.translator.proofs.Promises.{greatest_fits, counted_fits}
-use borrow.Author.Rules.{rules}
 use Rattle.translator.proofs.file.fits.Goals as goal
 
 pub returns-then-room-ge-TRANSLATION_BYTES : goal.returns-then-room-ge-TRANSLATION_BYTES

@@ -1,7 +1,6 @@
 -- `translator::file::put_file` meets its contract: head, functions, formals and nodes, one after the other.
 use Rattle.definitions.specs.Translate.{translation_words}
 use Rattle.translation_words.proofs.Writing.{wrote_then}
-use borrow.Author.Rules.{rules}
 use Rattle.translator.proofs.file.put_file.Goals as goal
 
 pub returns : goal.returns

@@ -1,11 +1,7 @@
 -- `translator::file::put_functions` meets its contract. The loop's invariant: the records of the functions passed are written.
-use native.Mathlib.Omega.{arith}
-use mathlib.Core.Path.{◌∙◌}
-use Rattle.translation_words.proofs.Writing.{PartsWritten, parts_begin, parts_go_on, wrote_as, parts_end}
-use Rattle.translator.proofs.FormalSteps.{function_words_law}
+use Rattle.translation_words.proofs.Writing.{PartsWritten}
 use Rattle.definitions.specs.Translate.{function_words}
 use Prim.Native.Nat.{◌-◌}
-use borrow.Author.Rules.{rules}
 use Rattle.translator.proofs.file.put_functions.Given as goal
 
 abbrev pub invariant-loop-f : goal.invariant-loop-f

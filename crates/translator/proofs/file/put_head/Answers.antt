@@ -4,7 +4,6 @@ use native.Mathlib.Omega.{arith}
 use Rattle.definitions.specs.declared.Layout.TheVariants.{Sheet}
 use Rattle.accepted.proofs.Head.{functions_limit}
 use Rattle.translator.proofs.FormalSteps.{wrote_head, formals_read}
-use borrow.Author.Rules.{rules}
 use Rattle.translator.proofs.file.put_head.Goals as goal
 
 pub bounds-formals-count : goal.bounds-formals-count

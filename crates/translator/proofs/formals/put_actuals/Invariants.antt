@@ -1,10 +1,7 @@
 -- `translator::formals::put_actuals` meets its contract. The loop's invariant: the arguments of the calls passed are written.
 use Prim.Native.Nat.{◌+◌, ◌-◌}
-use mathlib.Core.Path.{refl}
-use native.Mathlib.Omega.{arith}
-use Rattle.translation_words.proofs.Writing.{PartsWritten, parts_begin, parts_go_on, wrote_as, parts_end}
-use Rattle.translator.proofs.FormalSteps.{argument_of, range_right, place_small, argument_read, actuals_are}
-use borrow.Author.Rules.{rules}
+use Rattle.translation_words.proofs.Writing.{PartsWritten}
+use Rattle.translator.proofs.FormalSteps.{argument_of}
 use Rattle.translator.proofs.formals.put_actuals.Given as goal
 
 abbrev pub invariant-loop-j : goal.invariant-loop-j

@@ -1,7 +1,6 @@
 -- `translator::formals::put_formal` meets its contract: the start of the record, then the actuals.
 use Rattle.translation_words.proofs.Writing.{wrote_record}
 use Rattle.translator.proofs.FormalSteps.{range_right, actuals_length}
-use borrow.Author.Rules.{rules}
 use Rattle.translator.proofs.formals.put_formal.Goals as goal
 
 pub overflow_sub-count : goal.overflow_sub-count

@@ -1,11 +1,7 @@
 -- `translator::formals::put_formals` meets its contract. The loop's invariant: the formals of the functions passed are written.
-use Prim.Native.Nat.{◌-◌}
 use mathlib.Core.Path.{◌∙◌}
 use native.Mathlib.Omega.{arith}
-use Rattle.definitions.specs.Trees.{equal_trees}
-use Rattle.definitions.specs.Translate.{formal_words}
-use Rattle.translation_words.proofs.Writing.{PartsWritten, parts_begin, parts_go_on, parts_end}
-use borrow.Author.Rules.{rules}
+use Rattle.translation_words.proofs.Writing.{parts_begin, parts_go_on, parts_end}
 use Rattle.translator.proofs.formals.put_formals.Goals as goal
 
 pub loop-f-init : goal.loop-f-init

@@ -1,16 +1,11 @@
 -- `translator::formals::put_function_formals` meets its contract. The loop's invariant: the formals of the positions passed are written.
-use Prim.Native.Nat.{◌-◌}
 use mathlib.Core.Path.{◌∙◌}
 use native.Mathlib.Omega.{arith}
-use Rattle.definitions.specs.TranslationKinds.{formal_list}
-use Rattle.definitions.specs.Trees.{equal_trees}
-use Rattle.definitions.specs.Labels.{actuals}
-use Rattle.definitions.specs.Translate.{record_words, formal_words}
+use Rattle.definitions.specs.Translate.{formal_words}
 use Rattle.definitions.specs.declared.Layout.TheVariants.{Sheet}
 use Rattle.accepted.proofs.Head.{functions_limit}
 use Rattle.sheet_rules.proofs.SheetTables.{opened_parameters}
-use Rattle.translation_words.proofs.Writing.{PartsWritten, parts_begin, parts_go_on, parts_end}
-use borrow.Author.Rules.{rules}
+use Rattle.translation_words.proofs.Writing.{parts_begin, parts_go_on, parts_end}
 use Rattle.translator.proofs.formals.put_function_formals.Goals as goal
 
 pub loop-i-init : goal.loop-i-init

@@ -1,7 +1,6 @@
 -- `translator::nodes::formal` meets its contract.
 use native.Mathlib.Omega.{arith}
 use Rattle.translator.proofs.SheetTables.{formal_narrow, formal_owner, formal_is}
-use borrow.Author.Rules.{rules}
 use Rattle.translator.proofs.nodes.formal.Goals as goal
 
 pub bounds-owners-k : goal.bounds-owners-k

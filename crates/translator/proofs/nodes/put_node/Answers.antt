@@ -1,6 +1,5 @@
 -- `translator::nodes::put_node` meets its contract.
 use Rattle.translator.proofs.NodeSteps.{node_read}
-use borrow.Author.Rules.{rules}
 use Rattle.translator.proofs.nodes.put_node.Goals as goal
 
 pub put_read-requires : goal.put_read-requires

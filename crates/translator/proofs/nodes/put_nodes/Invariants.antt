@@ -1,11 +1,8 @@
 -- `translator::nodes::put_nodes` meets its contract. The loop's invariant: the nodes passed are written.
 use Prim.Native.Nat.{◌-◌}
-use mathlib.Core.Path.{◌∙◌}
-use native.Mathlib.Omega.{arith}
 use Rattle.definitions.specs.Trees.{equal_trees}
 use Rattle.definitions.specs.Translate.{node_words}
-use Rattle.translation_words.proofs.Writing.{PartsWritten, parts_begin, parts_go_on, parts_end}
-use borrow.Author.Rules.{rules}
+use Rattle.translation_words.proofs.Writing.{PartsWritten}
 use Rattle.translator.proofs.nodes.put_nodes.Given as goal
 
 abbrev pub invariant-loop-k : goal.invariant-loop-k

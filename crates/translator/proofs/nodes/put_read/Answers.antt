@@ -2,7 +2,6 @@
 use native.Mathlib.Omega.{arith}
 use Rattle.translator.proofs.NodeSteps.{number_words, parameter_words, pattern_words, call_words, copy_words, fields_few, owner_formals}
 use Rattle.translation_words.proofs.Writing.{wrote_as}
-use borrow.Author.Rules.{rules}
 use Rattle.translator.proofs.nodes.put_read.Goals as goal
 
 pub returns-then-node_kind-eq-NUMBER : goal.returns-then-node_kind-eq-NUMBER

@@ -1,7 +1,6 @@
 -- `translator::nodes::scrutinee` meets its contract: the tables reach the body of the function that owns the node.
 use native.Mathlib.Omega.{arith}
 use Rattle.translator.proofs.SheetTables.{scrutinee_narrow, scrutinee_owner, scrutinee_end, scrutinee_read}
-use borrow.Author.Rules.{rules}
 use Rattle.translator.proofs.nodes.scrutinee.Goals as goal
 
 pub bounds-owners-k : goal.bounds-owners-k

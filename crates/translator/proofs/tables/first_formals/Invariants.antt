@@ -1,12 +1,7 @@
 -- `translator::tables::first_formals` meets its contract. The loop's invariant: the sums over the functions passed are in the table.
 use Prim.Native.Nat.{◌-◌}
-use mathlib.Core.Path.{refl, ◌∙◌}
-use native.Mathlib.Omega.{arith}
 use Rattle.definitions.specs.References.{parameters}
-use Rattle.definitions.specs.declared.Layout.TheVariants.{Sheet}
-use Rattle.accepted.proofs.Head.{functions_limit}
-use Rattle.translator.proofs.SheetTables.{Summing, summing_begins, summing_goes_on, summing_done, parameters_read, formals_few}
-use borrow.Author.Rules.{rules}
+use Rattle.translator.proofs.SheetTables.{Summing}
 use Rattle.translator.proofs.tables.first_formals.Given as goal
 
 abbrev pub invariant-loop-f : goal.invariant-loop-f
