@@ -1,6 +1,5 @@
 -- `zifnora_c::zifnora_canonical_sheet` meets its contract.
 use Rattle.zifnora_c.proofs.Coding.{canonical_coded}
-use borrow.Author.Rules.{rules}
 use Rattle.zifnora_c.proofs.zifnora_canonical_sheet.Goals as goal
 
 pub returns : goal.returns

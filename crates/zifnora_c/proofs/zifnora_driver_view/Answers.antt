@@ -1,6 +1,5 @@
 -- `zifnora_c::zifnora_driver_view` meets its contract.
 use Rattle.zifnora_c.proofs.Coding.{view_coded}
-use borrow.Author.Rules.{rules}
 use Rattle.zifnora_c.proofs.zifnora_driver_view.Goals as goal
 
 pub returns : goal.returns

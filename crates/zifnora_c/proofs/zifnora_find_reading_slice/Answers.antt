@@ -2,7 +2,6 @@
 use mir.Syntax.{w32}
 use mir.ValLaws.{to_z-of_z}
 use Rattle.zifnora_c.proofs.Coding.{search_coded}
-use borrow.Author.Rules.{rules}
 use Rattle.zifnora_c.proofs.zifnora_find_reading_slice.Goals as goal
 
 pub returns : goal.returns

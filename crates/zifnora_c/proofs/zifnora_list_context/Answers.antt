@@ -1,8 +1,5 @@
 -- `zifnora_c::zifnora_list_context` meets its contract.
 use Rattle.zifnora_c.proofs.Coding.{list_coded}
-use borrow.Author.Rules.{rules}
-use Rattle.cells.proofs.listing.list_context.Reads as list-context-reads
-use Rattle.zifnora_c.proofs.codes.listed_code.Reads as listed-code-reads
 use Rattle.zifnora_c.proofs.zifnora_list_context.Goals as goal
 
 pub returns : goal.returns

@@ -1,10 +1,6 @@
 -- `zifnora_c::zifnora_run_for_hirer_slice` meets its contract.
 use mathlib.Core.Path.{refl}
 use Rattle.zifnora_c.proofs.Coding.{run_short, run_written}
-use borrow.Author.Rules.{rules}
-use Rattle.answer.proofs.write_answer.Reads as write-answer-reads
-use Rattle.hirer.proofs.run_for_hirer.Reads as run-for-hirer-reads
-use Rattle.zifnora_c.proofs.codes.record_code.Reads as record-code-reads
 use Rattle.zifnora_c.proofs.zifnora_run_for_hirer_slice.Goals as goal
 
 pub returns-then-short-ne0 : goal.returns-then-short-ne0

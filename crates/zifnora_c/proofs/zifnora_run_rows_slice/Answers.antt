@@ -1,8 +1,5 @@
 -- `zifnora_c::zifnora_run_rows_slice` meets its contract.
 use Rattle.zifnora_c.proofs.Coding.{rows_coded}
-use borrow.Author.Rules.{rules}
-use Rattle.batch.proofs.run_rows.Reads as run-rows-reads
-use Rattle.zifnora_c.proofs.codes.written_code.Reads as written-code-reads
 use Rattle.zifnora_c.proofs.zifnora_run_rows_slice.Goals as goal
 
 pub returns : goal.returns

@@ -1,10 +1,6 @@
 -- `zifnora_c::zifnora_translate_and_run_slice` meets its contract.
 use mathlib.Core.Path.{refl}
 use Rattle.zifnora_c.proofs.Coding.{join_short, join_written}
-use borrow.Author.Rules.{rules}
-use Rattle.answer.proofs.write_answer.Reads as write-answer-reads
-use Rattle.join.proofs.translate_and_run.Reads as translate-and-run-reads
-use Rattle.zifnora_c.proofs.codes.record_code.Reads as record-code-reads
 use Rattle.zifnora_c.proofs.zifnora_translate_and_run_slice.Goals as goal
 
 pub returns-then-short-ne0 : goal.returns-then-short-ne0

@@ -1,6 +1,5 @@
 -- `zifnora_c::zifnora_translated_length` meets its contract.
 use Rattle.zifnora_c.proofs.Coding.{length_coded}
-use borrow.Author.Rules.{rules}
 use Rattle.zifnora_c.proofs.zifnora_translated_length.Goals as goal
 
 pub returns : goal.returns

@@ -1,6 +1,5 @@
 -- `zifnora_c::codes::code` meets its contract.
 use Rattle.zifnora_c.proofs.Coding.{code_is}
-use borrow.Author.Rules.{rules}
 use Rattle.zifnora_c.proofs.codes.code.Goals as goal
 
 pub returns : goal.returns

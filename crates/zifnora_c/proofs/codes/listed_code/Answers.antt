@@ -1,7 +1,5 @@
 -- `zifnora_c::codes::listed_code` meets its contract, case by case.
 use Rattle.zifnora_c.proofs.Coding.{count_code, damage_code}
-use borrow.Author.Rules.{rules}
-use Rattle.zifnora_c.proofs.codes.code.Reads as code_Reads
 use Rattle.zifnora_c.proofs.codes.listed_code.Goals as goal
 
 pub returns-in-Count : goal.returns-in-Count

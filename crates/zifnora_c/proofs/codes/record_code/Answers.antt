@@ -1,7 +1,5 @@
 -- `zifnora_c::codes::record_code` meets its contract.
 use Rattle.zifnora_c.proofs.Coding.{short_code, fitting_code}
-use borrow.Author.Rules.{rules}
-use Rattle.zifnora_c.proofs.codes.code.Reads as code_Reads
 use Rattle.zifnora_c.proofs.codes.record_code.Goals as goal
 
 pub returns-then-rec-lt-ANSWER_BYTES : goal.returns-then-rec-lt-ANSWER_BYTES

@@ -1,7 +1,5 @@
 -- `zifnora_c::codes::written_code` meets its contract, case by case.
 use Rattle.zifnora_c.proofs.Coding.{length_code, refusal_code}
-use borrow.Author.Rules.{rules}
-use Rattle.zifnora_c.proofs.codes.code.Reads as code_Reads
 use Rattle.zifnora_c.proofs.codes.written_code.Goals as goal
 
 pub returns-in-Length : goal.returns-in-Length
