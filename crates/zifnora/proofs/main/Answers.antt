@@ -1,6 +1,5 @@
 -- `zifnora::main` is safe and ends; it prints the line, which stands at the front of its space.
 use Rattle.zifnora.proofs.Showing.{line_within, line_counted}
-use borrow.Author.Rules.{rules}
 use Rattle.zifnora.proofs.main.Goals as goal
 
 pub slice_bounds-line-end : goal.slice_bounds-line-end
