@@ -19,11 +19,15 @@ returns-then-x-eqminus2147483648 c =
 
 pub nonzero_div-result : goal.nonzero_div-result
 nonzero_div-result c =
-    let fits = c.ranges in
-    (nonzero_divisor w32 _ _ fits.x fits.y c.if-y-eq0.false, quotient_fits w32 _ _ fits.x fits.y (λ ex ey. elim c.if-y-eqminus1.branch [ then-y-eqminus1+else-x-eqminus2147483648 w ↦ w.if-x-eqminus2147483648.false ex | else-y-eqminus1 w ↦ w.if-y-eqminus1.false ey ]))
+    let fits = c.ranges in (
+      nonzero_divisor w32 _ _ fits.x fits.y c.if-y-eq0.false,
+      quotient_fits w32 _ _ fits.x fits.y (λ ex ey.
+          elim c.if-y-eqminus1.branch [ then-y-eqminus1+else-x-eqminus2147483648 w ↦ w.if-x-eqminus2147483648.false ex | else-y-eqminus1 w ↦ w.if-y-eqminus1.false ey ]),
+    )
 
 pub returns : goal.returns
 unfolding computed_of
 returns c =
     let fits = c.ranges in
-    plain_quotient w32 _ _ fits.x fits.y (λ ex ey. elim c.if-y-eqminus1.branch [ then-y-eqminus1+else-x-eqminus2147483648 w ↦ w.if-x-eqminus2147483648.false ex | else-y-eqminus1 w ↦ w.if-y-eqminus1.false ey ]) c.if-y-eq0.false
+    plain_quotient w32 _ _ fits.x fits.y (λ ex ey.
+    elim c.if-y-eqminus1.branch [ then-y-eqminus1+else-x-eqminus2147483648 w ↦ w.if-x-eqminus2147483648.false ex | else-y-eqminus1 w ↦ w.if-y-eqminus1.false ey ]) c.if-y-eq0.false

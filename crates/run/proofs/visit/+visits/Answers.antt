@@ -10,7 +10,8 @@ use Rattle.run.proofs.Visiting.{no_step_left, no_nesting_left, kind_asked, step_
 use Rattle.run.proofs.CallSteps.{call_ends, live_below, body_due, body_asked, body_returned}
 use Rattle.run.proofs.Packing.{opens, opens_value}
 use Rattle.run.proofs.Remains.{visit_asked, visit_returned, node_missed, node_found}
-use Rattle.run.proofs.Operands.{no_constructor, of_case, GivesOf, operand_awaits, operand_asked, operand_visited, operand_ended, operand_unwanted, tuple_room, no_number, of_conditional, of_operator, of_select, fields_room}
+use Rattle.run.proofs.Operands.{no_constructor, of_case, GivesOf, operand_awaits, operand_asked, operand_visited, operand_ended}
+use Rattle.run.proofs.Operands.{operand_unwanted, tuple_room, no_number, of_conditional, of_operator, of_select, fields_room}
 use Rattle.run.proofs.ConstructorSteps.{case_seeks, select_tag, select_seeks}
 use Rattle.run.proofs.NumberSteps.{conditional_onward, right_awaits, result_ends}
 use Rattle.run.proofs.FormalSteps.{formal_ends, cell_read, known_returned, formal_seeks, actual_missed, actual_asked, actual_returned}
@@ -28,12 +29,14 @@ visit-entry-node-requires t c = entry_room c.requires.equipped c.requires.there
 
 pub visit-returns-then-kind-eq-NUMBER : goal.visit-returns-then-kind-eq-NUMBER
 visit-returns-then-kind-eq-NUMBER t c =
+    let read = kind_read c.requires c.entry-node.ensures c.kind_in-kind.ensures c.if-kind-eq-NUMBER.true in
     let step_taken = step_counted c.requires c.if-left-eq0.false c.if-limits-eq0.false in
-    step_taken.returned (number_ends (kind_asked (c.decreases, c.requires) c.if-left-eq0.false c.if-limits-eq0.false (kind_read c.requires c.entry-node.ensures c.kind_in-kind.ensures c.if-kind-eq-NUMBER.true)).1 c.entry-node.ensures
+    step_taken.returned (number_ends (kind_asked (c.decreases, c.requires) c.if-left-eq0.false c.if-limits-eq0.false read).1 c.entry-node.ensures
     (to_z-of_z w32 _ (record { sfits = search rules })) c.number_in.ensures c.packed-then-kind-eq-NUMBER.ensures c.number.ensures)
 
 pub visit-visit_formal-requires : goal.visit-visit_formal-requires
-visit-visit_formal-requires t c = kind_asked (c.decreases, c.requires) c.if-left-eq0.false c.if-limits-eq0.false (kind_read c.requires c.entry-node.ensures c.kind_in-kind.ensures c.if-kind-eq-FORMAL.true)
+visit-visit_formal-requires t c =
+    kind_asked (c.decreases, c.requires) c.if-left-eq0.false c.if-limits-eq0.false (kind_read c.requires c.entry-node.ensures c.kind_in-kind.ensures c.if-kind-eq-FORMAL.true)
 
 pub visit-returns-then-kind-eq-FORMAL : goal.visit-returns-then-kind-eq-FORMAL
 visit-returns-then-kind-eq-FORMAL t c =
@@ -42,11 +45,13 @@ visit-returns-then-kind-eq-FORMAL t c =
 
 pub visit-returns-then-kind-eq-TUPLE : goal.visit-returns-then-kind-eq-TUPLE
 visit-returns-then-kind-eq-TUPLE t c =
+    let read = kind_read c.requires c.entry-node.ensures c.kind_in-kind.ensures c.if-kind-eq-TUPLE.true in
     let step_taken = step_counted c.requires c.if-left-eq0.false c.if-limits-eq0.false in
-    step_taken.returned (tuple_ends (kind_asked (c.decreases, c.requires) c.if-left-eq0.false c.if-limits-eq0.false (kind_read c.requires c.entry-node.ensures c.kind_in-kind.ensures c.if-kind-eq-TUPLE.true)).1 c.packed-then-kind-eq-TUPLE.ensures c.constructor.ensures)
+    step_taken.returned (tuple_ends (kind_asked (c.decreases, c.requires) c.if-left-eq0.false c.if-limits-eq0.false read).1 c.packed-then-kind-eq-TUPLE.ensures c.constructor.ensures)
 
 pub visit-visit_call-requires : goal.visit-visit_call-requires
-visit-visit_call-requires t c = kind_asked (c.decreases, c.requires) c.if-left-eq0.false c.if-limits-eq0.false (kind_read c.requires c.entry-node.ensures c.kind_in-kind.ensures c.if-kind-eq-CALL.true)
+visit-visit_call-requires t c =
+    kind_asked (c.decreases, c.requires) c.if-left-eq0.false c.if-limits-eq0.false (kind_read c.requires c.entry-node.ensures c.kind_in-kind.ensures c.if-kind-eq-CALL.true)
 
 pub visit-returns-then-kind-eq-CALL : goal.visit-returns-then-kind-eq-CALL
 visit-returns-then-kind-eq-CALL t c =
@@ -54,7 +59,8 @@ visit-returns-then-kind-eq-CALL t c =
     step_taken.returned c.visit_call.ensures
 
 pub visit-visit_select-requires : goal.visit-visit_select-requires
-visit-visit_select-requires t c = kind_asked (c.decreases, c.requires) c.if-left-eq0.false c.if-limits-eq0.false (kind_read c.requires c.entry-node.ensures c.kind_in-kind.ensures c.if-kind-eq-SELECT.true)
+visit-visit_select-requires t c =
+    kind_asked (c.decreases, c.requires) c.if-left-eq0.false c.if-limits-eq0.false (kind_read c.requires c.entry-node.ensures c.kind_in-kind.ensures c.if-kind-eq-SELECT.true)
 
 pub visit-returns-then-kind-eq-SELECT : goal.visit-returns-then-kind-eq-SELECT
 visit-returns-then-kind-eq-SELECT t c =
@@ -62,7 +68,8 @@ visit-returns-then-kind-eq-SELECT t c =
     step_taken.returned c.visit_select.ensures
 
 pub visit-visit_operator-requires : goal.visit-visit_operator-requires
-visit-visit_operator-requires t c = kind_asked (c.decreases, c.requires) c.if-left-eq0.false c.if-limits-eq0.false (kind_read c.requires c.entry-node.ensures c.kind_in-kind.ensures c.if-kind-eq-OPERATOR.true)
+visit-visit_operator-requires t c =
+    kind_asked (c.decreases, c.requires) c.if-left-eq0.false c.if-limits-eq0.false (kind_read c.requires c.entry-node.ensures c.kind_in-kind.ensures c.if-kind-eq-OPERATOR.true)
 
 pub visit-returns-then-kind-eq-OPERATOR : goal.visit-returns-then-kind-eq-OPERATOR
 visit-returns-then-kind-eq-OPERATOR t c =
@@ -71,18 +78,21 @@ visit-returns-then-kind-eq-OPERATOR t c =
 
 pub visit-reading-requires : goal.visit-reading-requires
 visit-reading-requires t c =
-    let node = (kind_asked (c.decreases, c.requires) c.if-left-eq0.false c.if-limits-eq0.false (kind_read c.requires c.entry-node.ensures c.kind_in-kind.ensures c.if-kind-eq-READING.true)).1 in
+    let read = kind_read c.requires c.entry-node.ensures c.kind_in-kind.ensures c.if-kind-eq-READING.true in
+    let node = (kind_asked (c.decreases, c.requires) c.if-left-eq0.false c.if-limits-eq0.false read).1 in
     reading_narrow node (first_read node c.entry-node.ensures (λ q. omega (arith, q)) c.first_in.ensures)
 
 pub visit-returns-then-kind-eq-READING : goal.visit-returns-then-kind-eq-READING
 visit-returns-then-kind-eq-READING t c =
+    let read = kind_read c.requires c.entry-node.ensures c.kind_in-kind.ensures c.if-kind-eq-READING.true in
     let step_taken = step_counted c.requires c.if-left-eq0.false c.if-limits-eq0.false in
-    step_taken.returned (reading_ends (kind_asked (c.decreases, c.requires) c.if-left-eq0.false c.if-limits-eq0.false (kind_read c.requires c.entry-node.ensures c.kind_in-kind.ensures c.if-kind-eq-READING.true)).1 c.entry-node.ensures
+    step_taken.returned (reading_ends (kind_asked (c.decreases, c.requires) c.if-left-eq0.false c.if-limits-eq0.false read).1 c.entry-node.ensures
     c.first_in.ensures (to_z-of_z w32 _ (record { sfits = search rules })) c.reading.ensures
     c.packed-then-kind-eq-READING.ensures c.number-then-kind-eq-READING.ensures)
 
 pub visit-visit_conditional-requires : goal.visit-visit_conditional-requires
-visit-visit_conditional-requires t c = kind_asked (c.decreases, c.requires) c.if-left-eq0.false c.if-limits-eq0.false (kind_read c.requires c.entry-node.ensures c.kind_in-kind.ensures c.if-kind-eq-CONDITIONAL.true)
+visit-visit_conditional-requires t c =
+    kind_asked (c.decreases, c.requires) c.if-left-eq0.false c.if-limits-eq0.false (kind_read c.requires c.entry-node.ensures c.kind_in-kind.ensures c.if-kind-eq-CONDITIONAL.true)
 
 pub visit-returns-then-kind-eq-CONDITIONAL : goal.visit-returns-then-kind-eq-CONDITIONAL
 visit-returns-then-kind-eq-CONDITIONAL t c =
@@ -113,7 +123,8 @@ visit_call-open_call-requires t c = (c.requires.context.size, live_below (c.decr
 
 pub visit_call-visit-x-requires : goal.visit_call-visit-x-requires
 visit_call-visit-x-requires t c =
-    let due = body_due c.args.cells.now (c.decreases, c.requires) c.if-limits-live.false c.entry-node.ensures c.wide32.ensures.0 c.first_in.ensures c.second_in.ensures c.third_in.ensures c.add_cell.ensures c.open_call.ensures in
+    let due = body_due c.args.cells.now (c.decreases, c.requires) c.if-limits-live.false c.entry-node.ensures
+    c.wide32.ensures.0 c.first_in.ensures c.second_in.ensures c.third_in.ensures c.add_cell.ensures c.open_call.ensures in
     body_asked due c.pair_of-body.ensures
 
 pub visit_call-close_call-requires : goal.visit_call-close_call-requires
@@ -121,7 +132,8 @@ visit_call-close_call-requires t c = (c.visit-x.ensures.size, live_below (c.decr
 
 pub visit_call-returns : goal.visit_call-returns
 visit_call-returns t c =
-    let due = body_due c.args.cells.now (c.decreases, c.requires) c.if-limits-live.false c.entry-node.ensures c.wide32.ensures.0 c.first_in.ensures c.second_in.ensures c.third_in.ensures c.add_cell.ensures c.open_call.ensures in
+    let due = body_due c.args.cells.now (c.decreases, c.requires) c.if-limits-live.false c.entry-node.ensures
+    c.wide32.ensures.0 c.first_in.ensures c.second_in.ensures c.third_in.ensures c.add_cell.ensures c.open_call.ensures in
     body_returned due c.pair_of-body.ensures c.visit-x.ensures c.kind_in.ensures c.close_call.ensures
 
 -- A case meets its contract: its scrutinee is visited, gives a constructor, and the clause with its tag is sought.
