@@ -116,7 +116,7 @@ module _ (rs : List ℤ) (signed : SignedReadings rs) (steps nesting cells_allow
       run_recordable _ rs (translation_bytes_law sheet) signed steps nesting cells_allowed _
       (joining_numbered sheet (length out) rs nesting cells_allowed (length before)) _ run.answer
 
--- and that of row i of a batch, which is the rule's (`request-1-exact`)
+-- and that of row i of a batch, which is the rule's (`request_1_exact`)
 pub request_10_row : (b : List ℕ) → Bytes b → (rs : List ℤ) → SignedReadings rs → (steps nesting cells_allowed i : ℕ)
     → Recordable (rule_answer b (row_of b rs i) steps nesting cells_allowed)
 unfolding answer_after
