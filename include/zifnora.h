@@ -8,12 +8,12 @@
  * Platform: x86-64, System V calling convention; the archive is ELF. Build it with `tools/archive`, and link
  * target/staticlib/libzifnora_c.a. It needs `memcpy` and `memset` from what it is linked with, and nothing else (`nm -u`).
  *
- * Stack: a run takes less than 112 KiB, for an owner or a hirer, on one row of readings or on several, in a search and in the joined
+ * Stack: a run takes less than 124 KiB, for an owner or a hirer, on one row of readings or on several, in a search and in the joined
  * call, the other calls less than 32 KiB. These bounds are measured, not proved. `bench` measures on files that nest in each way in which
- * visits can nest, to 1,024 open visits, and prints: a run 13,768 bytes, 96 more for each visit that stays open, 107,272 at nesting
- * 1,024; for a hirer 13,800 and 107,304; on several rows 13,816 and 107,320; a search 13,848 and 107,240; the joined call 30,088 and
- * 107,384; translating 21,304; asking for a translation's length 18,744; writing a canonical form 18,568, however deep the trees; listing a
- * context 24, of one cell as of 960; a driver's view 0. Another build of the archive has to be measured again.
+ * visits can nest, to 1,024 open visits, and prints for the archive as rattle-kit-13f builds it: a run 13,744 bytes, 112 more for each visit
+ * that stays open, 123,680 at nesting 1,024, for an owner or a hirer; on several rows 13,776 and 123,712; a search 13,792 and 123,632; the
+ * joined call 30,032 and 123,760; translating 21,232; asking for a translation's length 18,656; writing a canonical form 18,544, however deep
+ * the trees; listing a context 24, of one cell as of 960; a driver's view 0. Another build of the archive has to be measured again.
  */
 #ifndef ZIFNORA_H
 #define ZIFNORA_H
