@@ -74,8 +74,7 @@ pub(crate) fn run_each(
         cells.new.now records.new
         × (cells.new.ref_ptr ≡ cells.old.ref_ptr) }
 {
-    let mut row: usize = 0;
-    while row < rows {
+    for row in 0..rows {
         run_row(
             file,
             table,
@@ -87,6 +86,5 @@ pub(crate) fn run_each(
             cells,
             records,
         );
-        row += 1;
     }
 }

@@ -23,10 +23,8 @@ pub fn label_nodes(
     ensures { Labels b.now labels.new (nodes b.now) × Counts b.now counts.new (nodes b.now) }
 {
     let count = wide(nodes(b));
-    let mut k: usize = 0;
-    while k < count {
+    for k in 0..count {
         label_node(b, starts, classes, k, labels, counts);
-        k += 1;
     }
 }
 

@@ -17,12 +17,10 @@ fn enter_bodies(b: &[u8], ends: &Ends, sizes: &OfNodes, order: &mut OfNodes)
 {
     let count = wide(functions(b));
     let mut start: usize = 0;
-    let mut f: usize = 0;
-    while f < count {
+    for f in 0..count {
         let body = ends[f] - 1;
         start += wide(sizes[wide(body)]);
         order[start - 1] = body;
-        f += 1;
     }
 }
 
@@ -36,14 +34,12 @@ fn enter_children(b: &[u8], starts: &Starts, sizes: &OfNodes, q: usize, order: &
     let node_kind = kind(rec);
     let count = field_count(rec);
     let mut start = q + 1 - wide(sizes[k]);
-    let mut i: usize = 0;
-    while i < count {
+    for i in 0..count {
         if names_node(node_kind, i) {
             let x = field_inside(rec, i);
             start += wide(sizes[wide(x)]);
             order[start - 1] = x;
         }
-        i += 1;
     }
 }
 

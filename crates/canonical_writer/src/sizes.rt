@@ -19,12 +19,10 @@ fn tree_size(b: &[u8], starts: &Starts, sizes: &OfNodes, k: usize) -> u16
     let node_kind = kind(rec);
     let count = field_count(rec);
     let mut size: u16 = 1;
-    let mut i: usize = 0;
-    while i < count {
+    for i in 0..count {
         if names_node(node_kind, i) {
             size += sizes[wide(field_inside(rec, i))];
         }
-        i += 1;
     }
     size
 }
@@ -35,10 +33,8 @@ pub(crate) fn fill_sizes(b: &[u8], starts: &Starts, sizes: &mut OfNodes)
     ensures { Sizes b.now sizes.new (nodes b.now) }
 {
     let count = wide(nodes(b));
-    let mut k: usize = 0;
-    while k < count {
+    for k in 0..count {
         let size = tree_size(b, starts, sizes, k);
         sizes[k] = size;
-        k += 1;
     }
 }

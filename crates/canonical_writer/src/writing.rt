@@ -18,10 +18,8 @@ fn copy(b: &[u8], end: usize, out: &mut [u8])
     requires { (end ≤ length b.now) × (length b.now ≤ length out.old) }
     ensures { out.new ≡ sets out.old 0 (take end b.now) }
 {
-    let mut i: usize = 0;
-    while i < end {
+    for i in 0..end {
         out[i] = b[i];
-        i += 1;
     }
 }
 
@@ -42,8 +40,7 @@ fn put_fields(
     let count = field_count(rec);
     let mut start = q + 1 - wide(sizes[k]);
     let mut next = at;
-    let mut i: usize = 0;
-    while i < count {
+    for i in 0..count {
         let old = wide(field_inside(rec, i));
         let mut new = old;
         if names_node(node_kind, i) {
@@ -51,7 +48,6 @@ fn put_fields(
             new = start - 1;
         }
         next = put(out, next, new);
-        i += 1;
     }
     next
 }
@@ -89,10 +85,8 @@ fn put_nodes(
 {
     let count = wide(nodes(b));
     let mut next = at;
-    let mut q: usize = 0;
-    while q < count {
+    for q in 0..count {
         next = put_node(b, starts, sizes, order, q, out, next);
-        q += 1;
     }
     next
 }

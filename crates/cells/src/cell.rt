@@ -93,10 +93,8 @@ fn clear_entries(b: &mut [u8], at: usize)
     requires { at + 66 < length b.old }
     ensures { b.new ≡ sets b.old (at + 4) (replicate 62 0) }
 {
-    let mut i: usize = ENTRIES_PLACE;
-    while i < CALLEE_PLACE {
+    for i in ENTRIES_PLACE..CALLEE_PLACE {
         b[at + i] = 0;
-        i += 1;
     }
 }
 

@@ -52,11 +52,9 @@ fn write_labels(cells: &[u8], c: usize, count: usize, out: &mut [u8])
     ensures { out.new ≡ written (labels_within cells.now c c) 0 out.old }
 {
     let mut at = c;
-    let mut i: usize = 0;
-    while i < count {
+    for i in 0..count {
         put_word(out, 2 * i, label_at(cells, at));
         at = wide(previous_at(cells, at));
-        i += 1;
     }
 }
 

@@ -37,10 +37,8 @@ fn start(b: &[u8], r: usize) -> usize
     ensures { result ≡ start_of b.now r }
 {
     let mut at: usize = 0;
-    let mut i: usize = 0;
-    while i < r {
+    for i in 0..r {
         at = next(b, at);
-        i += 1;
     }
     at
 }

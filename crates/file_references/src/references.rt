@@ -154,12 +154,10 @@ fn fields_below(rec: &[u8], from: usize, limit: usize) -> bool
         return true;
     }
     let count = n - from;
-    let mut j: usize = 0;
-    while j < count {
+    for j in 0..count {
         if limit <= field_inside(rec, from + j) as usize {
             return false;
         }
-        j += 1;
     }
     true
 }
@@ -170,12 +168,10 @@ fn other_fields_below(rec: &[u8], limit: usize) -> bool
 {
     let n = field_count(rec);
     let count = n / 2 + n % 2;
-    let mut j: usize = 0;
-    while j < count {
+    for j in 0..count {
         if limit <= field_inside(rec, 2 * j) as usize {
             return false;
         }
-        j += 1;
     }
     true
 }
@@ -202,12 +198,10 @@ pub fn constructors_below(rec: &[u8], limit: usize) -> bool
     ensures { result ≡ all_of (clauses rec.now) (λ j. ltb (clause_constructor rec.now j) limit) }
 {
     let count = clauses(rec);
-    let mut j: usize = 0;
-    while j < count {
+    for j in 0..count {
         if limit <= clause_constructor(rec, j) as usize {
             return false;
         }
-        j += 1;
     }
     true
 }

@@ -24,11 +24,9 @@ pub fn run_ends(y: Layout, b: &[u8], starts: &Starts, ends: &mut Ends)
     let count = functions(b) as usize;
     let j = count_field(y);
     let mut total: usize = 0;
-    let mut f: usize = 0;
-    while f < count {
+    for f in 0..count {
         total += wide(field(indexed(b, starts, first + f), j));
         ends[f] = total as u16;
-        f += 1;
     }
 }
 
@@ -47,10 +45,8 @@ pub fn run_owners(b: &[u8], ends: &Ends, owners: &mut Owners)
 {
     let count = nodes(b) as usize;
     let mut f: usize = 0;
-    let mut k: usize = 0;
-    while k < count {
+    for k in 0..count {
         f = owner_after(ends, f, k);
         owners[k] = f as u8;
-        k += 1;
     }
 }

@@ -55,10 +55,8 @@ fn field_total(y: Layout, b: &[u8], starts: &Starts, j: usize) -> usize
     let first = first_function(y, b);
     let count = functions(b) as usize;
     let mut total: usize = 0;
-    let mut f: usize = 0;
-    while f < count {
+    for f in 0..count {
         total += field(indexed(b, starts, first + f), j) as usize;
-        f += 1;
     }
     total
 }
@@ -220,15 +218,13 @@ fn walk(y: Layout, b: &[u8], starts: &mut Starts) -> Verdict
     let first = first_node(b);
     let count = due(b);
     let mut at: usize = 0;
-    let mut r: usize = 0;
-    while r < count {
+    for r in 0..count {
         starts[r] = at as u16;
         let v = shape_at(&rows, y, b, starts, first, r, at);
         let Verdict::Accepted = v else {
             return v;
         };
         at += word(b, at) as usize;
-        r += 1;
     }
     if at == b.len() {
         Verdict::Accepted

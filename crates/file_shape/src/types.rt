@@ -16,12 +16,10 @@ pub(crate) fn types_right(rec: &[u8], n: usize) -> bool
         return true;
     }
     let count = n - 2;
-    let mut i: usize = 0;
-    while i < count {
+    for i in 0..count {
         if MOST_TYPES < field_inside(rec, 2 + i) as usize {
             return false;
         }
-        i += 1;
     }
     true
 }

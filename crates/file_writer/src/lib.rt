@@ -46,10 +46,8 @@ fn start(file: &Space, r: usize) -> usize
     ensures { (result ≡ start_of file.now r) × (result < walk_end) }
 {
     let mut at: usize = 0;
-    let mut i: usize = 0;
-    while i < r {
+    for i in 0..r {
         at = skip(file, at);
-        i += 1;
     }
     at
 }

@@ -71,13 +71,11 @@ fn references(b: &[u8], starts: &Starts) -> Verdict
     ensures { result ≡ first_of (due b.now) (references b.now) }
 {
     let count = due(b);
-    let mut r: usize = 0;
-    while r < count {
+    for r in 0..count {
         let v = references_at(b, starts, r);
         let Verdict::Accepted = v else {
             return v;
         };
-        r += 1;
     }
     Verdict::Accepted
 }

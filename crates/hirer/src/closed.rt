@@ -37,15 +37,13 @@ pub(crate) fn check_readings(file: &[u8], table: &Table, set: u32) -> Verdict
 {
     let first = first_node(file);
     let count = nodes(file);
-    let mut k: u16 = 0;
-    while k < count {
+    for k in 0..count {
         if !node_allowed(file, table, set, k) {
             return Verdict::Refused {
                 number: numbers::CLOSED_READING,
                 place: first + wide(k),
             };
         }
-        k += 1;
     }
     Verdict::Accepted
 }

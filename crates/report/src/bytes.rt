@@ -19,10 +19,8 @@ pub(crate) fn put_word(out: &mut [u8], at: usize, word: &[u8]) -> usize
     ensures { WroteBytes out.old at word.now result out.new }
 {
     let mut next = at;
-    let mut i: usize = 0;
-    while i < word.len() {
+    for i in 0..word.len() {
         next = put_byte(out, next, word[i]);
-        i += 1;
     }
     next
 }

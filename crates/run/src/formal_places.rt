@@ -29,10 +29,8 @@ fn set_places(places: &mut Places, f: u16, count: u16, first: usize)
     requires { Settable places.old f count first }
     ensures { PlacesSet places.old f count first places.new }
 {
-    let mut j: u16 = 0;
-    while j < count {
+    for j in 0..count {
         places[first + wide(j)] = POSITIONS * f + j;
-        j += 1;
     }
 }
 
@@ -43,11 +41,9 @@ pub(crate) fn fill_places(places: &mut Places, b: &[u8], index: &Starts)
 {
     let count = functions(b);
     let mut first: usize = 0;
-    let mut f: u16 = 0;
-    while f < count {
+    for f in 0..count {
         let n = parameter_count(b, index, f);
         set_places(places, f, n, first);
         first += wide(n);
-        f += 1;
     }
 }

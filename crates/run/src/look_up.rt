@@ -74,13 +74,11 @@ pub(crate) fn clause(b: &[u8], place: u16, count: u16, tag: u16) -> usize
     ensures { (found_in b.now result ≡ chosen (clauses_at b.now place count) tag) × (result + 2 ≤ length b.now) }
 {
     let count = wide(count) / 2;
-    let mut j: usize = 0;
-    while j < count {
+    for j in 0..count {
         let at = wide(place) + 6 + 4 * j;
         if field_of(b[at], b[at + 1]) == tag {
             return at + 2;
         }
-        j += 1;
     }
     0
 }

@@ -70,11 +70,9 @@ pub(crate) fn fill_nodes(tab: &mut Table, b: &[u8], index: &Starts, ends: &Ends,
     ensures { NodeTable b.now tab.new × (length tab.new ≡ table_entries) }
 {
     let count = nodes(b);
-    let mut k: u16 = 0;
-    while k < count {
+    for k in 0..count {
         let x = entry_at(b, index, ends, places, k);
         tab[wide(k)] = x;
-        k += 1;
     }
 }
 
@@ -92,10 +90,8 @@ pub fn set_readings(tab: &mut Table, readings: &[i32])
     requires { (length tab.old ≡ table_entries) × (length readings.now ≤ most_readings) }
     ensures { ReadingsSet tab.old readings.now tab.new }
 {
-    let mut i: usize = 0;
-    while i < readings.len() {
+    for i in 0..readings.len() {
         set_reading(tab, i, readings[i]);
-        i += 1;
     }
 }
 

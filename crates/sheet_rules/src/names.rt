@@ -115,13 +115,11 @@ pub fn names(b: &[u8], starts: &Starts, owners: &Owners) -> Verdict
     ensures { result ≡ first_of (due b.now) (λ r. references b.now r and_then arguments b.now r) }
 {
     let count = due(b);
-    let mut r: usize = 0;
-    while r < count {
+    for r in 0..count {
         let v = names_at(b, starts, owners, r);
         let Verdict::Accepted = v else {
             return v;
         };
-        r += 1;
     }
     Verdict::Accepted
 }

@@ -102,15 +102,13 @@ pub fn patterns(b: &[u8], starts: &Starts, held: &[u32; MOST_NODES]) -> Verdict
 {
     let first = first_node(b);
     let count = wide(nodes(b));
-    let mut k: usize = 0;
-    while k < count {
+    for k in 0..count {
         if !pattern_right(b, starts, held, k) {
             return Verdict::Refused {
                 number: numbers::BAD_TREE,
                 place: first + k,
             };
         }
-        k += 1;
     }
     Verdict::Accepted
 }

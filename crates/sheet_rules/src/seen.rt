@@ -45,10 +45,8 @@ fn note_children(rec: &[u8], p: u16, times: &mut [u8; MOST_NODES], parents: &mut
 {
     let kind = kind(rec);
     let count = children(rec);
-    let mut j: usize = 0;
-    while j < count {
+    for j in 0..count {
         note_child(wide(child_inside(rec, kind, j)), p, times, parents);
-        j += 1;
     }
 }
 
@@ -64,9 +62,7 @@ pub fn note_sheet(
 {
     let first = first_node(b);
     let count = nodes(b);
-    let mut p: u16 = 0;
-    while p < count {
+    for p in 0..count {
         note_children(indexed(b, starts, first + wide(p)), p, times, parents);
-        p += 1;
     }
 }

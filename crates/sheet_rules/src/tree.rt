@@ -34,8 +34,7 @@ fn children_right(b: &[u8], owners: &Owners, k: usize, rec: &[u8]) -> bool
 {
     let kind = kind(rec);
     let count = children(rec);
-    let mut j: usize = 0;
-    while j < count {
+    for j in 0..count {
         let c = wide(child_inside(rec, kind, j));
         if k <= c {
             return false;
@@ -43,7 +42,6 @@ fn children_right(b: &[u8], owners: &Owners, k: usize, rec: &[u8]) -> bool
         if owners[c] != owners[k] {
             return false;
         }
-        j += 1;
     }
     true
 }
@@ -104,15 +102,13 @@ pub fn trees(
 {
     let first = first_node(b);
     let count = wide(nodes(b));
-    let mut k: usize = 0;
-    while k < count {
+    for k in 0..count {
         if !tree_right(b, starts, ends, owners, times, k) {
             return Verdict::Refused {
                 number: numbers::BAD_TREE,
                 place: first + k,
             };
         }
-        k += 1;
     }
     Verdict::Accepted
 }

@@ -107,12 +107,10 @@ fn arguments_typed(types: &OfNodes, rec: &[u8], declared: &[u8], first: usize) -
         return true;
     }
     let count = n - 1;
-    let mut i: usize = 0;
-    while i < count {
+    for i in 0..count {
         if type_in(types, field_inside(rec, 1 + i)) != field(declared, first + i) {
             return false;
         }
-        i += 1;
     }
     true
 }
@@ -123,13 +121,11 @@ fn clauses_typed(b: &[u8], starts: &Starts, k: usize, rec: &[u8], t: u16) -> boo
     ensures { result ≡ all_of (clauses rec.now) (λ j. eqb (own_type b.now (clause_constructor rec.now j)) t) }
 {
     let count = clauses(rec);
-    let mut j: usize = 0;
-    while j < count {
+    for j in 0..count {
         let c = wide(clause_constructor(rec, j));
         if constructor_field(b, starts, c, OWN_TYPE) != t {
             return false;
         }
-        j += 1;
     }
     true
 }
@@ -227,8 +223,7 @@ pub fn types(
     let mut types = [0u16; MOST_NODES];
     let first = first_node(b);
     let count = wide(nodes(b));
-    let mut k: usize = 0;
-    while k < count {
+    for k in 0..count {
         let rec = indexed(b, starts, first + k);
         let t = type_at(b, starts, owners, held, &types, k, rec);
         types[k] = t;
@@ -244,7 +239,6 @@ pub fn types(
                 place: first + k,
             };
         }
-        k += 1;
     }
     Verdict::Accepted
 }

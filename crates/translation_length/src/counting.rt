@@ -35,10 +35,8 @@ fn count_formals(b: &[u8], starts: &Starts, counts: &OfFunctions) -> usize
 {
     let count = wide(functions(b));
     let mut total: usize = 0;
-    let mut f: usize = 0;
-    while f < count {
+    for f in 0..count {
         total += count_function(b, starts, counts, f);
-        f += 1;
     }
     total
 }
@@ -59,10 +57,8 @@ fn count_nodes(b: &[u8], starts: &Starts) -> usize
     let first = first_node(b);
     let count = wide(nodes(b));
     let mut total: usize = 0;
-    let mut k: usize = 0;
-    while k < count {
+    for k in 0..count {
         total += count_node(indexed(b, starts, first + k));
-        k += 1;
     }
     total
 }

@@ -59,10 +59,8 @@ fn put_fields(out: &mut [u8], at: usize, rec: &[u8]) -> usize
 {
     let count = field_count(rec);
     let mut next = at;
-    let mut j: usize = 0;
-    while j < count {
+    for j in 0..count {
         next = put(out, next, wide(field(rec, j)));
-        j += 1;
     }
     next
 }

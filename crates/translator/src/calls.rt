@@ -67,9 +67,7 @@ pub(crate) fn order_calls(
     ensures { CallOrder b.now order.new (nodes b.now) }
 {
     let count = wide(nodes(b));
-    let mut k: usize = 0;
-    while k < count {
+    for k in 0..count {
         place_node(b, starts, classes, labels, firsts, k, order);
-        k += 1;
     }
 }

@@ -46,8 +46,7 @@ fn put_functions(b: &[u8], starts: &Starts, out: &mut [u8], at: usize) -> usize
     let first = first_function(Layout::Sheet, b);
     let count = wide(functions(b));
     let mut next = at;
-    let mut f: usize = 0;
-    while f < count {
+    for f in 0..count {
         let rec = indexed(b, starts, first + f);
         next = put_two(
             out,
@@ -56,7 +55,6 @@ fn put_functions(b: &[u8], starts: &Starts, out: &mut [u8], at: usize) -> usize
             wide(field(rec, 1)),
             wide(field(rec, 0)),
         );
-        f += 1;
     }
     next
 }

@@ -36,11 +36,9 @@ fn put_actuals(
     let first = wide(firsts[f]);
     let count = wide(firsts[f + 1]) - first;
     let mut next = at;
-    let mut j: usize = 0;
-    while j < count {
+    for j in 0..count {
         let rec = indexed(b, starts, node + wide(order[first + j]));
         next = put(out, next, wide(field(rec, 1 + i)));
-        j += 1;
     }
     next
 }
@@ -79,10 +77,8 @@ fn put_function_formals(
 {
     let positions = wide(parameters(b, starts, f));
     let mut next = at;
-    let mut i: usize = 0;
-    while i < positions {
+    for i in 0..positions {
         next = put_formal(b, starts, firsts, order, f, i, out, next);
-        i += 1;
     }
     next
 }
@@ -101,10 +97,8 @@ pub(crate) fn put_formals(
 {
     let count = wide(functions(b));
     let mut next = at;
-    let mut f: usize = 0;
-    while f < count {
+    for f in 0..count {
         next = put_function_formals(b, starts, firsts, order, f, out, next);
-        f += 1;
     }
     next
 }

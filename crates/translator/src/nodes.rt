@@ -120,10 +120,8 @@ pub(crate) fn put_nodes(
 {
     let count = wide(nodes(b));
     let mut next = at;
-    let mut k: usize = 0;
-    while k < count {
+    for k in 0..count {
         next = put_node(b, starts, ends, owners, labels, formals, k, out, next);
-        k += 1;
     }
     next
 }

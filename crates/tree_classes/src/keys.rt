@@ -49,12 +49,10 @@ pub(crate) fn same_values(x: &[u8], y: &[u8], classes: &OfNodes) -> bool
     if count != field_count(y) {
         return false;
     }
-    let mut i: usize = 0;
-    while i < count {
+    for i in 0..count {
         if value(x, x_kind, i, classes) != value(y, x_kind, i, classes) {
             return false;
         }
-        i += 1;
     }
     true
 }
@@ -67,10 +65,8 @@ pub(crate) fn bucket(rec: &[u8], place: u16, classes: &OfNodes) -> usize
     let node_kind = kind(rec);
     let count = field_count(rec);
     let mut h = (wide(node_kind) + wide(place)) % BUCKETS;
-    let mut j: usize = 0;
-    while j < count {
+    for j in 0..count {
         h = (h * WEIGHT + wide(value(rec, node_kind, j, classes))) % BUCKETS;
-        j += 1;
     }
     h
 }

@@ -101,9 +101,7 @@ pub(crate) fn number_nodes(b: &[u8], starts: &Starts, places: &OfNodes, classes:
     let count = wide(nodes(b));
     let mut lasts = [0u16; BUCKETS];
     let mut earlier = [0u16; MOST_NODES];
-    let mut k: usize = 0;
-    while k < count {
+    for k in 0..count {
         number_node(b, starts, places, k, classes, &mut lasts, &mut earlier);
-        k += 1;
     }
 }

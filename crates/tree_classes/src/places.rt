@@ -41,10 +41,8 @@ pub(crate) fn place_nodes(
 {
     let first = first_node(b);
     let count = wide(nodes(b));
-    let mut k: usize = 0;
-    while k < count {
+    for k in 0..count {
         places[k] = place(kind(indexed(b, starts, first + k)), owners[k], scrutinees);
-        k += 1;
     }
 }
 
@@ -62,10 +60,8 @@ pub(crate) fn class_scrutinees(
 {
     let first = first_node(b);
     let count = wide(functions(b));
-    let mut f: usize = 0;
-    while f < count {
+    for f in 0..count {
         let body = wide(ends[f]) - 1;
         scrutinees[f] = entry(classes, field(indexed(b, starts, first + body), 0));
-        f += 1;
     }
 }

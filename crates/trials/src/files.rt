@@ -27,10 +27,8 @@ pub(crate) fn within(size: usize, greatest: usize, printer: &mut Printer) -> usi
 
 // What a file and an output hold before anything is written: no two places near each other have the same byte.
 pub(crate) fn fill(out: &mut Space) {
-    let mut i: usize = 0;
-    while i < SPACE_BYTES {
+    for i in 0..SPACE_BYTES {
         out[i] = (i % 251) as u8;
-        i += 1;
     }
 }
 
@@ -75,12 +73,10 @@ fn put_turn(
 ) -> usize {
     let end = until(text, from, COMMA);
     let mut next = at;
-    let mut i = from;
-    while i < end {
+    for i in from..end {
         if number_starts(text, i) {
             next = put_word(file, next, word_at_turn(text, i, turn, printer), printer);
         }
-        i += 1;
     }
     next
 }
@@ -99,15 +95,13 @@ fn put_cell(
     printer: &mut Printer,
 ) -> usize {
     let mut next = at;
-    let mut k: u32 = 1;
-    while k < CELL_WORDS {
+    for k in 1..CELL_WORDS {
         next = put_word(
             file,
             next,
             word_at_turn(text, place(text, from, k), turn, printer),
             printer,
         );
-        k += 1;
     }
     if place(text, from, CELL_WORDS) < text.len() {
         show_misfit(printer);
@@ -141,26 +135,22 @@ pub(crate) fn put_entry(
 ) -> usize {
     let count = turns(text, from, printer);
     let mut next = at;
-    let mut turn: u16 = 0;
-    while turn < count {
+    for turn in 0..count {
         if cells {
             next = put_cell(text, from, turn, file, next, printer);
         } else {
             next = put_turn(text, from, turn, file, next, printer);
         }
-        turn += 1;
     }
     next
 }
 
 // Copies the first `size` bytes of a file.
 pub(crate) fn copy(from: &Space, size: usize, to: &mut Space) {
-    let mut i: usize = 0;
-    while i < SPACE_BYTES {
+    for i in 0..SPACE_BYTES {
         if i < size {
             to[i] = from[i];
         }
-        i += 1;
     }
 }
 
@@ -168,8 +158,7 @@ pub(crate) fn copy(from: &Space, size: usize, to: &mut Space) {
 // kind. A number that no dot follows is no change.
 pub(crate) fn change_words(text: &[u8], from: usize, file: &mut Space, printer: &mut Printer) {
     let end = until(text, from, COMMA);
-    let mut i = from;
-    while i < end {
+    for i in from..end {
         if number_starts(text, i) {
             let j = after(text, i, b'.');
             if j < text.len() {
@@ -182,7 +171,6 @@ pub(crate) fn change_words(text: &[u8], from: usize, file: &mut Space, printer: 
                 );
             }
         }
-        i += 1;
     }
 }
 
@@ -205,15 +193,13 @@ fn put_row(
 ) -> usize {
     let end = until(text, from, COMMA);
     let mut next = count;
-    let mut i = until(text, from, b'|');
-    while i < end {
+    for i in until(text, from, b'|')..end {
         if number_starts(text, i) {
             if next < READINGS_ROOM {
                 readings[next] = reading(text, i, turn, printer);
                 next += 1;
             }
         }
-        i += 1;
     }
     next
 }
@@ -236,10 +222,8 @@ pub(crate) fn put_readings(
 ) -> usize {
     let rows = reading_turns(text, from, printer);
     let mut count: usize = 0;
-    let mut turn: u16 = 0;
-    while turn < rows {
+    for turn in 0..rows {
         count = put_row(text, from, turn, readings, count, printer);
-        turn += 1;
     }
     count
 }

@@ -37,12 +37,10 @@ fn listed_in(
 
 // The first words of an output.
 fn show_words(out: &Space, count: usize, printer: &mut Printer) {
-    let mut i: usize = 0;
-    while i < count {
+    for i in 0..count {
         if i < SPACE_BYTES {
             show_number(b" ", wide(word(out, 2 * i)), b"", printer);
         }
-        i += 1;
     }
 }
 

@@ -252,8 +252,7 @@ fn main(rt: HostRuntime) -> io::Result<()> {
         translation: 0,
         cells: 0,
     };
-    let mut at: usize = 0;
-    while at < size {
+    for at in 0..size {
         if line_starts(&text, at) {
             sizes = entry(
                 &text,
@@ -265,7 +264,6 @@ fn main(rt: HostRuntime) -> io::Result<()> {
                 &mut printer,
             );
         }
-        at += 1;
     }
     printer.end()
 }

@@ -95,15 +95,13 @@ fn ran_in_turn(
     let mut records = filled();
     let mut cells = filled();
     let mut first: usize = 0;
-    let mut row: u32 = 0;
-    while row < rows {
+    for row in 0..rows {
         let width = within(g.count / wide32(rows), READINGS_ROOM, printer);
         let own = Given { count: width, ..g };
         let ran = ran_in(file, g.size, readings, first, own, cells, printer);
         put_record_in(ran.answer, row, &mut records, printer);
         cells = ran.cells;
         first = within(first + width, READINGS_ROOM, printer);
-        row += 1;
     }
     Lent { records, cells }
 }
@@ -139,13 +137,11 @@ fn show_row_in(records: &Space, row: u32, printer: &mut Printer) -> u16 {
 // Shows the records of rows, and answers how many cells the one counts that counts most.
 fn show_rows(records: &Space, rows: u32, printer: &mut Printer) -> u16 {
     let mut most: u16 = 0;
-    let mut row: u32 = 0;
-    while row < rows {
+    for row in 0..rows {
         let count = show_row_in(records, row, printer);
         if most < count {
             most = count;
         }
-        row += 1;
     }
     most
 }

@@ -60,12 +60,10 @@ pub(crate) fn entry_end(text: &[u8], from: usize) -> usize {
 // Where a byte first stands in the entry that holds a place; else the entry's end.
 pub(crate) fn until(text: &[u8], from: usize, byte: u8) -> usize {
     let end = entry_end(text, from);
-    let mut at = from;
-    while at < end {
+    for at in from..end {
         if has(text, at, byte) {
             return at;
         }
-        at += 1;
     }
     end
 }
@@ -105,12 +103,10 @@ fn after_digits(text: &[u8], from: usize) -> usize {
 pub(crate) fn number(text: &[u8], from: usize, printer: &mut Printer) -> u32 {
     let end = after_digits(text, from);
     let mut value: u32 = 0;
-    let mut at = from;
-    while at < end {
+    for at in from..end {
         if at < text.len() {
             value = with_digit(value, text[at], printer);
         }
-        at += 1;
     }
     value
 }
@@ -139,15 +135,13 @@ pub(crate) fn word(text: &[u8], from: usize, printer: &mut Printer) -> u16 {
 pub(crate) fn place(text: &[u8], from: usize, k: u32) -> usize {
     let end = until(text, from, COMMA);
     let mut left = k;
-    let mut at = from;
-    while at < end {
+    for at in from..end {
         if number_starts(text, at) {
             if left == 0 {
                 return at;
             }
             left -= 1;
         }
-        at += 1;
     }
     text.len()
 }

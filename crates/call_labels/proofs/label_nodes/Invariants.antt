@@ -5,6 +5,3 @@ use Rattle.call_labels.proofs.label_nodes.Given as goal
 
 abbrev pub invariant-loop-k : goal.invariant-loop-k
 invariant-loop-k l = (l.k ≤ l.count) × Labels l.b l.labels l.k × Counts l.b l.counts l.k
-
-abbrev pub decreases-loop-k : goal.decreases-loop-k
-decreases-loop-k l = l.count - l.k

@@ -5,6 +5,3 @@ use Rattle.file_runs.proofs.run_ends.Given as goal
 
 abbrev pub invariant-loop-f : goal.invariant-loop-f
 invariant-loop-f l = FillingEnds l.b l.starts l.first l.count l.j l.ends l.total l.f
-
-abbrev pub decreases-loop-f : goal.decreases-loop-f
-decreases-loop-f l = l.count - l.f

@@ -5,6 +5,3 @@ use Rattle.file_runs.proofs.run_owners.Given as goal
 
 abbrev pub invariant-loop-k : goal.invariant-loop-k
 invariant-loop-k l = Owning l.b l.ends l.count l.owners l.f l.k
-
-abbrev pub decreases-loop-k : goal.decreases-loop-k
-decreases-loop-k l = l.count - l.k

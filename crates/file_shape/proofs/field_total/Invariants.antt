@@ -6,6 +6,3 @@ use Rattle.file_shape.proofs.field_total.Given as goal
 
 abbrev pub invariant-loop-f : goal.invariant-loop-f
 invariant-loop-f l = (l.f ≤ l.count) × (Indexed l.b l.starts (l.first + l.count)) × (l.total ≤ 65535 * l.f) × Totalled l.b l.first l.j l.f l.total
-
-abbrev pub decreases-loop-f : goal.decreases-loop-f
-decreases-loop-f l = l.count - l.f

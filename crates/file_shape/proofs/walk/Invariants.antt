@@ -5,6 +5,3 @@ use Rattle.file_shape.proofs.walk.Given as goal
 
 abbrev pub invariant-loop-r : goal.invariant-loop-r
 invariant-loop-r l = Walking l.y l.b l.count l.starts l.at l.r
-
-abbrev pub decreases-loop-r : goal.decreases-loop-r
-decreases-loop-r l = l.count - l.r

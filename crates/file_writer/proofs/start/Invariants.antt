@@ -6,6 +6,3 @@ use Rattle.file_writer.proofs.start.Given as goal
 
 abbrev pub invariant-loop-i : goal.invariant-loop-i
 invariant-loop-i l = (l.i ≤ l.r) × (l.at ≡ start_of l.file l.i) × (l.at < walk_end)
-
-abbrev pub decreases-loop-i : goal.decreases-loop-i
-decreases-loop-i l = l.r - l.i

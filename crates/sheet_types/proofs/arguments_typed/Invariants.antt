@@ -8,6 +8,3 @@ use Rattle.sheet_types.proofs.arguments_typed.Given as goal
 
 abbrev pub invariant-loop-i : goal.invariant-loop-i
 invariant-loop-i l = Testing (λ j. eqb (type_in l.types (field l.rec (1 + j))) (field l.declared (l.first + j))) (field_count l.rec - 1) l.count l.i
-
-abbrev pub decreases-loop-i : goal.decreases-loop-i
-decreases-loop-i l = l.count - l.i

@@ -9,6 +9,3 @@ use Rattle.sheet_types.proofs.clauses_typed.Given as goal
 
 abbrev pub invariant-loop-j : goal.invariant-loop-j
 invariant-loop-j l = Testing (λ i. eqb (own_type l.b (clause_constructor l.rec i)) l.t) (clauses l.rec) l.count l.j × CaseAt l.b l.starts l.k l.rec
-
-abbrev pub decreases-loop-j : goal.decreases-loop-j
-decreases-loop-j l = l.count - l.j

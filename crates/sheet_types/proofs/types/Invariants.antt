@@ -5,6 +5,3 @@ use Rattle.sheet_types.proofs.types.Given as goal
 
 abbrev pub invariant-loop-k : goal.invariant-loop-k
 invariant-loop-k l = Typing l.b l.starts l.ends l.owners l.parents l.held l.types l.first l.count l.k
-
-abbrev pub decreases-loop-k : goal.decreases-loop-k
-decreases-loop-k l = l.count - l.k

@@ -7,6 +7,3 @@ use Rattle.translation_words.proofs.put_fields.Given as goal
 
 abbrev pub invariant-loop-j : goal.invariant-loop-j
 invariant-loop-j l = PartsWritten l.initial.out l.at (λ i. field l.rec i ∷ []) l.count l.j l.next l.out
-
-abbrev pub decreases-loop-j : goal.decreases-loop-j
-decreases-loop-j l = l.count - l.j

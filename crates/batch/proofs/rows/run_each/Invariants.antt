@@ -6,6 +6,3 @@ use Rattle.batch.proofs.rows.run_each.Given as goal
 abbrev pub invariant-loop-row : goal.invariant-loop-row
 invariant-loop-row l =
     Running l.file l.table l.rows l.readings l.steps l.nesting l.cells_allowed l.initial.cells l.initial.records l.cells l.records l.row
-
-abbrev pub decreases-loop-row : goal.decreases-loop-row
-decreases-loop-row l = l.rows - l.row

@@ -5,6 +5,3 @@ use Rattle.canonical_writer.proofs.order.enter_bodies.Given as goal
 
 abbrev pub invariant-loop-f : goal.invariant-loop-f
 invariant-loop-f l = Bodies l.b l.order l.count l.start l.f
-
-abbrev pub decreases-loop-f : goal.decreases-loop-f
-decreases-loop-f l = l.count - l.f

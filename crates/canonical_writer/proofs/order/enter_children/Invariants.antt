@@ -6,6 +6,3 @@ use Rattle.canonical_writer.proofs.order.enter_children.Given as goal
 
 abbrev pub invariant-loop-i : goal.invariant-loop-i
 invariant-loop-i l = Passing l.b l.sizes l.rec l.q l.k l.node_kind l.count l.start l.i × Children l.b l.initial.order l.order l.q l.k l.start l.i
-
-abbrev pub decreases-loop-i : goal.decreases-loop-i
-decreases-loop-i l = l.count - l.i

@@ -5,6 +5,3 @@ use Rattle.canonical_writer.proofs.sizes.fill_sizes.Given as goal
 
 abbrev pub invariant-loop-k : goal.invariant-loop-k
 invariant-loop-k l = Sizing l.b l.sizes l.count l.k
-
-abbrev pub decreases-loop-k : goal.decreases-loop-k
-decreases-loop-k l = l.count - l.k

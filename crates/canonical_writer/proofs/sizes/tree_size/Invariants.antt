@@ -8,6 +8,3 @@ use Rattle.canonical_writer.proofs.sizes.tree_size.Given as goal
 
 abbrev pub invariant-loop-i : goal.invariant-loop-i
 invariant-loop-i l = AtField l.b l.rec l.k l.node_kind l.count l.i × (l.size ≡ suc (size_of (up_to l.b l.k l.i)))
-
-abbrev pub decreases-loop-i : goal.decreases-loop-i
-decreases-loop-i l = l.count - l.i

@@ -6,6 +6,3 @@ use Rattle.canonical_writer.proofs.writing.put_nodes.Given as goal
 
 abbrev pub invariant-loop-q : goal.invariant-loop-q
 invariant-loop-q l = PartsWritten l.initial.out l.at (λ i. numbered_words l.b i (entry_at l.order i)) l.count l.q l.next l.out
-
-abbrev pub decreases-loop-q : goal.decreases-loop-q
-decreases-loop-q l = l.count - l.q

@@ -5,6 +5,3 @@ use Rattle.cells.proofs.cell.clear_entries.Given as goal
 
 abbrev pub invariant-loop-i : goal.invariant-loop-i
 invariant-loop-i l = Cleared l.initial.b l.at l.i l.b
-
-abbrev pub decreases-loop-i : goal.decreases-loop-i
-decreases-loop-i l = 66 - l.i

@@ -7,6 +7,3 @@ use Rattle.file_references.proofs.references.constructors_below.Given as goal
 
 abbrev pub invariant-loop-j : goal.invariant-loop-j
 invariant-loop-j l = Testing (λ i. ltb (clause_constructor l.rec i) l.limit) (clauses l.rec) l.count l.j
-
-abbrev pub decreases-loop-j : goal.decreases-loop-j
-decreases-loop-j l = l.count - l.j

@@ -7,6 +7,3 @@ use Rattle.file_references.proofs.references.other_fields_below.Given as goal
 
 abbrev pub invariant-loop-j : goal.invariant-loop-j
 invariant-loop-j l = Testing (λ i. ltb (field l.rec (2 * i)) l.limit) ((field_count l.rec + 1) / 2) l.count l.j
-
-abbrev pub decreases-loop-j : goal.decreases-loop-j
-decreases-loop-j l = l.count - l.j

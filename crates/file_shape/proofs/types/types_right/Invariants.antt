@@ -8,6 +8,3 @@ use Rattle.file_shape.proofs.types.types_right.Given as goal
 
 abbrev pub invariant-loop-i : goal.invariant-loop-i
 invariant-loop-i l = Testing (λ j. within 0 most_types (field l.rec (2 + j))) (l.n - 2) l.count l.i
-
-abbrev pub decreases-loop-i : goal.decreases-loop-i
-decreases-loop-i l = l.count - l.i

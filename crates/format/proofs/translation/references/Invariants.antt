@@ -10,6 +10,3 @@ use Rattle.format.proofs.translation.references.Given as goal
 
 abbrev pub invariant-loop-r : goal.invariant-loop-r
 invariant-loop-r l = (l.r ≤ l.count) × (l.count ≡ due l.b) × Opened Translation l.b l.starts × Passed l.r (references l.b)
-
-abbrev pub decreases-loop-r : goal.decreases-loop-r
-decreases-loop-r l = l.count - l.r

@@ -5,6 +5,3 @@ use Rattle.hirer.proofs.closed.check_readings.Given as goal
 
 abbrev pub invariant-loop-k : goal.invariant-loop-k
 invariant-loop-k l = Closing l.file l.table l.set l.first l.count l.k
-
-abbrev pub decreases-loop-k : goal.decreases-loop-k
-decreases-loop-k l = l.count - l.k

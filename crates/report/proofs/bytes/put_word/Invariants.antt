@@ -6,6 +6,3 @@ use Rattle.report.proofs.bytes.put_word.Given as goal
 
 abbrev pub invariant-loop-i : goal.invariant-loop-i
 invariant-loop-i l = WroteBytes l.initial.out l.at (take l.i l.word) l.next l.out
-
-abbrev pub decreases-loop-i : goal.decreases-loop-i
-decreases-loop-i l = length l.word - l.i

@@ -5,6 +5,3 @@ use Rattle.run.proofs.formal_places.fill_places.Given as goal
 
 abbrev pub invariant-loop-f : goal.invariant-loop-f
 invariant-loop-f l = FillingPlaces l.b l.places l.count l.first l.f
-
-abbrev pub decreases-loop-f : goal.decreases-loop-f
-decreases-loop-f l = l.count - l.f

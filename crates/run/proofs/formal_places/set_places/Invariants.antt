@@ -5,6 +5,3 @@ use Rattle.run.proofs.formal_places.set_places.Given as goal
 
 abbrev pub invariant-loop-j : goal.invariant-loop-j
 invariant-loop-j l = SettingPlaces l.initial.places l.f l.count l.first l.places l.j
-
-abbrev pub decreases-loop-j : goal.decreases-loop-j
-decreases-loop-j l = l.count - l.j

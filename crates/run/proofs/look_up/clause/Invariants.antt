@@ -5,6 +5,3 @@ use Rattle.run.proofs.look_up.clause.Given as goal
 
 abbrev pub invariant-loop-j : goal.invariant-loop-j
 invariant-loop-j l = Choosing l.b l.place l.tag l.count l.j
-
-abbrev pub decreases-loop-j : goal.decreases-loop-j
-decreases-loop-j l = l.count - l.j

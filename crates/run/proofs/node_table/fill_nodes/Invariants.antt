@@ -5,6 +5,3 @@ use Rattle.run.proofs.node_table.fill_nodes.Given as goal
 
 abbrev pub invariant-loop-k : goal.invariant-loop-k
 invariant-loop-k l = FillingEntries l.b l.tab l.count l.k
-
-abbrev pub decreases-loop-k : goal.decreases-loop-k
-decreases-loop-k l = l.count - l.k

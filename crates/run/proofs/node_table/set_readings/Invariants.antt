@@ -6,6 +6,3 @@ use Rattle.run.proofs.node_table.set_readings.Given as goal
 
 abbrev pub invariant-loop-i : goal.invariant-loop-i
 invariant-loop-i l = SettingReadings l.initial.tab l.readings l.tab l.i
-
-abbrev pub decreases-loop-i : goal.decreases-loop-i
-decreases-loop-i l = length l.readings - l.i

@@ -13,6 +13,3 @@ use Rattle.sheet_rules.proofs.names.names.Given as goal
 
 abbrev pub invariant-loop-r : goal.invariant-loop-r
 invariant-loop-r l = (l.r ≤ l.count) × (l.count ≡ due l.b) × Opened Sheet l.b l.starts × Owners l.b l.owners × Passed l.r (λ i. references l.b i and_then arguments l.b i)
-
-abbrev pub decreases-loop-r : goal.decreases-loop-r
-decreases-loop-r l = l.count - l.r

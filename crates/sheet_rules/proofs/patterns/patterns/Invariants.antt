@@ -8,6 +8,3 @@ use Rattle.sheet_rules.proofs.patterns.patterns.Given as goal
 
 abbrev pub invariant-loop-k : goal.invariant-loop-k
 invariant-loop-k l = Ruling l.b l.starts l.first l.count l.k (pattern l.b) × TreesAccepted l.b × ClausesOf l.b l.held
-
-abbrev pub decreases-loop-k : goal.decreases-loop-k
-decreases-loop-k l = l.count - l.k

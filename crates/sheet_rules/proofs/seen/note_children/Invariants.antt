@@ -7,6 +7,3 @@ use Rattle.sheet_rules.proofs.seen.note_children.Given as goal
 
 abbrev pub invariant-loop-j : goal.invariant-loop-j
 invariant-loop-j l = (l.j ≤ l.count) × (l.count ≡ children l.rec) × Noted l.rec l.p l.j l.initial.times l.initial.parents l.times l.parents
-
-abbrev pub decreases-loop-j : goal.decreases-loop-j
-decreases-loop-j l = l.count - l.j

@@ -5,6 +5,3 @@ use Rattle.sheet_rules.proofs.seen.note_sheet.Given as goal
 
 abbrev pub invariant-loop-p : goal.invariant-loop-p
 invariant-loop-p l = Seeing l.b l.starts l.first l.count l.times l.parents l.p
-
-abbrev pub decreases-loop-p : goal.decreases-loop-p
-decreases-loop-p l = l.count - l.p

@@ -7,6 +7,3 @@ use Rattle.sheet_rules.proofs.tree.children_right.Given as goal
 
 abbrev pub invariant-loop-j : goal.invariant-loop-j
 invariant-loop-j l = Testing (λ i. child_right l.b l.rec l.k i) (children l.rec) l.count l.j
-
-abbrev pub decreases-loop-j : goal.decreases-loop-j
-decreases-loop-j l = l.count - l.j

@@ -9,6 +9,3 @@ use Rattle.sheet_rules.proofs.tree.trees.Given as goal
 
 abbrev pub invariant-loop-k : goal.invariant-loop-k
 invariant-loop-k l = Ruling l.b l.starts l.first l.count l.k (tree l.b) × RunEndTable Sheet l.b l.ends × Owners l.b l.owners × TimesOf l.b l.times
-
-abbrev pub decreases-loop-k : goal.decreases-loop-k
-decreases-loop-k l = l.count - l.k

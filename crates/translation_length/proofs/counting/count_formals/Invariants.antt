@@ -7,6 +7,3 @@ use Rattle.translation_length.proofs.counting.count_formals.Given as goal
 
 abbrev pub invariant-loop-f : goal.invariant-loop-f
 invariant-loop-f l = Summed (formal_length l.b) l.count l.total l.f
-
-abbrev pub decreases-loop-f : goal.decreases-loop-f
-decreases-loop-f l = l.count - l.f

@@ -6,6 +6,3 @@ use Rattle.translator.proofs.file.put_functions.Given as goal
 
 abbrev pub invariant-loop-f : goal.invariant-loop-f
 invariant-loop-f l = PartsWritten l.initial.out l.at (function_words l.b) l.count l.f l.next l.out
-
-abbrev pub decreases-loop-f : goal.decreases-loop-f
-decreases-loop-f l = l.count - l.f

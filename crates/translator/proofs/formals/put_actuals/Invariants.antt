@@ -6,6 +6,3 @@ use Rattle.translator.proofs.formals.put_actuals.Given as goal
 
 abbrev pub invariant-loop-j : goal.invariant-loop-j
 invariant-loop-j l = PartsWritten l.initial.out l.at (λ n. argument_of l.b l.order l.i (l.first + n)) l.count l.j l.next l.out
-
-abbrev pub decreases-loop-j : goal.decreases-loop-j
-decreases-loop-j l = l.count - l.j

@@ -7,6 +7,3 @@ use Rattle.translator.proofs.formals.put_formals.Given as goal
 
 abbrev pub invariant-loop-f : goal.invariant-loop-f
 invariant-loop-f l = PartsWritten l.initial.out l.at (formal_words (equal_trees l.b) l.b) l.count l.f l.next l.out
-
-abbrev pub decreases-loop-f : goal.decreases-loop-f
-decreases-loop-f l = l.count - l.f

@@ -9,6 +9,3 @@ use Rattle.translator.proofs.formals.put_function_formals.Given as goal
 
 abbrev pub invariant-loop-i : goal.invariant-loop-i
 invariant-loop-i l = PartsWritten l.initial.out l.at (λ n. record_words formal_list (actuals (equal_trees l.b) l.b l.f n)) l.positions l.i l.next l.out
-
-abbrev pub decreases-loop-i : goal.decreases-loop-i
-decreases-loop-i l = l.positions - l.i

@@ -7,6 +7,3 @@ use Rattle.translator.proofs.nodes.put_nodes.Given as goal
 
 abbrev pub invariant-loop-k : goal.invariant-loop-k
 invariant-loop-k l = PartsWritten l.initial.out l.at (node_words (equal_trees l.b) l.b) l.count l.k l.next l.out
-
-abbrev pub decreases-loop-k : goal.decreases-loop-k
-decreases-loop-k l = l.count - l.k

@@ -6,6 +6,3 @@ use Rattle.tree_classes.proofs.keys.bucket.Given as goal
 
 abbrev pub invariant-loop-j : goal.invariant-loop-j
 invariant-loop-j l = (l.j ≤ l.count) × (l.h ≡ bucket_after (entry_of l.classes) l.rec l.place l.j) × (l.h < buckets)
-
-abbrev pub decreases-loop-j : goal.decreases-loop-j
-decreases-loop-j l = l.count - l.j

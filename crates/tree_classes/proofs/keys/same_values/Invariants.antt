@@ -8,6 +8,3 @@ use Rattle.tree_classes.proofs.keys.same_values.Given as goal
 
 abbrev pub invariant-loop-i : goal.invariant-loop-i
 invariant-loop-i l = Testing (λ j. eqb (value_of (entry_of l.classes) l.x j) (value_of (entry_of l.classes) l.y j)) (field_count l.x) l.count l.i
-
-abbrev pub decreases-loop-i : goal.decreases-loop-i
-decreases-loop-i l = l.count - l.i

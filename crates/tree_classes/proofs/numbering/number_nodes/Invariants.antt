@@ -5,6 +5,3 @@ use Rattle.tree_classes.proofs.numbering.number_nodes.Given as goal
 
 abbrev pub invariant-loop-k : goal.invariant-loop-k
 invariant-loop-k l = (l.k ≤ l.count) × Numbering l.b l.places l.classes l.lasts l.earlier l.k
-
-abbrev pub decreases-loop-k : goal.decreases-loop-k
-decreases-loop-k l = l.count - l.k

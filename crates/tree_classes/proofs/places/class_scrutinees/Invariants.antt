@@ -6,6 +6,3 @@ use Rattle.tree_classes.proofs.places.class_scrutinees.Given as goal
 
 abbrev pub invariant-loop-f : goal.invariant-loop-f
 invariant-loop-f l = (l.f ≤ l.count) × ScrutineeClasses l.b (entry_of l.classes) l.scrutinees l.f
-
-abbrev pub decreases-loop-f : goal.decreases-loop-f
-decreases-loop-f l = l.count - l.f

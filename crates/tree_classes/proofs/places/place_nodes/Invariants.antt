@@ -6,6 +6,3 @@ use Rattle.tree_classes.proofs.places.place_nodes.Given as goal
 
 abbrev pub invariant-loop-k : goal.invariant-loop-k
 invariant-loop-k l = (l.k ≤ l.count) × Placed l.b (entry_of l.scrutinees) l.places l.k
-
-abbrev pub decreases-loop-k : goal.decreases-loop-k
-decreases-loop-k l = l.count - l.k

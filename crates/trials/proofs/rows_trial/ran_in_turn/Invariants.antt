@@ -8,6 +8,3 @@ readings_room = (most_rows + 1) * most_readings + 8
 
 abbrev pub invariant-loop-row : goal.invariant-loop-row
 invariant-loop-row l = l.first ≤ readings_room
-
-abbrev pub decreases-loop-row : goal.decreases-loop-row
-decreases-loop-row l = l.rows - l.row

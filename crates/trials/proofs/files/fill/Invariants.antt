@@ -1,7 +1,0 @@
--- `trials::files::fill` is safe and ends: the places left fall.
-use Rattle.std.proofs.Common.{◌-◌}
-use Rattle.file_writer.specs.Writing.{space_bytes}
-use Rattle.trials.proofs.files.fill.Given as goal
-
-abbrev pub decreases-loop-i : goal.decreases-loop-i
-decreases-loop-i l = space_bytes - l.i
