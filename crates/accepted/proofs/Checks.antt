@@ -13,7 +13,7 @@ use Rattle.definitions.specs.SheetRules.{arguments_match, arguments, tree_right,
 use Rattle.definitions.specs.Types.{type_right, typing, types}
 use Rattle.definitions.specs.Checks.{checks_to_six, sheet_verdict, translation_verdict}
 use Rattle.definitions.specs.declared.Layout.TheVariants.{Sheet, Translation}
-use Rattle.definitions.specs.declared.Verdict.TheVariants.{Accepted}
+use Rattle.definitions.specs.Verdict.{Accepted}
 use Rattle.laws.proofs.Verdicts.{both_accepted, required, first_each}
 
 -- the five passes over a sheet

@@ -15,7 +15,7 @@ use Rattle.definitions.specs.References.{clauses, clause_constructor, names_in_r
 use Rattle.definitions.specs.NodeFields.{Clause, clause_list, chosen}
 use Rattle.definitions.specs.SheetNodes.{case_of, sheet_node_of}
 use Rattle.definitions.specs.Checks.{sheet_verdict}
-use Rattle.definitions.specs.declared.Verdict.TheVariants.{Accepted}
+use Rattle.definitions.specs.Verdict.{Accepted}
 use Rattle.laws.proofs.Lists.{listed_length, all_each}
 use Rattle.accepted.proofs.SheetRecords.{SheetRecord, is_case_law, node_is}
 use Rattle.accepted.proofs.Children.{clause_found}

@@ -9,7 +9,7 @@ use Rattle.definitions.specs.Layouts.{readings, items, functions, nodes, head_ki
 use Rattle.definitions.specs.Shape.{item_limit, file_shape}
 use Rattle.definitions.specs.Sizes.{most_readings, most_functions, most_nodes}
 use Rattle.definitions.specs.declared.Layout.{Layout}
-use Rattle.definitions.specs.declared.Verdict.TheVariants.{Accepted}
+use Rattle.definitions.specs.Verdict.{Accepted}
 use Rattle.laws.proofs.Walk.{HeadRanges, head_ranges}
 use Rattle.accepted.proofs.Records.{kind_due, counts_right}
 

@@ -21,7 +21,7 @@ use Rattle.definitions.specs.SheetNodes.{reading, parameter, operator, call, bui
 use Rattle.definitions.specs.SheetRules.{arguments_match}
 use Rattle.definitions.specs.Checks.{sheet_verdict}
 use Rattle.definitions.specs.declared.Layout.TheVariants.{Sheet}
-use Rattle.definitions.specs.declared.Verdict.TheVariants.{Accepted}
+use Rattle.definitions.specs.Verdict.{Accepted}
 use Rattle.laws.proofs.Lists.{listed_length}
 use Rattle.laws.proofs.Ranges.{within_by}
 use Rattle.accepted.proofs.Head.{functions_least}

@@ -10,7 +10,7 @@ use Rattle.definitions.specs.Layouts.{functions, nodes, node_count, run_end, bod
 use Rattle.definitions.specs.FormalPlaces.{function_by}
 use Rattle.definitions.specs.Shape.{file_shape}
 use Rattle.definitions.specs.declared.Layout.{Layout}
-use Rattle.definitions.specs.declared.Verdict.TheVariants.{Accepted}
+use Rattle.definitions.specs.Verdict.{Accepted}
 use Rattle.accepted.proofs.Sums.{sum_rises}
 use Rattle.accepted.proofs.FormalPlaces.{function_unique, function_below, function_started, function_not_ended}
 use Rattle.accepted.proofs.Sections.{node_count_least, node_counts_sum}

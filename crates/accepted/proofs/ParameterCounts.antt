@@ -14,7 +14,7 @@ use Rattle.definitions.specs.Shape.{parameter_counts}
 use Rattle.definitions.specs.Ranges.{within}
 use Rattle.definitions.specs.Checks.{translation_verdict}
 use Rattle.definitions.specs.declared.Layout.TheVariants.{Translation}
-use Rattle.definitions.specs.declared.Verdict.TheVariants.{Accepted}
+use Rattle.definitions.specs.Verdict.{Accepted}
 use Rattle.laws.proofs.Ranges.{within_by}
 use Rattle.accepted.proofs.Head.{functions_least}
 use Rattle.accepted.proofs.Sections.{translation_counts}

@@ -19,7 +19,7 @@ use Rattle.definitions.specs.SheetNodes.{pattern_variable, case_of, sheet_node, 
 use Rattle.definitions.specs.SheetRules.{parent_of, clause_of, clause_within, below_arity, pattern_right}
 use Rattle.definitions.specs.Checks.{sheet_verdict}
 use Rattle.definitions.specs.declared.Layout.TheVariants.{Sheet}
-use Rattle.definitions.specs.declared.Verdict.TheVariants.{Accepted}
+use Rattle.definitions.specs.Verdict.{Accepted}
 use Rattle.accepted.proofs.Sums.{SomeBelow, one_more}
 use Rattle.accepted.proofs.Owners.{owner_below, body_below}
 use Rattle.accepted.proofs.SheetRecords.{SheetRecord, is_pattern_variable, is_case_law, node_is}

@@ -18,7 +18,7 @@ use Rattle.definitions.specs.Verdicts.{first_of}
 use Rattle.definitions.specs.Layouts.{due, is_due}
 use Rattle.definitions.specs.Shape.{file_limit, counts, operator_code, shape, file_shape}
 use Rattle.definitions.specs.declared.Layout.{Layout}
-use Rattle.definitions.specs.declared.Verdict.TheVariants.{Accepted}
+use Rattle.definitions.specs.Verdict.{Accepted}
 use Rattle.laws.proofs.Records.{whole_is, record_length_law, record_word}
 use Rattle.laws.proofs.Walk.{Shaped, shaped}
 use Rattle.laws.proofs.Verdicts.{both_accepted, required, first_each}

@@ -13,7 +13,7 @@ use Rattle.definitions.specs.Layouts.{is_typed, items, functions, due, function_
 use Rattle.definitions.specs.Shape.{file_shape}
 use Rattle.definitions.specs.declared.Layout.{Layout}
 use Rattle.definitions.specs.declared.Layout.TheVariants.{Sheet, Translation}
-use Rattle.definitions.specs.declared.Verdict.TheVariants.{Accepted}
+use Rattle.definitions.specs.Verdict.{Accepted}
 use Rattle.accepted.proofs.Widths.{fields_fixed, fields_least}
 use Rattle.accepted.proofs.Records.{length_allowed}
 use Rattle.accepted.proofs.Head.{head_kind_law}

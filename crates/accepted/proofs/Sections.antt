@@ -18,7 +18,7 @@ use Rattle.definitions.specs.Shape.{run_counts, parameter_counts, typed_construc
 use Rattle.definitions.specs.Ranges.{within}
 use Rattle.definitions.specs.declared.Layout.{Layout}
 use Rattle.definitions.specs.declared.Layout.TheVariants.{Sheet, Translation}
-use Rattle.definitions.specs.declared.Verdict.TheVariants.{Accepted}
+use Rattle.definitions.specs.Verdict.{Accepted}
 use Rattle.accepted.proofs.Records.{kind_due, counts_right}
 use Rattle.laws.proofs.Ranges.{within_by}
 use Rattle.accepted.proofs.Head.{functions_least}

@@ -15,7 +15,7 @@ use Rattle.definitions.specs.NodeFields.{fields_from, clause_list}
 use Rattle.definitions.specs.SheetNodes.{SheetNode, number, reading, parameter, pattern_variable, operator, conditional, call, build, case_of, sheet_node, sheet_node_of}
 use Rattle.definitions.specs.Shape.{file_shape}
 use Rattle.definitions.specs.declared.Layout.TheVariants.{Sheet}
-use Rattle.definitions.specs.declared.Verdict.TheVariants.{Accepted}
+use Rattle.definitions.specs.Verdict.{Accepted}
 use Rattle.accepted.proofs.Choices.{either}
 use Rattle.accepted.proofs.Widths.{fields_fixed, fields_least, fields_greatest, fields_clauses}
 use Rattle.accepted.proofs.Records.{length_allowed}

@@ -17,7 +17,7 @@ use Rattle.definitions.specs.NodeFields.{fields_from}
 use Rattle.definitions.specs.TranslationNodes.{TranslationNode, reading, formal, call, translation_node_of, actual}
 use Rattle.definitions.specs.Checks.{translation_verdict}
 use Rattle.definitions.specs.declared.Layout.TheVariants.{Translation}
-use Rattle.definitions.specs.declared.Verdict.TheVariants.{Accepted}
+use Rattle.definitions.specs.Verdict.{Accepted}
 use Rattle.laws.proofs.Lists.{all_each}
 use Rattle.accepted.specs.Mention.{Mention, selected, left, right, condition, if_nonzero, if_zero, component, scrutinee, clause}
 use Rattle.accepted.proofs.Elements.{listed_found}

@@ -17,7 +17,7 @@ use Rattle.definitions.specs.NodeFields.{fields_from, clause_list}
 use Rattle.definitions.specs.TranslationNodes.{TranslationNode, number, reading, formal, select, operator, conditional, call, tuple, case_of, translation_node, translation_node_of}
 use Rattle.definitions.specs.Shape.{file_shape}
 use Rattle.definitions.specs.declared.Layout.TheVariants.{Translation}
-use Rattle.definitions.specs.declared.Verdict.TheVariants.{Accepted}
+use Rattle.definitions.specs.Verdict.{Accepted}
 use Rattle.accepted.proofs.Choices.{either}
 use Rattle.accepted.proofs.Widths.{fields_fixed, fields_least, fields_greatest, fields_clauses}
 use Rattle.accepted.proofs.Records.{record_past, length_allowed}

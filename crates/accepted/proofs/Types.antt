@@ -12,7 +12,7 @@ use Rattle.definitions.specs.SheetNodes.{SheetNode}
 use Rattle.definitions.specs.Shape.{file_shape}
 use Rattle.definitions.specs.Types.{field_type, parameter_type, type_by, type_within, type_of, arguments_typed, children_typed}
 use Rattle.definitions.specs.declared.Layout.TheVariants.{Sheet}
-use Rattle.definitions.specs.declared.Verdict.TheVariants.{Accepted}
+use Rattle.definitions.specs.Verdict.{Accepted}
 use Rattle.laws.proofs.Lists.{all_same}
 use Rattle.accepted.specs.Child.{left, right, condition, if_nonzero, if_zero, scrutinee}
 use Rattle.accepted.proofs.SheetRecords.{SheetRecord, is_number, is_reading, is_parameter, is_pattern_variable, is_operator, is_conditional, is_call, is_build, is_case_law, node_record_law}

@@ -19,7 +19,7 @@ use Rattle.definitions.specs.Checks.{sheet_verdict}
 use Rattle.definitions.specs.Rule.{Value, Ending, value, integer, constructor, State, Reached, reach, visited}
 use Rattle.definitions.specs.Cells.{Cell, new_cell, entry_at, with_value, remembered}
 use Rattle.definitions.specs.declared.Layout.TheVariants.{Translation}
-use Rattle.definitions.specs.declared.Verdict.TheVariants.{Accepted}
+use Rattle.definitions.specs.Verdict.{Accepted}
 use Rattle.laws.proofs.Cells.{added_length}
 use Rattle.accepted.proofs.Elements.{element_below}
 use Rattle.rule_laws.specs.Reads.{is_value}

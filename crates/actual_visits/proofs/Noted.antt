@@ -15,7 +15,7 @@ use Rattle.definitions.specs.Checks.{sheet_verdict}
 use Rattle.definitions.specs.TranslationNodes.{formal, translation_node_of}
 use Rattle.definitions.specs.Rule.{State}
 use Rattle.definitions.specs.Cells.{Cell, entry_at}
-use Rattle.definitions.specs.declared.Verdict.TheVariants.{Accepted}
+use Rattle.definitions.specs.Verdict.{Accepted}
 use Rattle.accepted.proofs.Elements.{element_below}
 use Rattle.given_back.specs.SerialCells.{ActualVisit, SerialCells, listing_serial}
 use Rattle.shared_runs.specs.Reads.{Reads}

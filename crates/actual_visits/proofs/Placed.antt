@@ -18,7 +18,7 @@ use Rattle.definitions.specs.Labels.{Labelling, label_of}
 use Rattle.definitions.specs.Translate.{formal_of}
 use Rattle.definitions.specs.Cells.{Cell, new_cell}
 use Rattle.definitions.specs.declared.Layout.TheVariants.{Sheet, Translation}
-use Rattle.definitions.specs.declared.Verdict.TheVariants.{Accepted}
+use Rattle.definitions.specs.Verdict.{Accepted}
 use Rattle.accepted.specs.Mention.{Mention, component}
 use Rattle.accepted.proofs.Head.{functions_least}
 use Rattle.accepted.proofs.Sections.{parameters_limit}

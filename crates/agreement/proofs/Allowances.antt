@@ -23,7 +23,7 @@ use Rattle.definitions.specs.LiveCells.{LiveCells}
 use Rattle.definitions.specs.Run.{ending_outcome, rule_end, kept_end}
 use Rattle.agreement.specs.Meaning.{Setting, End, Means, outcome_of, OwnAnswer}
 use Rattle.definitions.specs.declared.Layout.TheVariants.{Sheet, Translation}
-use Rattle.definitions.specs.declared.Verdict.TheVariants.{Accepted}
+use Rattle.definitions.specs.Verdict.{Accepted}
 use Rattle.laws.proofs.Classes.{answer_no_stop}
 use Rattle.accepted.proofs.Head.{functions_least}
 use Rattle.accepted.proofs.Checks.{sheet_shape}

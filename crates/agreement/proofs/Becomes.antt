@@ -11,7 +11,7 @@ use Rattle.definitions.specs.Checks.{sheet_verdict}
 use Rattle.definitions.specs.Labels.{never_shared, label_of}
 use Rattle.definitions.specs.Translate.{formal_of, unshared_translation}
 use Rattle.definitions.specs.declared.Layout.TheVariants.{Sheet}
-use Rattle.definitions.specs.declared.Verdict.TheVariants.{Accepted}
+use Rattle.definitions.specs.Verdict.{Accepted}
 use Rattle.readback.specs.TranslatedNode.{translated_node}
 use Rattle.readback.proofs.Nodes.{node_becomes}
 

@@ -19,7 +19,7 @@ use Rattle.agreement.specs.Meaning.{Setting, Closure, argument_of, held_field, E
 use Rattle.agreement.specs.Meaning.{Means, number_itself, reading_value, parameter_argument, call_body, build_itself, case_chosen, case_unmatched, case_number, case_fault}
 use Rattle.agreement.specs.Meaning.{pattern_field, if_nonzero_law, if_zero_law, if_constructor, if_fault, operator_numbers, left_constructor, left_fault, right_constructor, right_fault}
 use Rattle.definitions.specs.declared.Layout.TheVariants.{Sheet, Translation}
-use Rattle.definitions.specs.declared.Verdict.TheVariants.{Accepted}
+use Rattle.definitions.specs.Verdict.{Accepted}
 use Rattle.accepted.specs.Child.{left, right, condition, if_nonzero, if_zero}
 use Rattle.accepted.proofs.Names.{parameter_below, call_below}
 use Rattle.readback.proofs.Nodes.{number_becomes, reading_becomes, parameter_becomes, pattern_becomes, operator_becomes, conditional_becomes, call_becomes, build_becomes}

@@ -20,7 +20,7 @@ use Rattle.definitions.specs.Translate.{formal_of, unshared_translation}
 use Rattle.definitions.specs.Rule.{value, constructor}
 use Rattle.agreement.specs.Meaning.{Setting, empty, entered, holding, closure_at, argument_of, held_field}
 use Rattle.definitions.specs.declared.Layout.TheVariants.{Sheet}
-use Rattle.definitions.specs.declared.Verdict.TheVariants.{Accepted}
+use Rattle.definitions.specs.Verdict.{Accepted}
 use Rattle.accepted.specs.Child.{Child, if_nonzero, if_zero, argument, component, scrutinee, clause, is_case}
 use Rattle.accepted.proofs.Elements.{element_there}
 use Rattle.accepted.proofs.Head.{functions_least}

@@ -10,7 +10,7 @@ use Rattle.definitions.specs.Outcomes.{Outcome}
 use Rattle.definitions.specs.Checks.{sheet_verdict}
 use Rattle.definitions.specs.Translate.{translation}
 use Rattle.agreement.specs.Meaning.{OwnAnswer}
-use Rattle.definitions.specs.declared.Verdict.TheVariants.{Accepted}
+use Rattle.definitions.specs.Verdict.{Accepted}
 use Rattle.agreement.specs.Answers.{rule_outcome, RuleGives}
 use Rattle.definitions.specs.Numbers.{is_answer}
 use Rattle.laws.proofs.Classes.{answer_no_stop}

@@ -21,7 +21,7 @@ use Rattle.agreement.specs.Meaning.{Setting, End, end_of, outcome_of, OwnAnswer}
 use Rattle.agreement.specs.Meaning
 use Rattle.agreement.specs.Meaning.{Means, number_itself, reading_value, parameter_argument, call_body, build_itself, case_chosen, case_unmatched, case_number, case_fault}
 use Rattle.agreement.specs.Meaning.{pattern_field, if_nonzero_law, if_zero_law, if_constructor, if_fault, operator_numbers, left_constructor, left_fault, right_constructor, right_fault}
-use Rattle.definitions.specs.declared.Verdict.TheVariants.{Accepted}
+use Rattle.definitions.specs.Verdict.{Accepted}
 use Rattle.readback.proofs.Nodes.{tag_read}
 use Rattle.rule_laws.specs.Reads.{Shows, an_integer, a_constructor, an_end}
 use Rattle.rule_laws.proofs.Computing.{Result, a_number, out_of_range, no_divisor, computed_result}

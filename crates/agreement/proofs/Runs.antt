@@ -17,8 +17,7 @@ use Rattle.definitions.specs.Trees.{equal_trees}
 use Rattle.definitions.specs.Translate.{translation}
 use Rattle.definitions.specs.Run.{Answer, ending_outcome, answer_at, reached_answer, rule_answer, allowances_fit, refusal, run_verdict, answer_after, run_answer}
 use Rattle.agreement.specs.Meaning.{OwnAnswer}
-use Rattle.definitions.specs.declared.Verdict.{Verdict}
-use Rattle.definitions.specs.declared.Verdict.TheVariants.{Accepted, Refused}
+use Rattle.definitions.specs.Verdict.{Verdict, Accepted, Refused}
 use Rattle.readback.proofs.Records.{translation_readings}
 use Rattle.readback.proofs.Accepted.{translation_accepted_law}
 use Rattle.agreement.specs.Answers.{rule_outcome, answer_outcome, sheet_run, Unanswered, is_refused, is_stopped, RunEnds, without_answer, with_own}

@@ -10,7 +10,7 @@ use Rattle.definitions.specs.Numbers.{is_stop, is_answer}
 use Rattle.definitions.specs.Outcomes.{Outcome}
 use Rattle.definitions.specs.Checks.{sheet_verdict}
 use Rattle.definitions.specs.Translate.{translation, unshared_translation}
-use Rattle.definitions.specs.declared.Verdict.TheVariants.{Accepted}
+use Rattle.definitions.specs.Verdict.{Accepted}
 use Rattle.laws.proofs.Classes.{answer_no_stop}
 use Rattle.shared_runs.proofs.Shared.{outcome_kept}
 use Rattle.agreement.specs.Meaning.{OwnAnswer}

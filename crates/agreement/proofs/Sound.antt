@@ -16,7 +16,7 @@ use Rattle.definitions.specs.Rule.{Ending}
 use Rattle.agreement.specs.Meaning.{Setting, end_of, Means}
 use Rattle.agreement.specs.Meaning
 use Rattle.definitions.specs.declared.Layout.TheVariants.{Translation}
-use Rattle.definitions.specs.declared.Verdict.TheVariants.{Accepted}
+use Rattle.definitions.specs.Verdict.{Accepted}
 use Rattle.accepted.specs.Child.{left, right, condition}
 use Rattle.accepted.proofs.Names.{parameter_below, call_below}
 use Rattle.readback.proofs.Nodes.{body_read, tag_read}

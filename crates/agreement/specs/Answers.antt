@@ -8,7 +8,7 @@ use Rattle.definitions.specs.PlainCells.{plain_evaluation}
 use Rattle.definitions.specs.Run.{Answer, ending_outcome, rule_end, refusal, run_verdict, run_answer}
 use Rattle.cell_rules.specs.Gives.{Gives}
 use Rattle.agreement.specs.Meaning.{OwnAnswer}
-use Rattle.definitions.specs.declared.Verdict.TheVariants.{Accepted, Refused}
+use Rattle.definitions.specs.Verdict.{Accepted, Refused}
 
 -- the outcome and value of the evaluation rule at a step, a nesting and a cell allowance, taken without ceilings
 unfoldable pub rule_outcome : List ℕ → List ℤ → ℕ → ℕ → ℕ → Outcome

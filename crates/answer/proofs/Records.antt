@@ -18,7 +18,7 @@ use Rattle.definitions.specs.Run as Run
 use Rattle.definitions.specs.Run.{refusal}
 use Rattle.definitions.specs.Verdicts.{require}
 use Rattle.definitions.specs.AnswerRecord.{answer_kind, answer_words, answer_bytes}
-use Rattle.definitions.specs.declared.Verdict.TheVariants.{Accepted, Refused}
+use Rattle.definitions.specs.Verdict.{Accepted, Refused}
 use Rattle.answer.specs.declared.Answer.{Answer}
 use Rattle.answer.specs.declared.Outcome.{Outcome}
 use Rattle.answer.specs.declared.Outcome.TheVariants.{Number, Constructor, Ended}

@@ -5,7 +5,7 @@ use Rattle.definitions.specs.Numbers.{is_number, is_constructor, short_output}
 use Rattle.definitions.specs.Verdicts.{require}
 use Rattle.definitions.specs.Run as Run
 use Rattle.definitions.specs.AnswerRecord.{answer_bytes}
-use Rattle.definitions.specs.declared.Verdict.{Verdict}
+use Rattle.definitions.specs.Verdict.{Verdict}
 use Rattle.answer.specs.declared.Outcome.{Outcome}
 use Rattle.answer.specs.declared.Outcome.TheVariants.{Number, Constructor, Ended, Refused}
 use Rattle.answer.specs.declared.Answer.{Answer}

@@ -34,10 +34,9 @@ use Rattle.definitions.specs.Run
 use Rattle.definitions.specs.AnswerRecord
 use Rattle.definitions.specs.RunsInTurn
 use Rattle.batch.specs.Promise
-use Rattle.definitions.specs.declared.Verdict.{Verdict}
-use Rattle.definitions.specs.declared.Verdict.TheVariants.{Accepted, Refused}
-use Rattle.definitions.specs.declared.Written.{Written}
-use Rattle.definitions.specs.declared.Written.TheVariants as answers
+use Rattle.definitions.specs.Verdict.{Verdict, Accepted, Refused}
+use Rattle.definitions.specs.Written.{Written}
+use Rattle.definitions.specs.Written as answers
 
 -- the definitions that the example computes with, opened together
 unfoldable opened : Unit {0}

@@ -19,7 +19,7 @@ use Rattle.definitions.specs.Layouts.{readings}
 use Rattle.definitions.specs.Run.{Answer}
 use Rattle.definitions.specs.AnswerRecord.{answer_bytes}
 use Rattle.definitions.specs.RunsInTurn.{row_of, cells_in_turn, answer_in_turn, records_in_turn}
-use Rattle.definitions.specs.declared.Verdict.{Verdict}
+use Rattle.definitions.specs.Verdict.{Verdict}
 use Rattle.answer.specs.declared.Answer as answers
 use Rattle.answer.specs.Answers.{answer_of, Writes}
 use Rattle.run.specs.NodeTable.{Readable}

@@ -16,11 +16,10 @@ use Rattle.definitions.specs.Checks.{translation_verdict}
 use Rattle.definitions.specs.Verdicts.{◌and_then◌, require}
 use Rattle.definitions.specs.Output.{written_of, output_of}
 use Rattle.definitions.specs.Run.{allowances_fit, bytes_after}
-use Rattle.definitions.specs.declared.Verdict.{Verdict}
-use Rattle.definitions.specs.declared.Verdict.TheVariants.{Accepted, Refused}
+use Rattle.definitions.specs.Verdict.{Verdict, Accepted, Refused}
 use Rattle.laws.proofs.Verdicts.{then_accepted, then_refused, both_accepted, required}
 use Rattle.run.specs.NodeTable.{FileRead}
-use Rattle.definitions.specs.declared.Written.TheVariants as answers
+use Rattle.definitions.specs.Written as answers
 use Rattle.batch.specs.Promise.{rows_checks, rows_verdict, rows_cells, rows_records, RunsRows}
 use Rattle.batch.specs.Rows.{RowsFit, records_over, RanRows}
 use Rattle.batch.proofs.InTurn.{records_length}

@@ -9,8 +9,8 @@ use Rattle.definitions.specs.Layouts.{readings}
 use Rattle.definitions.specs.Checks.{translation_verdict}
 use Rattle.definitions.specs.Run.{allowances_fit, bytes_after}
 use Rattle.definitions.specs.RunsInTurn.{row_of, cells_in_turn, records_in_turn}
-use Rattle.definitions.specs.declared.Verdict.{Verdict}
-use Rattle.definitions.specs.declared.Written.{Written}
+use Rattle.definitions.specs.Verdict.{Verdict}
+use Rattle.definitions.specs.Written.{Written}
 
 -- "More than 16 rows is 10, a reading list that isn't rows times I is 9, a short record buffer is 8, in the order 9, 10, 8 .."; `given`
 -- is the number of readings, `lent` the length of the lent cells, `room` that of the lent records

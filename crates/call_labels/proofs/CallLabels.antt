@@ -21,8 +21,7 @@ use Rattle.definitions.specs.Checks.{sheet_verdict}
 use Rattle.definitions.specs.Trees.{names_node, equal_trees}
 use Rattle.definitions.specs.Labels.{Labelling, calls, first_call, is_first, label_of}
 use Rattle.definitions.specs.declared.Layout.TheVariants.{Sheet}
-use Rattle.definitions.specs.declared.Verdict.{Verdict}
-use Rattle.definitions.specs.declared.Verdict.TheVariants.{Accepted}
+use Rattle.definitions.specs.Verdict.{Verdict, Accepted}
 use Rattle.laws.proofs.Lists.{below_suc, count_more, count_none}
 use Rattle.laws.proofs.FirstPassing.{First, first_pass, first_found}
 use Rattle.accepted.proofs.Counts.{count_limit}

@@ -13,7 +13,7 @@ use Rattle.definitions.specs.Checks.{checks_to_six, sheet_verdict}
 use Rattle.definitions.specs.Translate.{translation}
 use Rattle.definitions.specs.Run.{run_answer}
 use Rattle.definitions.specs.CanonicalSheet.{canonical}
-use Rattle.definitions.specs.declared.Verdict.TheVariants.{Accepted}
+use Rattle.definitions.specs.Verdict.{Accepted}
 use Rattle.laws.proofs.Verdicts.{then_accepted, require_true, first_all}
 use Rattle.laws.proofs.ByteFiles.{Bytes}
 use Rattle.shared_runs.specs.SameRuns.{SameRuns, SameAnswers}

@@ -12,7 +12,7 @@ use Rattle.definitions.specs.Checks.{sheet_verdict}
 use Rattle.definitions.specs.Trees.{names_node, same_tree}
 use Rattle.definitions.specs.CanonicalSheet.{Fields, first_fields, fields_within, fields_of, first_bodies, bodies, sections, canonical}
 use Rattle.definitions.specs.declared.Layout.TheVariants.{Sheet}
-use Rattle.definitions.specs.declared.Verdict.TheVariants.{Accepted}
+use Rattle.definitions.specs.Verdict.{Accepted}
 use Rattle.laws.proofs.Bytes.{word_part}
 use Rattle.laws.proofs.ByteFiles.{Bytes}
 use Rattle.accepted.proofs.Checks.{sheet_shape}

@@ -24,7 +24,7 @@ use Rattle.definitions.specs.SheetRules.{arguments_match, arguments, is_body}
 use Rattle.definitions.specs.Checks.{sheet_verdict}
 use Rattle.definitions.specs.CanonicalSheet.{canonical}
 use Rattle.definitions.specs.declared.Layout.TheVariants.{Sheet}
-use Rattle.definitions.specs.declared.Verdict.TheVariants.{Accepted}
+use Rattle.definitions.specs.Verdict.{Accepted}
 use Rattle.laws.proofs.Records.{whole_is, record_none, record_length_law, record_word}
 use Rattle.laws.proofs.Verdicts.{then_accepted, require_true}
 use Rattle.laws.proofs.Shape.{shape_accepted}

@@ -14,7 +14,7 @@ use Rattle.definitions.specs.Checks.{sheet_verdict}
 use Rattle.definitions.specs.CanonicalSheet.{Fields, none, plain, branch, fields_within, fields_of, bodies, size_of, field_words, tree_words, sections, canonical}
 use Rattle.definitions.specs.Translate.{record_words}
 use Rattle.definitions.specs.declared.Layout.TheVariants.{Sheet}
-use Rattle.definitions.specs.declared.Verdict.TheVariants.{Accepted}
+use Rattle.definitions.specs.Verdict.{Accepted}
 use Rattle.laws.proofs.Words.{bytes_length}
 use Rattle.accepted.proofs.Sums.{sum_same}
 use Rattle.accepted.proofs.Records.{records_fill, record_fields, start_sum}

@@ -24,7 +24,7 @@ use Rattle.definitions.specs.Checks.{sheet_verdict}
 use Rattle.definitions.specs.Trees.{names_node}
 use Rattle.definitions.specs.CanonicalSheet.{canonical}
 use Rattle.definitions.specs.declared.Layout.TheVariants.{Sheet}
-use Rattle.definitions.specs.declared.Verdict.TheVariants.{Accepted}
+use Rattle.definitions.specs.Verdict.{Accepted}
 use Rattle.laws.proofs.Lists.{all_each, all_pass}
 use Rattle.laws.proofs.Shape.{counts_other}
 use Rattle.accepted.proofs.Records.{length_allowed, code_right, record_fields}

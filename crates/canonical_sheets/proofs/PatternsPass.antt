@@ -18,7 +18,7 @@ use Rattle.definitions.specs.Checks.{sheet_verdict}
 use Rattle.definitions.specs.Trees.{names_node}
 use Rattle.definitions.specs.CanonicalSheet.{canonical}
 use Rattle.definitions.specs.declared.Layout.TheVariants.{Sheet}
-use Rattle.definitions.specs.declared.Verdict.TheVariants.{Accepted}
+use Rattle.definitions.specs.Verdict.{Accepted}
 use Rattle.laws.proofs.Verdicts.{require_true}
 use Rattle.laws.proofs.ByteFiles.{Bytes}
 use Rattle.accepted.specs.Child.{Child, is_case}

@@ -14,7 +14,7 @@ use Rattle.definitions.specs.Checks.{sheet_verdict}
 use Rattle.definitions.specs.Trees.{names_node}
 use Rattle.definitions.specs.CanonicalSheet.{Fields, plain, branch, first_fields, fields_within, size_of, field_words}
 use Rattle.definitions.specs.declared.Layout.TheVariants.{Sheet}
-use Rattle.definitions.specs.declared.Verdict.TheVariants.{Accepted}
+use Rattle.definitions.specs.Verdict.{Accepted}
 use Rattle.laws.proofs.ByteFiles.{Bytes}
 use Rattle.accepted.proofs.Checks.{trees_pass}
 use Rattle.accepted.proofs.Trees.{child_owner}

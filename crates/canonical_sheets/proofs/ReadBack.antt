@@ -16,7 +16,7 @@ use Rattle.definitions.specs.Shape.{file_shape}
 use Rattle.definitions.specs.Checks.{sheet_verdict}
 use Rattle.definitions.specs.CanonicalSheet.{branch, fields_within, fields_of, first_bodies, bodies, size_of, tree_words, sections, canonical}
 use Rattle.definitions.specs.declared.Layout.TheVariants.{Sheet}
-use Rattle.definitions.specs.declared.Verdict.TheVariants.{Accepted}
+use Rattle.definitions.specs.Verdict.{Accepted}
 use Rattle.laws.proofs.Records.{record_length_law}
 use Rattle.laws.proofs.ByteFiles.{Bytes}
 use Rattle.accepted.proofs.Sums.{sum_same, sum_rises}

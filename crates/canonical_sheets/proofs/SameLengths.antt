@@ -20,7 +20,7 @@ use Rattle.definitions.specs.Labels.{calls, first_call, is_first}
 use Rattle.definitions.specs.Translate.{formal_words, node_words, translation}
 use Rattle.definitions.specs.CanonicalSheet.{bodies, canonical}
 use Rattle.definitions.specs.declared.Layout.TheVariants.{Sheet}
-use Rattle.definitions.specs.declared.Verdict.TheVariants.{Accepted}
+use Rattle.definitions.specs.Verdict.{Accepted}
 use Rattle.laws.proofs.ByteFiles.{Bytes}
 use Rattle.accepted.proofs.Sums.{sum_same}
 use Rattle.accepted.proofs.Counts.{count_into}

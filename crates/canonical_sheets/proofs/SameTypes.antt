@@ -19,7 +19,7 @@ use Rattle.definitions.specs.Checks.{sheet_verdict}
 use Rattle.definitions.specs.Trees.{names_node}
 use Rattle.definitions.specs.CanonicalSheet.{canonical}
 use Rattle.definitions.specs.declared.Layout.TheVariants.{Sheet}
-use Rattle.definitions.specs.declared.Verdict.TheVariants.{Accepted}
+use Rattle.definitions.specs.Verdict.{Accepted}
 use Rattle.laws.proofs.Lists.{all_same}
 use Rattle.laws.proofs.ByteFiles.{Bytes}
 use Rattle.accepted.proofs.SheetRecords.{SheetRecord, is_number, is_reading, is_parameter, is_pattern_variable, is_operator, is_conditional, is_call, is_build, is_case_law}

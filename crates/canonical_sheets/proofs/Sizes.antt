@@ -17,7 +17,7 @@ use Rattle.definitions.specs.Checks.{sheet_verdict}
 use Rattle.definitions.specs.Trees.{names_node}
 use Rattle.definitions.specs.CanonicalSheet.{Fields, none, plain, branch, first_fields, fields_within, fields_of, first_bodies, size_of}
 use Rattle.definitions.specs.declared.Layout.TheVariants.{Sheet}
-use Rattle.definitions.specs.declared.Verdict.TheVariants.{Accepted}
+use Rattle.definitions.specs.Verdict.{Accepted}
 use Rattle.accepted.proofs.Sums.{sum_same}
 use Rattle.accepted.proofs.Sections.{node_count_least}
 use Rattle.accepted.proofs.Owners.{run_start, body_before_end, end_within_law, owner_unique, owner_of_body, owner_started, owner_not_ended}

@@ -21,8 +21,7 @@ use Rattle.definitions.specs.SheetRules.{arguments, times_child, is_body, childr
 use Rattle.definitions.specs.Checks.{sheet_verdict}
 use Rattle.definitions.specs.CanonicalSheet.{canonical}
 use Rattle.definitions.specs.declared.Layout.TheVariants.{Sheet}
-use Rattle.definitions.specs.declared.Verdict.{Verdict}
-use Rattle.definitions.specs.declared.Verdict.TheVariants.{Accepted}
+use Rattle.definitions.specs.Verdict.{Verdict, Accepted}
 use Rattle.laws.proofs.Lists.{all_each, all_pass}
 use Rattle.laws.proofs.Verdicts.{then_accepted, require_true, first_all}
 use Rattle.laws.proofs.ByteFiles.{Bytes}

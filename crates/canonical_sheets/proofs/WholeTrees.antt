@@ -7,7 +7,7 @@ use Rattle.definitions.specs.Records.{kind_of, field, field_count}
 use Rattle.definitions.specs.Layouts.{nodes, node_record}
 use Rattle.definitions.specs.Checks.{sheet_verdict}
 use Rattle.definitions.specs.CanonicalSheet.{Fields, first_fields, fields_within, fields_of}
-use Rattle.definitions.specs.declared.Verdict.TheVariants.{Accepted}
+use Rattle.definitions.specs.Verdict.{Accepted}
 use Rattle.trees.proofs.Parts.{part_smaller}
 use Rattle.canonical_sheets.proofs.Sizes.{depths, first_fields_same}
 

@@ -14,7 +14,7 @@ use Rattle.definitions.specs.Checks.{sheet_verdict}
 use Rattle.definitions.specs.Translate.{record_words}
 use Rattle.definitions.specs.CanonicalSheet.{first_bodies, bodies, fields_of, size_of, field_words, tree_words}
 use Rattle.definitions.specs.declared.Layout.TheVariants.{Sheet}
-use Rattle.definitions.specs.declared.Verdict.TheVariants.{Accepted}
+use Rattle.definitions.specs.Verdict.{Accepted}
 use Rattle.accepted.proofs.Head.{functions_limit, nodes_limit}
 use Rattle.accepted.proofs.Sections.{node_counts_sum}
 use Rattle.accepted.proofs.Owners.{end_within_law, body_before_end, body_below}

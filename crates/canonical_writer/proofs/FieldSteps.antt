@@ -11,7 +11,7 @@ use Rattle.definitions.specs.Layouts.{nodes, node_record}
 use Rattle.definitions.specs.Checks.{sheet_verdict}
 use Rattle.definitions.specs.Trees.{names_node}
 use Rattle.definitions.specs.CanonicalSheet.{fields_of, size_of}
-use Rattle.definitions.specs.declared.Verdict.TheVariants.{Accepted}
+use Rattle.definitions.specs.Verdict.{Accepted}
 use Rattle.trees.proofs.Parts.{part_smaller}
 use Rattle.canonical_sheets.proofs.FirstFields.{size_none, size_branch, size_plain, sizes_rise}
 use Rattle.canonical_sheets.proofs.WholeTrees.{kind_at, up_to, tree_law}

@@ -10,7 +10,7 @@ use Rattle.definitions.specs.Layouts.{nodes, first_node, due, node_record}
 use Rattle.definitions.specs.Checks.{sheet_verdict}
 use Rattle.definitions.specs.CanonicalSheet.{fields_of, field_words}
 use Rattle.definitions.specs.declared.Layout.TheVariants.{Sheet}
-use Rattle.definitions.specs.declared.Verdict.TheVariants.{Accepted}
+use Rattle.definitions.specs.Verdict.{Accepted}
 use Rattle.accepted.proofs.Sums.{sum_term}
 use Rattle.accepted.proofs.Head.{nodes_limit}
 use Rattle.accepted.proofs.Records.{within_limit, records_fill, record_fields, start_sum}

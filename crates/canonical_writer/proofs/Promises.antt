@@ -19,9 +19,8 @@ use Rattle.definitions.specs.Output.{written_of, output_of}
 use Rattle.definitions.specs.Checks.{sheet_verdict}
 use Rattle.definitions.specs.CanonicalSheet.{bodies, tree_words, sections, canonical, canonical_refusal, canonical_answer}
 use Rattle.definitions.specs.declared.Layout.TheVariants.{Sheet}
-use Rattle.definitions.specs.declared.Verdict.{Verdict}
-use Rattle.definitions.specs.declared.Verdict.TheVariants.{Accepted, Refused}
-use Rattle.definitions.specs.declared.Written.TheVariants as answers
+use Rattle.definitions.specs.Verdict.{Verdict, Accepted, Refused}
+use Rattle.definitions.specs.Written as answers
 use Rattle.laws.proofs.Verdicts.{then_accepted, then_refused}
 use Rattle.laws.proofs.Stores.{sets_append}
 use Rattle.laws.proofs.Words.{bytes_length}

@@ -14,7 +14,7 @@ use Rattle.definitions.specs.Checks.{sheet_verdict}
 use Rattle.definitions.specs.Trees.{names_node}
 use Rattle.definitions.specs.CanonicalSheet.{fields_of, size_of}
 use Rattle.definitions.specs.declared.Layout.TheVariants.{Sheet}
-use Rattle.definitions.specs.declared.Verdict.TheVariants.{Accepted}
+use Rattle.definitions.specs.Verdict.{Accepted}
 use Rattle.accepted.proofs.Sums.{sum_term}
 use Rattle.accepted.proofs.Owners.{run_start, end_within_law, owner_below}
 use Rattle.accepted.proofs.Children.{ChildOf}

@@ -8,7 +8,7 @@ use Rattle.definitions.specs.Checks.{sheet_verdict}
 use Rattle.definitions.specs.Translate.{record_words}
 use Rattle.definitions.specs.CanonicalSheet.{fields_of, bodies, size_of, field_words, tree_words}
 use Rattle.definitions.specs.declared.Layout.TheVariants.{Sheet}
-use Rattle.definitions.specs.declared.Verdict.TheVariants.{Accepted}
+use Rattle.definitions.specs.Verdict.{Accepted}
 use Rattle.file_runs.specs.Runs.{RunEndTable}
 use Rattle.canonical_writer.specs.Sizes.{tree_size, Sizes, SizedSheet}
 

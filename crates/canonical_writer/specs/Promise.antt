@@ -2,7 +2,7 @@
 use Rattle.std.specs.Prelude.{◌≡◌, ℕ, List, length}
 use Rattle.definitions.specs.Output.{output_of}
 use Rattle.definitions.specs.CanonicalSheet.{canonical, canonical_refusal, canonical_answer}
-use Rattle.definitions.specs.declared.Written.{Written}
+use Rattle.definitions.specs.Written.{Written}
 
 pub record WritesCanonical (sheet out : List ℕ) (r : Written) (out' : List ℕ) : Type 0 where
   pub answer : r ≡ canonical_answer sheet (length out)

@@ -11,8 +11,8 @@ use Rattle.definitions.specs.Checks.{sheet_verdict}
 use Rattle.definitions.specs.Trees.{names_node}
 use Rattle.definitions.specs.Translate.{record_words}
 use Rattle.definitions.specs.declared.Layout.TheVariants.{Sheet}
-use Rattle.definitions.specs.declared.Verdict.{Verdict}
-use Rattle.definitions.specs.declared.Written.{Written}
+use Rattle.definitions.specs.Verdict.{Verdict}
+use Rattle.definitions.specs.Written.{Written}
 
 -- fields of a node, in order; a field that names a node holds that node's kind and fields. A parameter and a pattern variable are
 -- their position

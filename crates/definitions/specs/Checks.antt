@@ -8,7 +8,7 @@ use Rattle.definitions.specs.References.{references}
 use Rattle.definitions.specs.SheetRules.{arguments, tree, pattern}
 use Rattle.definitions.specs.Types.{types}
 use Rattle.definitions.specs.declared.Layout.TheVariants.{Sheet, Translation}
-use Rattle.definitions.specs.declared.Verdict.{Verdict}
+use Rattle.definitions.specs.Verdict.{Verdict}
 
 -- the checks of a sheet up to 6
 unfoldable pub checks_to_six : List ℕ → Verdict

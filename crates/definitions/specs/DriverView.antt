@@ -8,7 +8,7 @@ use Rattle.definitions.specs.Verdicts.{◌and_then◌, require}
 use Rattle.definitions.specs.Operators.{residue}
 use Rattle.definitions.specs.Outcomes.{Outcome}
 use Rattle.definitions.specs.AnswerRecord.{answer_kind, recorded}
-use Rattle.definitions.specs.declared.Verdict.{Verdict}
+use Rattle.definitions.specs.Verdict.{Verdict}
 
 -- what the view's first two bytes say: a number is shown, or nothing is
 abbrev pub number_view : ℕ

@@ -8,7 +8,7 @@ use Rattle.definitions.specs.TranslationKinds
 use Rattle.definitions.specs.Layouts.{nodes, first_node, node_record}
 use Rattle.definitions.specs.Checks.{translation_verdict}
 use Rattle.definitions.specs.Run.{Answer, answer_after, bytes_after, run_answer, run_cells}
-use Rattle.definitions.specs.declared.Verdict.{Verdict}
+use Rattle.definitions.specs.Verdict.{Verdict}
 
 -- "a set of allowed readings", one bit a reading: whether reading i is in it
 unfoldable pub reading_allowed : ℕ → ℕ → Bool

@@ -7,6 +7,10 @@ pub mod Kinds
 pub mod Ranges
 pub mod Sizes
 pub mod Numbers
+pub mod Verdict
+pub mod Written
+pub mod Searched
+pub mod Refusals
 pub mod Verdicts
 pub mod Output
 pub mod Layouts

@@ -1,9 +1,8 @@
 -- What a call that writes into a lent output answers, and what the output holds at exit.
 use Rattle.std.specs.Prelude.{ℕ, List, ◌++◌, length, drop}
-use Rattle.definitions.specs.declared.Verdict.{Verdict}
-use Rattle.definitions.specs.declared.Verdict.TheVariants.{Accepted, Refused}
-use Rattle.definitions.specs.declared.Written.{Written}
-use Rattle.definitions.specs.declared.Written.TheVariants as written
+use Rattle.definitions.specs.Verdict.{Verdict, Accepted, Refused}
+use Rattle.definitions.specs.Written.{Written}
+use Rattle.definitions.specs.Written as written
 
 -- the answer: the length of what was written, or the refusal
 unfoldable pub written_of : Verdict → ℕ → Written

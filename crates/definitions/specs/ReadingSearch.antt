@@ -12,10 +12,9 @@ use Rattle.definitions.specs.Outcomes.{Outcome, number_outcome, end_outcome}
 use Rattle.definitions.specs.Rule.{integer, constructor, Ending, value, ended}
 use Rattle.definitions.specs.Run.{rule_end, run_verdict, bytes_after}
 use Rattle.definitions.specs.RunsInTurn.{cells_in_turn}
-use Rattle.definitions.specs.declared.Verdict.{Verdict}
-use Rattle.definitions.specs.declared.Verdict.TheVariants.{Accepted, Refused}
-use Rattle.definitions.specs.declared.Searched.{Searched}
-use Rattle.definitions.specs.declared.Searched.TheVariants as searched
+use Rattle.definitions.specs.Verdict.{Verdict, Accepted, Refused}
+use Rattle.definitions.specs.Searched.{Searched}
+use Rattle.definitions.specs.Searched as searched
 
 -- "one position, a lowest and highest value and a wanted number"
 pub record Query : Type 0 where

@@ -9,7 +9,7 @@ use Rattle.definitions.specs.Verdicts.{require}
 use Rattle.definitions.specs.Lists.{all_of}
 use Rattle.definitions.specs.Layouts.{readings, items, functions, nodes, first_node, item_record, function_record, owner_of}
 use Rattle.definitions.specs.declared.Layout.TheVariants.{Sheet}
-use Rattle.definitions.specs.declared.Verdict.{Verdict}
+use Rattle.definitions.specs.Verdict.{Verdict}
 
 -- a function's parameter count and a constructor's arity, in a sheet
 abbrev pub parameters : List ℕ → ℕ → ℕ

@@ -12,8 +12,7 @@ use Rattle.definitions.specs.Rule.{integer, constructor, Ending, value, ended, R
 use Rattle.definitions.specs.Cells.{Cell, evaluation}
 use Rattle.definitions.specs.LiveCells.{LiveCells, live_evaluation}
 use Rattle.definitions.specs.CellBytes.{cell_bytes}
-use Rattle.definitions.specs.declared.Verdict.{Verdict}
-use Rattle.definitions.specs.declared.Verdict.TheVariants.{Accepted, Refused}
+use Rattle.definitions.specs.Verdict.{Verdict, Accepted, Refused}
 
 -- "outcome .., value .., steps, node, context", and the most cells alive together
 pub record Answer : Type 0 where

@@ -15,7 +15,7 @@ use Rattle.definitions.specs.Lists.{sum_of, all_of}
 use Rattle.definitions.specs.Layouts.{readings, items, functions, nodes, first_function, due, is_due, count_field, node_count, parameter_count}
 use Rattle.definitions.specs.declared.Layout.{Layout}
 use Rattle.definitions.specs.declared.Layout.TheVariants.{Sheet, Translation}
-use Rattle.definitions.specs.declared.Verdict.{Verdict}
+use Rattle.definitions.specs.Verdict.{Verdict}
 
 -- "at most 32,768 bytes", "at most 40,960 bytes"
 abbrev pub file_limit : Layout → ℕ

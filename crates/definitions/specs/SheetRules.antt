@@ -10,7 +10,7 @@ use Rattle.definitions.specs.Lists.{sum_of, count_of, all_of, last_of}
 use Rattle.definitions.specs.Layouts.{nodes, first_function, first_node, node_record, body_of, owner_of}
 use Rattle.definitions.specs.References.{parameters, arity, children, child, clauses, clause_constructor}
 use Rattle.definitions.specs.declared.Layout.TheVariants.{Sheet}
-use Rattle.definitions.specs.declared.Verdict.{Verdict}
+use Rattle.definitions.specs.Verdict.{Verdict}
 
 -- 7, "argument count wrong, or `result` has parameters"
 unfoldable pub arguments_match : List ℕ → ℕ → List ℕ → Bool

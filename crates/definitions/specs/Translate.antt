@@ -17,8 +17,8 @@ use Rattle.definitions.specs.SheetNodes.{SheetNode, number, reading, parameter, 
 use Rattle.definitions.specs.Trees.{equal_trees}
 use Rattle.definitions.specs.Labels.{Labelling, never_shared, label_of, actuals}
 use Rattle.definitions.specs.declared.Layout.TheVariants.{Sheet}
-use Rattle.definitions.specs.declared.Verdict.{Verdict}
-use Rattle.definitions.specs.declared.Written.{Written}
+use Rattle.definitions.specs.Verdict.{Verdict}
+use Rattle.definitions.specs.Written.{Written}
 
 -- a record: its length, its kind and its fields, each of two bytes
 unfoldable pub record_words : ℕ → List ℕ → List ℕ

@@ -10,8 +10,7 @@ use Rattle.definitions.specs.Layouts.{nodes, is_typed, first_node, item_record, 
 use Rattle.definitions.specs.References.{clauses, clause_constructor}
 use Rattle.definitions.specs.SheetRules.{is_body, parent_of, clause_within}
 use Rattle.definitions.specs.declared.Layout.TheVariants.{Sheet}
-use Rattle.definitions.specs.declared.Verdict.{Verdict}
-use Rattle.definitions.specs.declared.Verdict.TheVariants.{Accepted}
+use Rattle.definitions.specs.Verdict.{Verdict, Accepted}
 
 -- "Types are 0 (number) and 1..64"
 abbrev pub number_type : ℕ

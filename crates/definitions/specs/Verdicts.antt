@@ -1,7 +1,6 @@
 -- The first refusal in an order (document 01, "Order"): rules joined one after the other, and over the first n numbers.
 use Rattle.std.specs.Prelude.{ℕ, zero, suc, Bool, true, false}
-use Rattle.definitions.specs.declared.Verdict.{Verdict}
-use Rattle.definitions.specs.declared.Verdict.TheVariants.{Accepted, Refused}
+use Rattle.definitions.specs.Verdict.{Verdict, Accepted, Refused}
 
 -- the first refusal of two
 unfoldable pub ◌and_then◌ : Verdict → Verdict → Verdict

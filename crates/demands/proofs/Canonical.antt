@@ -12,10 +12,9 @@ use Rattle.definitions.specs.Output.{written_of, output_of}
 use Rattle.definitions.specs.Checks.{sheet_verdict}
 use Rattle.definitions.specs.CanonicalSheet.{bodies, sections, canonical, canonical_refusal, canonical_answer}
 use Rattle.definitions.specs.declared.Layout.TheVariants.{Sheet}
-use Rattle.definitions.specs.declared.Verdict.{Verdict}
-use Rattle.definitions.specs.declared.Verdict.TheVariants.{Accepted, Refused}
-use Rattle.definitions.specs.declared.Written.{Written}
-use Rattle.definitions.specs.declared.Written.TheVariants as written
+use Rattle.definitions.specs.Verdict.{Verdict, Accepted, Refused}
+use Rattle.definitions.specs.Written.{Written}
+use Rattle.definitions.specs.Written as written
 use Rattle.laws.proofs.Verdicts.{both_accepted}
 use Rattle.laws.proofs.ByteFiles.{Bytes}
 use Rattle.accepted.proofs.Records.{within_limit}

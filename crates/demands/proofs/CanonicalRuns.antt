@@ -12,7 +12,7 @@ use Rattle.definitions.specs.Translate.{translation}
 use Rattle.definitions.specs.Run.{rule_answer, answer_after}
 use Rattle.definitions.specs.RunsInTurn.{row_of}
 use Rattle.definitions.specs.CanonicalSheet.{canonical}
-use Rattle.definitions.specs.declared.Verdict.TheVariants.{Accepted}
+use Rattle.definitions.specs.Verdict.{Accepted}
 use Rattle.laws.proofs.ByteFiles.{Bytes}
 use Rattle.readback.proofs.Records.{translation_readings}
 use Rattle.readback.proofs.Accepted.{translation_accepted_law}

@@ -18,9 +18,8 @@ use Rattle.definitions.specs.Checks.{sheet_verdict}
 use Rattle.definitions.specs.Translate.{translation}
 use Rattle.definitions.specs.CanonicalSheet.{bodies, sections, canonical}
 use Rattle.definitions.specs.declared.Layout.TheVariants.{Sheet}
-use Rattle.definitions.specs.declared.Verdict.TheVariants.{Accepted}
-use Rattle.definitions.specs.declared.Written.{Written}
-use Rattle.definitions.specs.declared.Written.TheVariants.{Length}
+use Rattle.definitions.specs.Verdict.{Accepted}
+use Rattle.definitions.specs.Written.{Written, Length}
 use Rattle.laws.proofs.ByteFiles.{Bytes}
 use Rattle.shared_runs.specs.Reads.{EqualTrees}
 use Rattle.shared_runs.specs.SameRuns.{SameAnswers}

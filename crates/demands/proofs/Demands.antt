@@ -22,12 +22,11 @@ use Rattle.definitions.specs.Translate.{translation}
 use Rattle.agreement.specs.Meaning.{OwnAnswer}
 use Rattle.definitions.specs.Run.{rule_answer, allowances_fit, run_verdict, answer_after}
 use Rattle.definitions.specs.AnswerRecord.{recorded}
-use Rattle.definitions.specs.declared.Verdict.TheVariants.{Accepted}
+use Rattle.definitions.specs.Verdict.{Accepted}
 use Rattle.shared_runs.specs.Reads.{EqualArguments}
 use Rattle.shared_runs.proofs.OneLabel.{one_label}
 use Rattle.translator.specs.Promise.{Translates}
-use Rattle.definitions.specs.declared.Written.{Written}
-use Rattle.definitions.specs.declared.Written.TheVariants.{Length, Refused}
+use Rattle.definitions.specs.Written.{Written, Length, Refused}
 use Rattle.run.specs.Promise.{Runs}
 use Rattle.answer.specs.declared.Answer.{Answer}
 use Rattle.answer.specs.Answers.{answer_of}

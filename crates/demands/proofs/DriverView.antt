@@ -15,9 +15,8 @@ use Rattle.definitions.specs.Run.{rule_answer, answer_after, run_answer}
 use Rattle.definitions.specs.RunsInTurn.{row_of}
 use Rattle.definitions.specs.AnswerRecord.{answer_bytes, recorded}
 use Rattle.definitions.specs.DriverView.{view_bytes}
-use Rattle.definitions.specs.declared.Verdict.TheVariants.{Accepted}
-use Rattle.definitions.specs.declared.Written.{Written}
-use Rattle.definitions.specs.declared.Written.TheVariants.{Length, Refused}
+use Rattle.definitions.specs.Verdict.{Accepted}
+use Rattle.definitions.specs.Written.{Written, Length, Refused}
 use Rattle.laws.proofs.ByteFiles.{Bytes}
 use Rattle.agreement.specs.Meaning.{OwnAnswer}
 use Rattle.agreement.specs.Answers.{answer_outcome}

@@ -10,8 +10,7 @@ use Rattle.definitions.specs.Numbers.{is_stop, is_answer}
 use Rattle.definitions.specs.PlainCells.{plain_evaluation}
 use Rattle.definitions.specs.Run as Run
 use Rattle.definitions.specs.Run.{answer_at, reached_answer, rule_end, rule_answer, refusal, answer_after, run_answer}
-use Rattle.definitions.specs.declared.Verdict.{Verdict}
-use Rattle.definitions.specs.declared.Verdict.TheVariants.{Accepted, Refused}
+use Rattle.definitions.specs.Verdict.{Verdict, Accepted, Refused}
 use Rattle.laws.proofs.Classes.{refusal_no_answer, answer_no_stop}
 use Rattle.agreement.specs.Answers.{rule_outcome, plain_outcome, PlainGives, answer_outcome}
 use Rattle.agreement.proofs.Allowances.{plain_gives_same, rule_no_more_steps}

@@ -16,11 +16,10 @@ use Rattle.definitions.specs.Layouts.{readings}
 use Rattle.definitions.specs.Outcomes.{number_outcome}
 use Rattle.definitions.specs.Run.{run_verdict}
 use Rattle.definitions.specs.ReadingSearch.{Query, value_at, value_count, search_answer}
-use Rattle.definitions.specs.declared.Verdict.TheVariants as verdicts
-use Rattle.definitions.specs.declared.Verdict.TheVariants.{Accepted}
-use Rattle.definitions.specs.declared.Written.TheVariants.{Length}
-use Rattle.definitions.specs.declared.Searched.{Searched}
-use Rattle.definitions.specs.declared.Searched.TheVariants.{Found, NoValue, Refused}
+use Rattle.definitions.specs.Verdict as verdicts
+use Rattle.definitions.specs.Verdict.{Accepted}
+use Rattle.definitions.specs.Written.{Length}
+use Rattle.definitions.specs.Searched.{Searched, Found, NoValue, Refused}
 use Rattle.agreement.specs.Meaning.{OwnAnswer}
 use Rattle.translator.specs.Promise.{Translates}
 use Rattle.answer.specs.declared.Answer.{Answer}

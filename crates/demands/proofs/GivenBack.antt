@@ -23,7 +23,7 @@ use Rattle.definitions.specs.CellBytes.{cell_bytes}
 use Rattle.definitions.specs.Run as Run
 use Rattle.definitions.specs.Run.{answer_at, reached_answer, cells_over, rule_end, rule_answer, rule_cells, kept_answer, run_verdict}
 use Rattle.definitions.specs.declared.Layout.TheVariants.{Translation}
-use Rattle.definitions.specs.declared.Verdict.TheVariants.{Accepted}
+use Rattle.definitions.specs.Verdict.{Accepted}
 use Rattle.laws.proofs.CellBytes.{bytes_size}
 use Rattle.given_back.specs.SerialCells.{serial_evaluation}
 use Rattle.given_back.specs.KeptEnds.{SameButCells}

@@ -18,13 +18,12 @@ use Rattle.definitions.specs.Outcomes.{Outcome}
 use Rattle.definitions.specs.Translate.{translation, translation_refusal, translation_answer}
 use Rattle.agreement.specs.Meaning.{OwnAnswer}
 use Rattle.definitions.specs.Run.{rule_answer, allowances_fit, answer_after, run_answer}
-use Rattle.definitions.specs.declared.Verdict.{Verdict}
-use Rattle.definitions.specs.declared.Verdict.TheVariants as verdicts
-use Rattle.definitions.specs.declared.Verdict.TheVariants.{Accepted}
+use Rattle.definitions.specs.Verdict.{Verdict}
+use Rattle.definitions.specs.Verdict as verdicts
+use Rattle.definitions.specs.Verdict.{Accepted}
 use Rattle.laws.proofs.Verdicts.{both_accepted}
 use Rattle.translator.specs.Promise.{Translates}
-use Rattle.definitions.specs.declared.Written.{Written}
-use Rattle.definitions.specs.declared.Written.TheVariants.{Length, Refused}
+use Rattle.definitions.specs.Written.{Written, Length, Refused}
 use Rattle.run.specs.Promise.{Runs}
 use Rattle.answer.specs.declared.Answer.{Answer}
 use Rattle.answer.specs.Answers.{answer_of}

@@ -9,8 +9,7 @@ use Rattle.definitions.specs.Numbers.{is_refusal}
 use Rattle.definitions.specs.Output.{output_of}
 use Rattle.definitions.specs.Trees.{equal_trees}
 use Rattle.definitions.specs.Translate.{translation, translation_refusal}
-use Rattle.definitions.specs.declared.Verdict.{Verdict}
-use Rattle.definitions.specs.declared.Verdict.TheVariants.{Accepted, Refused}
+use Rattle.definitions.specs.Verdict.{Verdict, Accepted, Refused}
 use Rattle.laws.proofs.Classes.{refusal_range}
 use Rattle.laws.proofs.Verdicts.{both_accepted}
 use Rattle.readback.proofs.Size.{translation_limit}

@@ -14,8 +14,8 @@ use Rattle.definitions.specs.Outcomes.{Outcome}
 use Rattle.definitions.specs.Run.{rule_answer, rule_cells, refusal, answer_after, bytes_after}
 use Rattle.definitions.specs.AnswerRecord.{answer_bytes, recorded}
 use Rattle.definitions.specs.Hirer.{reading_allowed, hirer_answer, hirer_cells}
-use Rattle.definitions.specs.declared.Verdict.TheVariants.{Accepted}
-use Rattle.definitions.specs.declared.Written.TheVariants.{Length}
+use Rattle.definitions.specs.Verdict.{Accepted}
+use Rattle.definitions.specs.Written.{Length}
 use Rattle.agreement.specs.Meaning.{OwnAnswer}
 use Rattle.agreement.specs.Answers.{answer_outcome}
 use Rattle.translator.specs.Promise.{Translates}

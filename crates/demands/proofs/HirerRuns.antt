@@ -16,8 +16,7 @@ use Rattle.definitions.specs.LiveCells.{by_live_cells, live_evaluation}
 use Rattle.definitions.specs.Run as Run
 use Rattle.definitions.specs.Run.{rule_end, rule_answer, rule_cells, refusal, run_verdict, answer_after, bytes_after, run_answer, run_cells}
 use Rattle.definitions.specs.Hirer.{reading_allowed, closed_verdict, hirer_verdict, hirer_answer, hirer_cells}
-use Rattle.definitions.specs.declared.Verdict.{Verdict}
-use Rattle.definitions.specs.declared.Verdict.TheVariants.{Accepted, Refused}
+use Rattle.definitions.specs.Verdict.{Verdict, Accepted, Refused}
 use Rattle.laws.proofs.Verdicts.{then_accepted, then_refused, both_accepted}
 use Rattle.rule_laws.proofs.Independent.{visited_alike}
 use Rattle.agreement.specs.Meaning.{OwnAnswer}

@@ -10,12 +10,12 @@ use Rattle.definitions.specs.Checks.{sheet_verdict}
 use Rattle.definitions.specs.Translate.{translation, translation_refusal, translation_answer}
 use Rattle.definitions.specs.Run as Run
 use Rattle.definitions.specs.Run.{run_verdict, answer_after, bytes_after, rule_answer, run_answer, run_cells}
-use Rattle.definitions.specs.declared.Verdict.{Verdict}
-use Rattle.definitions.specs.declared.Verdict.TheVariants as verdicts
-use Rattle.definitions.specs.declared.Verdict.TheVariants.{Accepted}
+use Rattle.definitions.specs.Verdict.{Verdict}
+use Rattle.definitions.specs.Verdict as verdicts
+use Rattle.definitions.specs.Verdict.{Accepted}
 use Rattle.laws.proofs.Verdicts.{both_accepted}
 use Rattle.translator.specs.Promise.{Translates}
-use Rattle.definitions.specs.declared.Written.{Written}
+use Rattle.definitions.specs.Written.{Written}
 use Rattle.run.specs.Promise.{Runs}
 use Rattle.answer.specs.declared.Answer.{Answer}
 use Rattle.answer.specs.Answers.{answer_of}

@@ -16,11 +16,10 @@ use Rattle.definitions.specs.Checks.{translation_verdict}
 use Rattle.definitions.specs.Output.{written_of, output_of}
 use Rattle.definitions.specs.Run.{allowances_fit, answer_at, reached_answer, rule_answer, answer_after, bytes_after}
 use Rattle.definitions.specs.RunsInTurn.{row_of, cells_in_turn, records_in_turn}
-use Rattle.definitions.specs.declared.Verdict.{Verdict}
-use Rattle.definitions.specs.declared.Verdict.TheVariants as verdicts
-use Rattle.definitions.specs.declared.Verdict.TheVariants.{Accepted}
-use Rattle.definitions.specs.declared.Written.{Written}
-use Rattle.definitions.specs.declared.Written.TheVariants.{Length}
+use Rattle.definitions.specs.Verdict.{Verdict}
+use Rattle.definitions.specs.Verdict as verdicts
+use Rattle.definitions.specs.Verdict.{Accepted}
+use Rattle.definitions.specs.Written.{Written, Length}
 use Rattle.agreement.proofs.KnownEnds.{rule_known}
 use Rattle.batch.specs.Promise.{rows_checks, rows_verdict, rows_cells, rows_records, RunsRows}
 use Rattle.zifnora_c.specs.Codes.{code_of}

@@ -15,7 +15,7 @@ use Rattle.definitions.specs.Layouts.{readings, nodes, first_node, node_record}
 use Rattle.definitions.specs.TranslationNodes.{reading, translation_node, translation_node_of}
 use Rattle.definitions.specs.Checks.{translation_verdict}
 use Rattle.definitions.specs.Hirer.{reading_allowed, node_allowed, closed_at, closed_verdict}
-use Rattle.definitions.specs.declared.Verdict.TheVariants.{Accepted, Refused}
+use Rattle.definitions.specs.Verdict.{Accepted, Refused}
 use Rattle.laws.proofs.FirstPassing.{first_pass}
 use Rattle.laws.proofs.Verdicts.{require_true, require_false, required, first_refused, first_each, first_same, first_all}
 use Rattle.accepted.proofs.Checks.{translation_shape}

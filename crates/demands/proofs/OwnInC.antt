@@ -13,8 +13,7 @@ use Rattle.definitions.specs.Trees.{equal_trees}
 use Rattle.definitions.specs.Translate.{translation_words, translation_by, translation}
 use Rattle.definitions.specs.Run.{answer_after, rule_answer, run_answer}
 use Rattle.definitions.specs.AnswerRecord.{answer_bytes, recorded}
-use Rattle.definitions.specs.declared.Verdict.{Verdict}
-use Rattle.definitions.specs.declared.Verdict.TheVariants.{Accepted}
+use Rattle.definitions.specs.Verdict.{Verdict, Accepted}
 use Rattle.laws.proofs.ByteFiles.{Bytes, bytes_below}
 use Rattle.agreement.specs.Meaning.{OwnAnswer}
 use Rattle.agreement.specs.Answers.{answer_outcome}

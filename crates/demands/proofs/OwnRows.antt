@@ -18,10 +18,10 @@ use Rattle.definitions.specs.Translate.{translation}
 use Rattle.definitions.specs.Run.{answer_after}
 use Rattle.definitions.specs.RunsInTurn.{row_of}
 use Rattle.definitions.specs.AnswerRecord.{recorded}
-use Rattle.definitions.specs.declared.Verdict.TheVariants.{Accepted}
+use Rattle.definitions.specs.Verdict.{Accepted}
 use Rattle.readback.proofs.Records.{translation_readings}
 use Rattle.agreement.specs.Meaning.{OwnAnswer}
-use Rattle.definitions.specs.declared.Written.TheVariants.{Length}
+use Rattle.definitions.specs.Written.{Length}
 use Rattle.translator.specs.Promise.{Translates}
 use Rattle.batch.specs.Promise.{rows_verdict, rows_records, RunsRows}
 use Rattle.zifnora_c.specs.Codes.{code_number, code_value}

@@ -19,8 +19,7 @@ use Rattle.definitions.specs.CanonicalSheet.{canonical_refusal}
 use Rattle.definitions.specs.Run.{run_verdict}
 use Rattle.definitions.specs.declared.Layout.{Layout}
 use Rattle.definitions.specs.declared.Layout.TheVariants.{Sheet, Translation}
-use Rattle.definitions.specs.declared.Verdict.{Verdict}
-use Rattle.definitions.specs.declared.Verdict.TheVariants.{Accepted, Refused}
+use Rattle.definitions.specs.Verdict.{Verdict, Accepted, Refused}
 use Rattle.definitions.specs.Hirer.{closed_at, closed_verdict}
 use Rattle.definitions.specs.ReadingSearch.{Query, search_verdict}
 use Rattle.batch.specs.Promise.{rows_checks, rows_verdict}

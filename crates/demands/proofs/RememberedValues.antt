@@ -30,8 +30,8 @@ use Rattle.definitions.specs.LiveCells.{LiveCells, keeping_live, formal_by_live_
 use Rattle.definitions.specs.CellBytes.{entry_words, cell_words, cell_bytes}
 use Rattle.definitions.specs.Run.{rule_end, rule_answer, rule_cells, cells_over, run_verdict}
 use Rattle.definitions.specs.declared.Layout.TheVariants.{Sheet, Translation}
-use Rattle.definitions.specs.declared.Verdict.TheVariants.{Accepted}
-use Rattle.definitions.specs.declared.Written.TheVariants.{Length}
+use Rattle.definitions.specs.Verdict.{Accepted}
+use Rattle.definitions.specs.Written.{Length}
 use Rattle.laws.proofs.Verdicts.{both_accepted, required}
 use Rattle.laws.proofs.CellBytes.{cell_size_law}
 use Rattle.allowances.proofs.Limits.{fitting}

@@ -25,10 +25,9 @@ use Rattle.definitions.specs.Outcomes.{Outcome, end_outcome}
 use Rattle.definitions.specs.Run.{allowances_fit}
 use Rattle.definitions.specs.AnswerRecord.{answer_bytes, recorded}
 use Rattle.definitions.specs.RunsInTurn.{row_of}
-use Rattle.definitions.specs.declared.Verdict.TheVariants as verdicts
-use Rattle.definitions.specs.declared.Verdict.TheVariants.{Accepted}
-use Rattle.definitions.specs.declared.Written.{Written}
-use Rattle.definitions.specs.declared.Written.TheVariants.{Length, Refused}
+use Rattle.definitions.specs.Verdict as verdicts
+use Rattle.definitions.specs.Verdict.{Accepted}
+use Rattle.definitions.specs.Written.{Written, Length, Refused}
 use Rattle.agreement.specs.Meaning.{OwnAnswer}
 use Rattle.agreement.specs.Overflows.{SheetOverflows}
 use Rattle.agreement.specs.Answers.{RuleGives, answer_outcome}

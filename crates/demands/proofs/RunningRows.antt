@@ -15,7 +15,7 @@ use Rattle.definitions.specs.Checks.{translation_verdict}
 use Rattle.definitions.specs.Run.{rule_answer, rule_cells}
 use Rattle.definitions.specs.AnswerRecord.{answer_bytes}
 use Rattle.definitions.specs.RunsInTurn.{row_of, cells_in_turn, answer_in_turn, records_in_turn}
-use Rattle.definitions.specs.declared.Verdict.TheVariants.{Accepted}
+use Rattle.definitions.specs.Verdict.{Accepted}
 use Rattle.laws.proofs.Verdicts.{both_accepted}
 use Rattle.laws.proofs.Joined.{joined_split}
 use Rattle.runs_in_turn.proofs.InTurn.{turn_answer, turn_cells}

@@ -23,11 +23,10 @@ use Rattle.definitions.specs.Run.{ending_outcome, answer_at, reached_answer, rul
 use Rattle.definitions.specs.RunsInTurn.{cells_in_turn}
 use Rattle.definitions.specs.ReadingSearch.{Query, value_at, value_count, range_fits, readings_tried, ends_in, run_finds, first_finding, search_verdict, searched_by}
 use Rattle.definitions.specs.ReadingSearch.{searched_after, search_answer, runs_made, search_cells}
-use Rattle.definitions.specs.declared.Verdict.{Verdict}
-use Rattle.definitions.specs.declared.Verdict.TheVariants as verdicts
-use Rattle.definitions.specs.declared.Verdict.TheVariants.{Accepted}
-use Rattle.definitions.specs.declared.Searched.{Searched}
-use Rattle.definitions.specs.declared.Searched.TheVariants.{Found, NoValue, Refused}
+use Rattle.definitions.specs.Verdict.{Verdict}
+use Rattle.definitions.specs.Verdict as verdicts
+use Rattle.definitions.specs.Verdict.{Accepted}
+use Rattle.definitions.specs.Searched.{Searched, Found, NoValue, Refused}
 use Rattle.laws.proofs.Classes.{refusal_range}
 use Rattle.laws.proofs.Ranges.{within_both, within_below, within_above}
 use Rattle.laws.proofs.Verdicts.{then_accepted, then_refused, both_accepted, required}

@@ -11,8 +11,7 @@ use Rattle.definitions.specs.Ranges.{within}
 use Rattle.definitions.specs.Operators.{residue, reduced}
 use Rattle.definitions.specs.Outcomes.{number_outcome, end_outcome}
 use Rattle.definitions.specs.ReadingSearch.{Query, searched_outcome}
-use Rattle.definitions.specs.declared.Searched.{Searched}
-use Rattle.definitions.specs.declared.Searched.TheVariants.{Found, NoValue}
+use Rattle.definitions.specs.Searched.{Searched, Found, NoValue}
 use Rattle.operators.proofs.Residues.{residue_below, reduced_held}
 use Rattle.reading_search.proofs.Levels.{between_size}
 use Rattle.zifnora_c.specs.Codes.{code_number, code_value}

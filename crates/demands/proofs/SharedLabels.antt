@@ -19,8 +19,8 @@ use Rattle.definitions.specs.Lists.{count_of}
 use Rattle.definitions.specs.Trees.{equal_trees}
 use Rattle.definitions.specs.Labels.{never_shared, calls, label_of}
 use Rattle.definitions.specs.Translate.{formal_of, translation, unshared_translation}
-use Rattle.definitions.specs.declared.Verdict.TheVariants.{Accepted}
-use Rattle.definitions.specs.declared.Written.TheVariants.{Length}
+use Rattle.definitions.specs.Verdict.{Accepted}
+use Rattle.definitions.specs.Written.{Length}
 use Rattle.readback.specs.TranslatedNode.{translated_node}
 use Rattle.readback.proofs.Nodes.{node_becomes}
 use Rattle.readback.proofs.Records.{translation_nodes}

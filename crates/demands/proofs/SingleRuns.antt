@@ -11,7 +11,7 @@ use Rattle.definitions.specs.Output.{output_of}
 use Rattle.definitions.specs.Run.{bytes_after}
 use Rattle.definitions.specs.AnswerRecord.{answer_bytes}
 use Rattle.definitions.specs.RunsInTurn.{row_of, cells_in_turn, answer_in_turn, records_in_turn}
-use Rattle.definitions.specs.declared.Verdict.TheVariants.{Accepted}
+use Rattle.definitions.specs.Verdict.{Accepted}
 use Rattle.laws.proofs.Joined.{joined_same}
 use Rattle.answer.specs.declared.Answer.{Answer}
 use Rattle.answer.specs.Answers.{answer_of}

@@ -12,7 +12,7 @@ use Rattle.definitions.specs.Types.{type_right, typing, types}
 use Rattle.definitions.specs.Checks.{checks_to_six, sheet_verdict}
 use Rattle.definitions.specs.Translate.{translation_refusal, translation_answer}
 use Rattle.definitions.specs.TypesRemoved.{types_removed}
-use Rattle.definitions.specs.declared.Verdict.TheVariants.{Accepted, Refused}
+use Rattle.definitions.specs.Verdict.{Accepted, Refused}
 use Rattle.laws.proofs.Verdicts.{then_accepted, require_true, require_false, first_all, first_refused}
 use Rattle.agreement.specs.Meaning.{OwnAnswer}
 use Rattle.agreement.specs.Answers.{answer_outcome}

@@ -15,10 +15,8 @@ use Rattle.definitions.specs.Translate.{translation}
 use Rattle.definitions.specs.TypesRemoved.{types_removed}
 use Rattle.definitions.specs.Outcomes.{Outcome}
 use Rattle.definitions.specs.AnswerRecord.{recorded}
-use Rattle.definitions.specs.declared.Verdict.{Verdict}
-use Rattle.definitions.specs.declared.Verdict.TheVariants.{Accepted, Refused}
-use Rattle.definitions.specs.declared.Written.{Written}
-use Rattle.definitions.specs.declared.Written.TheVariants.{Length}
+use Rattle.definitions.specs.Verdict.{Verdict, Accepted, Refused}
+use Rattle.definitions.specs.Written.{Written, Length}
 use Rattle.agreement.specs.Meaning.{OwnAnswer}
 use Rattle.agreement.specs.Answers.{RuleGives}
 use Rattle.agreement.proofs.Demand3.{rule_gives_exactly_own}

@@ -10,8 +10,7 @@ use mir.Syntax.{w32}
 use mir.Val.{SFits}
 use Rattle.definitions.specs.Numbers.{is_answer}
 use Rattle.definitions.specs.Run.{answer_at, reached_answer, refusal, answer_after, rule_answer}
-use Rattle.definitions.specs.declared.Verdict.{Verdict}
-use Rattle.definitions.specs.declared.Verdict.TheVariants.{Accepted, Refused}
+use Rattle.definitions.specs.Verdict.{Verdict, Accepted, Refused}
 use Rattle.laws.proofs.Classes.{refusal_no_answer}
 use Rattle.laws.proofs.ByteFiles.{Bytes}
 use Rattle.lent_rule.proofs.Narrow.{word_fits, computed_fits}

@@ -18,11 +18,10 @@ use Rattle.definitions.specs.Run as Run
 use Rattle.definitions.specs.Run.{answer_after, rule_answer}
 use Rattle.definitions.specs.AnswerRecord.{answer_kind, answer_words, answer_bytes}
 use Rattle.definitions.specs.DriverView.{view_bytes, is_answer_record, view_verdict}
-use Rattle.definitions.specs.declared.Verdict.{Verdict}
-use Rattle.definitions.specs.declared.Verdict.TheVariants as verdicts
-use Rattle.definitions.specs.declared.Verdict.TheVariants.{Accepted}
-use Rattle.definitions.specs.declared.Written.{Written}
-use Rattle.definitions.specs.declared.Written.TheVariants.{Length, Refused}
+use Rattle.definitions.specs.Verdict.{Verdict}
+use Rattle.definitions.specs.Verdict as verdicts
+use Rattle.definitions.specs.Verdict.{Accepted}
+use Rattle.definitions.specs.Written.{Written, Length, Refused}
 use Rattle.laws.proofs.ByteFiles.{Bytes}
 use Rattle.answer.proofs.Records.{answer_length}
 use Rattle.driver_view.specs.Promise.{WritesView}

@@ -10,7 +10,7 @@ use lib.ListN.{length, take}
 use Rattle.definitions.specs.Numbers.{is_answer}
 use Rattle.definitions.specs.PlainCells.{plain_evaluation}
 use Rattle.definitions.specs.Run.{reached_answer, rule_end, rule_answer}
-use Rattle.definitions.specs.declared.Written.TheVariants.{Length}
+use Rattle.definitions.specs.Written.{Length}
 use Rattle.actual_visits.specs.Distinct.{Distinct}
 use Rattle.given_back.specs.SerialCells.{ActualVisit}
 use Rattle.given_back.specs.ListedVisits.{forgetting, listed_end, actual_visits, cells_made}

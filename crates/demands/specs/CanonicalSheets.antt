@@ -2,8 +2,8 @@
 use Rattle.std.specs.Prelude.{◌≡◌, ℕ, List, length, take}
 use Rattle.definitions.specs.Checks.{sheet_verdict}
 use Rattle.definitions.specs.CanonicalSheet.{bodies, sections, canonical}
-use Rattle.definitions.specs.declared.Verdict.TheVariants.{Accepted}
-use Rattle.definitions.specs.declared.Written.{Written}
+use Rattle.definitions.specs.Verdict.{Accepted}
+use Rattle.definitions.specs.Written.{Written}
 use Rattle.zifnora_c.specs.Codes.{code_value}
 use Rattle.demands.specs.Demands.{WritingMet}
 use Rattle.demands.specs.InC.{WritingMetInC}

@@ -2,10 +2,9 @@
 use Rattle.std.specs.Prelude.{◌≡◌, ℕ, List, true, ℤ, length, take}
 use Rattle.definitions.specs.Checks.{sheet_verdict}
 use Rattle.definitions.specs.Translate.{translation}
-use Rattle.definitions.specs.declared.Verdict.TheVariants.{Accepted}
+use Rattle.definitions.specs.Verdict.{Accepted}
 use Rattle.definitions.specs.Run.{Answer, rule_answer, rule_cells, refusal}
-use Rattle.definitions.specs.declared.Written.{Written}
-use Rattle.definitions.specs.declared.Written.TheVariants.{Length, Refused}
+use Rattle.definitions.specs.Written.{Written, Length, Refused}
 use Rattle.definitions.specs.Numbers.{is_refusal, is_answer, is_stop}
 
 -- bytes that were handed over: the sheet is accepted, and they are its translation

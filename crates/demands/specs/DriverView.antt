@@ -9,7 +9,7 @@ use Rattle.definitions.specs.Outcomes.{Outcome}
 use Rattle.definitions.specs.Run.{Answer}
 use Rattle.definitions.specs.AnswerRecord.{answer_kind}
 use Rattle.definitions.specs.DriverView.{number_view, view_bytes}
-use Rattle.definitions.specs.declared.Written.{Written}
+use Rattle.definitions.specs.Written.{Written}
 use Rattle.demands.specs.Demands.{WritingMet}
 use Rattle.demands.specs.InC.{WritingMetInC}
 

@@ -8,8 +8,7 @@ use Rattle.definitions.specs.Layouts.{readings}
 use Rattle.definitions.specs.Outcomes.{number_outcome}
 use Rattle.definitions.specs.Run.{allowances_fit}
 use Rattle.definitions.specs.ReadingSearch.{Query, value_at, value_count}
-use Rattle.definitions.specs.declared.Searched.{Searched}
-use Rattle.definitions.specs.declared.Searched.TheVariants.{Found, NoValue, Refused}
+use Rattle.definitions.specs.Searched.{Searched, Found, NoValue, Refused}
 use Rattle.agreement.specs.Answers.{answer_outcome}
 use Rattle.answer.specs.declared.Answer.{Answer}
 use Rattle.answer.specs.Answers.{answer_of}

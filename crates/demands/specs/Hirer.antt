@@ -7,7 +7,7 @@ use Rattle.definitions.specs.TranslationNodes.{reading, translation_node_of}
 use Rattle.definitions.specs.Checks.{translation_verdict}
 use Rattle.definitions.specs.Run.{allowances_fit}
 use Rattle.definitions.specs.Hirer.{reading_allowed, closed_verdict}
-use Rattle.definitions.specs.declared.Verdict.{Verdict}
+use Rattle.definitions.specs.Verdict.{Verdict}
 
 -- "any reading node outside the set": node k of a translation is one
 pub record Outside (b : List ℕ) (set k : ℕ) : Type 0 where

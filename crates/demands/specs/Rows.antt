@@ -6,7 +6,7 @@ use Rattle.definitions.specs.Outcomes.{Outcome}
 use Rattle.definitions.specs.Run.{rule_answer, rule_cells}
 use Rattle.definitions.specs.AnswerRecord.{answer_bytes, recorded}
 use Rattle.definitions.specs.RunsInTurn.{row_of, cells_in_turn}
-use Rattle.definitions.specs.declared.Written.{Written}
+use Rattle.definitions.specs.Written.{Written}
 use Rattle.demands.specs.Demands.{WritingMet}
 use Rattle.demands.specs.InC.{WritingMetInC}
 

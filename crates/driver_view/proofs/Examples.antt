@@ -10,7 +10,7 @@ use Rattle.definitions.specs.Verdicts.{◌and_then◌, require}
 use Rattle.definitions.specs.Operators.{residue}
 use Rattle.definitions.specs.AnswerRecord.{answer_words, answer_bytes, recorded}
 use Rattle.definitions.specs.DriverView.{view_words, view_bytes, is_answer_record, view_verdict}
-use Rattle.definitions.specs.declared.Verdict.TheVariants.{Accepted, Refused}
+use Rattle.definitions.specs.Verdict.{Accepted, Refused}
 
 -- the record of an outcome and a value, after 11 steps with 1 cell, with a node and a context besides
 abbrev record_bytes : ℕ → ℤ → List ℕ

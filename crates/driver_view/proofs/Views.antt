@@ -17,9 +17,8 @@ use Rattle.definitions.specs.Operators.{residue}
 use Rattle.definitions.specs.Output.{written_of, output_of}
 use Rattle.definitions.specs.AnswerRecord.{answer_kind, recorded}
 use Rattle.definitions.specs.DriverView.{number_view, empty_view, view_words, view_bytes, is_answer_record, view_verdict}
-use Rattle.definitions.specs.declared.Verdict.{Verdict}
-use Rattle.definitions.specs.declared.Verdict.TheVariants.{Accepted, Refused}
-use Rattle.definitions.specs.declared.Written.TheVariants as written
+use Rattle.definitions.specs.Verdict.{Verdict, Accepted, Refused}
+use Rattle.definitions.specs.Written as written
 use Rattle.laws.proofs.Stores.{over_front}
 use Rattle.laws.proofs.Verdicts.{both_accepted, required}
 use Rattle.operators.proofs.Residues.{residue_read}

@@ -3,7 +3,7 @@ use Rattle.std.specs.Prelude.{◌≡◌, ℕ, List, length}
 use Rattle.definitions.specs.Sizes.{view_size}
 use Rattle.definitions.specs.Output.{written_of, output_of}
 use Rattle.definitions.specs.DriverView.{view_bytes, view_verdict}
-use Rattle.definitions.specs.declared.Written.{Written}
+use Rattle.definitions.specs.Written.{Written}
 
 pub record WritesView (b out : List ℕ) (r : Written) (out' : List ℕ) : Type 0 where
   pub answer : r ≡ written_of (view_verdict b (length out)) view_size

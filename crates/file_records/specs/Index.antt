@@ -5,7 +5,7 @@ use Rattle.definitions.specs.Records.{start_of}
 use Rattle.definitions.specs.Layouts.{due}
 use Rattle.definitions.specs.Shape.{file_shape}
 use Rattle.definitions.specs.declared.Layout.{Layout}
-use Rattle.definitions.specs.declared.Verdict.TheVariants.{Accepted}
+use Rattle.definitions.specs.Verdict.{Accepted}
 
 -- entry r of an index; 0 past its end
 unfoldable pub start_in : List ℕ → ℕ → ℕ

@@ -18,7 +18,7 @@ use Rattle.definitions.specs.Layouts.{functions, nodes, first_function, due, cou
 use Rattle.definitions.specs.Shape.{file_shape}
 use Rattle.definitions.specs.declared.Layout.{Layout}
 use Rattle.definitions.specs.declared.Layout.TheVariants.{Sheet, Translation}
-use Rattle.definitions.specs.declared.Verdict.TheVariants.{Accepted}
+use Rattle.definitions.specs.Verdict.{Accepted}
 use Rattle.laws.proofs.Lists.{below_suc}
 use Rattle.laws.proofs.Runs.{Totalled, total_none, total_more, total_counts}
 use Rattle.accepted.proofs.Head.{functions_limit, functions_least, nodes_limit}

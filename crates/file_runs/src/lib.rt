@@ -6,7 +6,7 @@ ghost use Rattle.file_runs.specs.Runs.{RunEndTable, Owners, owner_after};
 ghost use Rattle.std.specs.Prelude.{◌<◌, ◌≡◌, length};
 ghost use Rattle.definitions.specs.Shape.{file_shape};
 ghost use Rattle.definitions.specs.declared.Layout.TheVariants.{Sheet};
-ghost use Rattle.definitions.specs.declared.Verdict.TheVariants.{Accepted};
+ghost use Rattle.definitions.specs.Verdict.{Accepted};
 ghost use Rattle.definitions.specs.Sizes.{most_functions, most_nodes};
 
 use definitions::Layout;

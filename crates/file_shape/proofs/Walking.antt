@@ -18,8 +18,7 @@ use Rattle.definitions.specs.Layouts.{due}
 use Rattle.definitions.specs.Shape.{file_limit, shape, shape_at, file_shape}
 use Rattle.definitions.specs.declared.Layout.{Layout}
 use Rattle.definitions.specs.declared.Layout.TheVariants.{Sheet, Translation}
-use Rattle.definitions.specs.declared.Verdict.{Verdict}
-use Rattle.definitions.specs.declared.Verdict.TheVariants.{Accepted, Refused}
+use Rattle.definitions.specs.Verdict.{Verdict, Accepted, Refused}
 use Rattle.definitions.specs.Verdicts.{require}
 use Rattle.laws.proofs.Lists.{below_suc}
 use Rattle.laws.proofs.Records.{start_zero, start_next, next_whole, whole_inside}

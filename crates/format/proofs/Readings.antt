@@ -13,8 +13,7 @@ use Rattle.definitions.specs.Types.{typing, types}
 use Rattle.definitions.specs.Checks.{checks_to_six, sheet_verdict, translation_verdict}
 use Rattle.definitions.specs.declared.Layout.{Layout}
 use Rattle.definitions.specs.declared.Layout.TheVariants.{Sheet, Translation}
-use Rattle.definitions.specs.declared.Verdict.{Verdict}
-use Rattle.definitions.specs.declared.Verdict.TheVariants.{Accepted, Refused}
+use Rattle.definitions.specs.Verdict.{Verdict, Accepted, Refused}
 use Rattle.laws.proofs.Verdicts.{then_accepted, then_refused}
 use Rattle.accepted.proofs.Head.{nodes_limit}
 use Rattle.sheet_rules.specs.Seen.{times_in, Seen, TimesOf, ParentsOf, TreesAccepted}

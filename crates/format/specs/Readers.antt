@@ -4,8 +4,7 @@ use Rattle.definitions.specs.Sizes.{most_records, most_functions, most_nodes}
 use Rattle.definitions.specs.Layouts.{due}
 use Rattle.definitions.specs.Checks.{sheet_verdict, translation_verdict}
 use Rattle.definitions.specs.declared.Layout.TheVariants.{Sheet, Translation}
-use Rattle.definitions.specs.declared.Verdict.{Verdict}
-use Rattle.definitions.specs.declared.Verdict.TheVariants.{Accepted}
+use Rattle.definitions.specs.Verdict.{Verdict, Accepted}
 use Rattle.file_records.specs.Index.{Indexed}
 use Rattle.file_runs.specs.Runs.{RunEndTable, Owners}
 

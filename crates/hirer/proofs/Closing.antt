@@ -13,7 +13,7 @@ use Rattle.definitions.specs.Records.{kind_of, field}
 use Rattle.definitions.specs.Layouts.{nodes, first_node, node_record}
 use Rattle.definitions.specs.Hirer.{reading_allowed, node_allowed, closed_at, closed_verdict}
 use Rattle.definitions.specs.declared.Layout.TheVariants.{Translation}
-use Rattle.definitions.specs.declared.Verdict.TheVariants.{Accepted, Refused}
+use Rattle.definitions.specs.Verdict.{Accepted, Refused}
 use Rattle.laws.proofs.Verdicts.{require_true, require_false, Passed, passed_more, passed_refused, passed_all}
 use Rattle.accepted.proofs.Head.{readings_limit, nodes_limit}
 use Rattle.accepted.proofs.Checks.{translation_shape}

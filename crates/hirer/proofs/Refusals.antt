@@ -12,8 +12,7 @@ use Rattle.definitions.specs.Layouts.{readings}
 use Rattle.definitions.specs.Checks.{translation_verdict}
 use Rattle.definitions.specs.Run.{refusal, run_verdict, answer_after, bytes_after}
 use Rattle.definitions.specs.Hirer.{closed_verdict, hirer_verdict, hirer_answer, hirer_cells}
-use Rattle.definitions.specs.declared.Verdict.{Verdict}
-use Rattle.definitions.specs.declared.Verdict.TheVariants.{Accepted, Refused}
+use Rattle.definitions.specs.Verdict.{Verdict, Accepted, Refused}
 use Rattle.laws.proofs.Verdicts.{then_refused, both_accepted}
 use Rattle.answer.specs.declared.Answer.{Answer}
 use Rattle.answer.specs.Answers.{answer_of}

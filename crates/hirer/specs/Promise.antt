@@ -1,7 +1,7 @@
 -- What the hirer's run promises (document 02, request 5): the answer, and the lent cells at exit.
 use Rattle.std.specs.Prelude.{◌≡◌, ℕ, List, ℤ, length}
 use Rattle.definitions.specs.Hirer.{hirer_verdict, hirer_answer, hirer_cells}
-use Rattle.definitions.specs.declared.Verdict.TheVariants.{Accepted}
+use Rattle.definitions.specs.Verdict.{Accepted}
 use Rattle.answer.specs.declared.Answer.{Answer}
 use Rattle.answer.specs.Answers.{answer_of}
 use Rattle.run.specs.Promise.{Runs}

@@ -13,7 +13,7 @@ use Rattle.definitions.specs.Layouts.{functions, items, first_function}
 use Rattle.definitions.specs.References.{parameters, arity, names_in_range, references}
 use Rattle.definitions.specs.SheetRules.{arguments_match, arguments}
 use Rattle.definitions.specs.declared.Layout.TheVariants.{Sheet}
-use Rattle.definitions.specs.declared.Verdict.TheVariants.{Accepted, Refused}
+use Rattle.definitions.specs.Verdict.{Accepted, Refused}
 use Rattle.laws.proofs.Verdicts.{then_accepted, then_refused, require_true, require_false}
 
 -- what names in range say of a call and of a build

@@ -15,7 +15,7 @@ use Rattle.definitions.specs.Verdicts.{require}
 use Rattle.definitions.specs.Layouts.{is_typed, readings, items, functions, nodes, first_node, constructor_kind, function_kind, section_kind, is_due, owner_of}
 use Rattle.definitions.specs.References.{parameters, children, child, clauses, clause_constructor, names_in_range, in_range, references}
 use Rattle.definitions.specs.declared.Layout.TheVariants.{Sheet, Translation}
-use Rattle.definitions.specs.declared.Verdict.TheVariants.{Accepted, Refused}
+use Rattle.definitions.specs.Verdict.{Accepted, Refused}
 
 -- the kinds of the two files lie apart
 module _ (b : List ℕ) (r k : ℕ) where

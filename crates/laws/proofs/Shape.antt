@@ -25,7 +25,7 @@ use Rattle.definitions.specs.Ranges.{within}
 use Rattle.laws.proofs.Ranges.{within_both, within_below, within_above}
 use Rattle.definitions.specs.declared.Layout.{Layout}
 use Rattle.definitions.specs.declared.Layout.TheVariants.{Sheet, Translation}
-use Rattle.definitions.specs.declared.Verdict.TheVariants.{Accepted, Refused}
+use Rattle.definitions.specs.Verdict.{Accepted, Refused}
 
 -- the first item and the first function, by layout
 pub item_of_sheet : (y : Layout) (b : List ℕ) → y ≡ Sheet → 1 ≡ first_item y b

@@ -7,8 +7,7 @@ use native.Mathlib.Numerals.{add-one}
 use native.Mathlib.Nat.{not-suc-le-zero, zero-add, suc-add}
 use Rattle.laws.proofs.Lists.{below_suc}
 use Rattle.definitions.specs.Verdicts.{◌and_then◌, require, first_of}
-use Rattle.definitions.specs.declared.Verdict.{Verdict}
-use Rattle.definitions.specs.declared.Verdict.TheVariants.{Accepted, Refused}
+use Rattle.definitions.specs.Verdict.{Verdict, Accepted, Refused}
 
 -- joined rules are accepted when both are, and a refusal hides what follows
 pub then_accepted : (v w : Verdict) → v ≡ Accepted → (v and_then w) ≡ w

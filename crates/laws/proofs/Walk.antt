@@ -15,7 +15,7 @@ use Rattle.definitions.specs.Sizes.{most_readings, most_functions, most_nodes, m
 use Rattle.laws.proofs.Ranges.{within_by}
 use Rattle.definitions.specs.declared.Layout.{Layout}
 use Rattle.definitions.specs.declared.Layout.TheVariants.{Sheet, Translation}
-use Rattle.definitions.specs.declared.Verdict.TheVariants.{Accepted}
+use Rattle.definitions.specs.Verdict.{Accepted}
 use Rattle.laws.proofs.Records.{is_whole}
 use Rattle.laws.proofs.KindRows.{allowed_least}
 use Rattle.laws.proofs.Verdicts.{both_accepted, required}

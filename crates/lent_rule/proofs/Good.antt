@@ -8,7 +8,7 @@ use Rattle.definitions.specs.Layouts.{nodes}
 use Rattle.definitions.specs.Checks.{translation_verdict}
 use Rattle.definitions.specs.Rule.{Ending, State, Reached, visited}
 use Rattle.definitions.specs.LiveCells.{LiveCells}
-use Rattle.definitions.specs.declared.Verdict.TheVariants.{Accepted}
+use Rattle.definitions.specs.Verdict.{Accepted}
 use Rattle.laws.proofs.ByteFiles.{Bytes}
 use Rattle.rule_laws.specs.SideBySide.{AlikeEnds, integers, constructors, ends, Both, cut, arrive}
 use Rattle.lent_rule.specs.Lent.{Lent, by_lent}

@@ -15,7 +15,7 @@ use Rattle.definitions.specs.Rule.{Value, integer, constructor, Ending, value, S
 use Rattle.definitions.specs.Cells.{Entry, Cell, new_cell, with_entry, with_value}
 use Rattle.definitions.specs.LiveCells.{LiveCells, keeping_live, written, with_live_cell, closing, by_live_cells}
 use Rattle.definitions.specs.declared.Layout.TheVariants.{Translation}
-use Rattle.definitions.specs.declared.Verdict.TheVariants.{Accepted}
+use Rattle.definitions.specs.Verdict.{Accepted}
 use Rattle.laws.proofs.ByteFiles.{Bytes}
 use Rattle.laws.proofs.Cells.{each_changed, each_entry, value_length, new_empty}
 use Rattle.laws.proofs.CellBytes.{FullCells}

@@ -22,7 +22,7 @@ use Rattle.definitions.specs.Cells.{Entry, Cell, new_cell, cell_of, remembered, 
 use Rattle.definitions.specs.LiveCells.{LiveCells, keeping_live, formal_by_live_cells, with_live_cell, closing, closed, call_by_live_cells, by_live_cells}
 use Rattle.definitions.specs.Run.{cells_over}
 use Rattle.definitions.specs.declared.Layout.TheVariants.{Translation}
-use Rattle.definitions.specs.declared.Verdict.TheVariants.{Accepted}
+use Rattle.definitions.specs.Verdict.{Accepted}
 use Rattle.laws.proofs.ByteFiles.{Bytes}
 use Rattle.laws.proofs.Cells.{value_length}
 use Rattle.laws.proofs.Written.{written_length}

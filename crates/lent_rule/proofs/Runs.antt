@@ -14,7 +14,7 @@ use Rattle.definitions.specs.LiveCells.{LiveCells, no_live_cells, live_evaluatio
 use Rattle.definitions.specs.CellBytes.{cell_bytes}
 use Rattle.definitions.specs.Run.{cells_over, rule_end}
 use Rattle.definitions.specs.declared.Layout.TheVariants.{Translation}
-use Rattle.definitions.specs.declared.Verdict.TheVariants.{Accepted}
+use Rattle.definitions.specs.Verdict.{Accepted}
 use Rattle.laws.proofs.ByteFiles.{Bytes}
 use Rattle.accepted.proofs.Head.{functions_least}
 use Rattle.accepted.proofs.Owners.{body_below}

@@ -11,7 +11,7 @@ use Rattle.definitions.specs.NodeFields.{Clause, chosen, fields_from}
 use Rattle.definitions.specs.TranslationKinds as kinds
 use Rattle.definitions.specs.TranslationNodes.{conditional, tuple, case_of, translation_node_of, tag_of, tuple_fields}
 use Rattle.definitions.specs.Checks.{translation_verdict}
-use Rattle.definitions.specs.declared.Verdict.TheVariants.{Accepted}
+use Rattle.definitions.specs.Verdict.{Accepted}
 use Rattle.accepted.specs.Mention as Mention
 use Rattle.accepted.proofs.TranslationRecords.{TranslationRecord, is_tuple, translation_node_is}
 use Rattle.accepted.proofs.Checks.{translation_shape}

@@ -18,7 +18,7 @@ use Rattle.definitions.specs.Checks.{sheet_verdict, translation_verdict}
 use Rattle.definitions.specs.Labels.{Labelling}
 use Rattle.definitions.specs.Translate.{formal_of, formals, translation_by}
 use Rattle.definitions.specs.declared.Layout.TheVariants.{Translation}
-use Rattle.definitions.specs.declared.Verdict.TheVariants.{Accepted}
+use Rattle.definitions.specs.Verdict.{Accepted}
 use Rattle.laws.proofs.Verdicts.{then_accepted, require_true, first_all}
 use Rattle.readback.proofs.Records.{translation_items, translation_functions, translation_nodes, translation_filled}
 use Rattle.readback.proofs.Totals.{sum_reached}

@@ -16,7 +16,7 @@ use Rattle.definitions.specs.Checks.{sheet_verdict}
 use Rattle.definitions.specs.Labels.{Labelling, label_of, actuals}
 use Rattle.definitions.specs.Translate.{formal_of, formals, clause_words}
 use Rattle.definitions.specs.declared.Layout.TheVariants.{Sheet}
-use Rattle.definitions.specs.declared.Verdict.TheVariants.{Accepted}
+use Rattle.definitions.specs.Verdict.{Accepted}
 use Rattle.accepted.specs.Child.{Child, left, right, condition, if_nonzero, if_zero, component, scrutinee, clause}
 use Rattle.accepted.proofs.Sums.{sum_term, sum_limit}
 use Rattle.accepted.proofs.Head.{readings_limit, items_limit, functions_limit, nodes_limit}

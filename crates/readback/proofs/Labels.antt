@@ -18,7 +18,7 @@ use Rattle.definitions.specs.NodeFields.{fields_from}
 use Rattle.definitions.specs.SheetNodes.{call, sheet_node, sheet_node_of}
 use Rattle.definitions.specs.Checks.{sheet_verdict}
 use Rattle.definitions.specs.Labels.{Labelling, calls, first_call, is_first, label_of, actuals}
-use Rattle.definitions.specs.declared.Verdict.TheVariants.{Accepted}
+use Rattle.definitions.specs.Verdict.{Accepted}
 use Rattle.accepted.specs.Child.{argument}
 use Rattle.accepted.proofs.Counts.{count_limit}
 use Rattle.accepted.proofs.Elements.{element_there}

@@ -19,7 +19,7 @@ use Rattle.definitions.specs.Checks.{sheet_verdict}
 use Rattle.definitions.specs.Labels.{Labelling, label_of, actuals}
 use Rattle.definitions.specs.Translate.{record_words, formal_of, clause_words, function_words, translation_by}
 use Rattle.definitions.specs.declared.Layout.TheVariants.{Sheet, Translation}
-use Rattle.definitions.specs.declared.Verdict.TheVariants.{Accepted}
+use Rattle.definitions.specs.Verdict.{Accepted}
 use Rattle.accepted.proofs.Sums.{sum_same}
 use Rattle.accepted.proofs.SheetRecords.{SheetRecord, is_number, node_is}
 use Rattle.accepted.proofs.Checks.{sheet_shape}

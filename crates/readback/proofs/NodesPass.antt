@@ -22,7 +22,7 @@ use Rattle.definitions.specs.Checks.{sheet_verdict}
 use Rattle.definitions.specs.Labels.{Labelling, label_of}
 use Rattle.definitions.specs.Translate.{record_words, formal_of, formals, clause_words, translation_by}
 use Rattle.definitions.specs.declared.Layout.TheVariants.{Sheet, Translation}
-use Rattle.definitions.specs.declared.Verdict.TheVariants.{Accepted}
+use Rattle.definitions.specs.Verdict.{Accepted}
 use Rattle.laws.proofs.Ranges.{within_both}
 use Rattle.laws.proofs.Shape.{due_node, counts_other}
 use Rattle.accepted.specs.Child.{Child, left, right, condition, if_nonzero, if_zero, component, scrutinee, clause}

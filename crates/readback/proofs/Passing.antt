@@ -17,7 +17,7 @@ use Rattle.definitions.specs.Shape.{operator_code, counts, shape}
 use Rattle.definitions.specs.References.{from_first, from_second, every_other, child_count, children, child, names_in_range, in_range, references}
 use Rattle.definitions.specs.Translate.{record_words}
 use Rattle.definitions.specs.declared.Layout.TheVariants.{Translation}
-use Rattle.definitions.specs.declared.Verdict.TheVariants.{Accepted}
+use Rattle.definitions.specs.Verdict.{Accepted}
 use Rattle.laws.proofs.Lists.{all_pass}
 use Rattle.laws.proofs.Records.{whole_is, record_none, record_length_law, record_word}
 use Rattle.laws.proofs.Verdicts.{require_true}

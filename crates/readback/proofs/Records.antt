@@ -16,7 +16,7 @@ use Rattle.definitions.specs.Checks.{sheet_verdict}
 use Rattle.definitions.specs.Labels.{Labelling, actuals}
 use Rattle.definitions.specs.Translate.{record_words, formal_of, formals, translated, head_words, function_words, formal_words, node_words, translation_words, translation_by}
 use Rattle.definitions.specs.declared.Layout.TheVariants.{Sheet, Translation}
-use Rattle.definitions.specs.declared.Verdict.TheVariants.{Accepted}
+use Rattle.definitions.specs.Verdict.{Accepted}
 use Rattle.accepted.proofs.Head.{readings_limit, functions_limit, nodes_limit}
 use Rattle.accepted.proofs.Checks.{sheet_shape}
 use Rattle.readback.specs.TranslatedNode.{translated_kind, translated_fields}

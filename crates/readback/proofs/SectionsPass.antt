@@ -20,7 +20,7 @@ use Rattle.definitions.specs.Checks.{sheet_verdict}
 use Rattle.definitions.specs.Labels.{Labelling, actuals}
 use Rattle.definitions.specs.Translate.{record_words, formal_of, formals, head_words, function_words, translation_by}
 use Rattle.definitions.specs.declared.Layout.TheVariants.{Sheet, Translation}
-use Rattle.definitions.specs.declared.Verdict.TheVariants.{Accepted}
+use Rattle.definitions.specs.Verdict.{Accepted}
 use Rattle.laws.proofs.Ranges.{within_both}
 use Rattle.laws.proofs.Shape.{due_section, section_function, section_formal, counts_run, counts_other}
 use Rattle.accepted.proofs.Sums.{sum_same}

@@ -23,7 +23,7 @@ use Rattle.definitions.specs.Checks.{sheet_verdict}
 use Rattle.definitions.specs.Labels.{Labelling, calls, first_call, is_first, actuals}
 use Rattle.definitions.specs.Translate.{formals, head_words, function_words, formal_words, node_words, translation_words, translation_by}
 use Rattle.definitions.specs.declared.Layout.TheVariants.{Sheet}
-use Rattle.definitions.specs.declared.Verdict.TheVariants.{Accepted}
+use Rattle.definitions.specs.Verdict.{Accepted}
 use Rattle.laws.proofs.Lists.{listed_length}
 use Rattle.accepted.proofs.Sums.{sum_term, sum_same}
 use Rattle.accepted.proofs.Head.{nodes_limit}

@@ -16,7 +16,7 @@ use Rattle.definitions.specs.TranslationNodes.{actual}
 use Rattle.definitions.specs.Checks.{sheet_verdict}
 use Rattle.definitions.specs.Labels.{never_shared, calls, first_call, is_first, label_of, actuals}
 use Rattle.definitions.specs.Translate.{formal_of, translation_by}
-use Rattle.definitions.specs.declared.Verdict.TheVariants.{Accepted}
+use Rattle.definitions.specs.Verdict.{Accepted}
 use Rattle.accepted.proofs.Elements.{element_below}
 use Rattle.accepted.proofs.SheetRecords.{node_is}
 use Rattle.accepted.proofs.Checks.{sheet_shape}

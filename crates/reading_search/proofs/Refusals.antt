@@ -15,10 +15,9 @@ use Rattle.definitions.specs.Checks.{translation_verdict}
 use Rattle.definitions.specs.Verdicts.{◌and_then◌, require}
 use Rattle.definitions.specs.Run.{allowances_fit, run_verdict, bytes_after}
 use Rattle.definitions.specs.ReadingSearch.{Query, value_count, range_fits, search_verdict, searched_after, search_answer, search_cells}
-use Rattle.definitions.specs.declared.Verdict.{Verdict}
-use Rattle.definitions.specs.declared.Verdict.TheVariants.{Accepted, Refused}
-use Rattle.definitions.specs.declared.Searched.{Searched}
-use Rattle.definitions.specs.declared.Searched.TheVariants as searched
+use Rattle.definitions.specs.Verdict.{Verdict, Accepted, Refused}
+use Rattle.definitions.specs.Searched.{Searched}
+use Rattle.definitions.specs.Searched as searched
 use Rattle.laws.proofs.Verdicts.{both_accepted, required}
 use Rattle.laws.proofs.Ranges.{within_by, within_below, within_above}
 use Rattle.run.specs.NodeTable.{FileRead}

@@ -20,7 +20,7 @@ use Rattle.definitions.specs.Rule as Rule
 use Rattle.definitions.specs.Run.{rule_cells}
 use Rattle.definitions.specs.RunsInTurn.{cells_in_turn}
 use Rattle.definitions.specs.ReadingSearch.{Query, value_at, value_count, readings_tried, ends_in, run_finds, first_finding, searched_by, runs_made}
-use Rattle.definitions.specs.declared.Searched.TheVariants.{Found, NoValue}
+use Rattle.definitions.specs.Searched.{Found, NoValue}
 use Rattle.laws.proofs.Lists.{below_suc}
 use Rattle.laws.proofs.FirstPassing.{First, first_found}
 use Rattle.operators.proofs.Answers.{equal_bits}

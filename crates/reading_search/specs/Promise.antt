@@ -5,8 +5,8 @@ use Rattle.definitions.specs.Verdicts.{◌and_then◌, require}
 use Rattle.definitions.specs.Layouts.{readings}
 use Rattle.definitions.specs.Run.{allowances_fit}
 use Rattle.definitions.specs.ReadingSearch.{Query, range_fits, search_answer, search_cells}
-use Rattle.definitions.specs.declared.Verdict.{Verdict}
-use Rattle.definitions.specs.declared.Searched.{Searched}
+use Rattle.definitions.specs.Verdict.{Verdict}
+use Rattle.definitions.specs.Searched.{Searched}
 
 -- what an accepted file is refused for, for so many readings given and cell bytes lent
 unfoldable pub search_checks : List ℕ → ℕ → ℕ → ℤ → ℤ → ℕ → ℕ → ℕ → Verdict

@@ -5,7 +5,7 @@ use Rattle.definitions.specs.Layouts.{readings}
 use Rattle.definitions.specs.Run.{allowances_fit, rule_end, rule_cells}
 use Rattle.definitions.specs.RunsInTurn.{cells_in_turn}
 use Rattle.definitions.specs.ReadingSearch.{Query, value_count, readings_tried, ends_in, first_finding, searched_by, runs_made}
-use Rattle.definitions.specs.declared.Searched.{Searched}
+use Rattle.definitions.specs.Searched.{Searched}
 use Rattle.run.specs.NodeTable.{readings_held, Readable}
 
 -- a reading that may be tried in a table, with allowances that fit the lent cells

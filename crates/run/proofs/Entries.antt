@@ -18,7 +18,7 @@ use Rattle.definitions.specs.Operators.{residue}
 use Rattle.definitions.specs.Layouts.{items, functions, nodes, first_node, due, node_record, body_of}
 use Rattle.definitions.specs.Shape.{file_shape}
 use Rattle.definitions.specs.declared.Layout.TheVariants.{Translation}
-use Rattle.definitions.specs.declared.Verdict.TheVariants.{Accepted}
+use Rattle.definitions.specs.Verdict.{Accepted}
 use Rattle.laws.proofs.Records.{whole_is, record_length_law, record_word}
 use Rattle.accepted.proofs.Head.{items_limit, nodes_limit}
 use Rattle.accepted.proofs.Records.{within_limit, record_whole, record_fields}

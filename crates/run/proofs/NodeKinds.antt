@@ -12,7 +12,7 @@ use Rattle.definitions.specs.Layouts.{nodes, node_record}
 use Rattle.definitions.specs.TranslationNodes.{number, reading, formal, select, operator, conditional, call, tuple, case_of, translation_node, translation_node_of}
 use Rattle.definitions.specs.Checks.{translation_verdict}
 use Rattle.definitions.specs.declared.Layout.TheVariants.{Translation}
-use Rattle.definitions.specs.declared.Verdict.TheVariants.{Accepted}
+use Rattle.definitions.specs.Verdict.{Accepted}
 use Rattle.accepted.proofs.Checks.{translation_shape}
 use Rattle.accepted.proofs.Sections.{node_kind_law}
 use Rattle.run.specs.States.{NodeIs}

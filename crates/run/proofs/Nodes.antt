@@ -18,7 +18,7 @@ use Rattle.definitions.specs.TranslationNodes.{actual, tuple_fields}
 use Rattle.definitions.specs.Checks.{translation_verdict}
 use Rattle.definitions.specs.Rule.{reach}
 use Rattle.definitions.specs.declared.Layout.TheVariants.{Translation}
-use Rattle.definitions.specs.declared.Verdict.TheVariants.{Accepted}
+use Rattle.definitions.specs.Verdict.{Accepted}
 use Rattle.accepted.proofs.Owners.{body_below}
 use Rattle.accepted.proofs.Checks.{translation_shape}
 use Rattle.accepted.proofs.TranslationNames.{formal_below, translation_call_below, actual_below}

@@ -14,7 +14,7 @@ use Rattle.definitions.specs.Layouts.{items, functions, parameter_count, due}
 use Rattle.definitions.specs.Records.{record_at, field}
 use Rattle.definitions.specs.Checks.{translation_verdict}
 use Rattle.definitions.specs.declared.Layout.TheVariants.{Translation}
-use Rattle.definitions.specs.declared.Verdict.TheVariants.{Accepted}
+use Rattle.definitions.specs.Verdict.{Accepted}
 use Rattle.laws.proofs.Lists.{below_suc}
 use Rattle.accepted.proofs.Head.{functions_limit, items_limit}
 use Rattle.accepted.proofs.Sums.{sum_rises}

@@ -17,7 +17,7 @@ use Rattle.definitions.specs.Operators.{residue}
 use Rattle.definitions.specs.Layouts.{readings}
 use Rattle.definitions.specs.Checks.{translation_verdict}
 use Rattle.definitions.specs.declared.Layout.TheVariants.{Translation}
-use Rattle.definitions.specs.declared.Verdict.TheVariants.{Accepted}
+use Rattle.definitions.specs.Verdict.{Accepted}
 use Rattle.laws.proofs.Lists.{below_suc, listed_length, listed_at}
 use Rattle.laws.proofs.ByteFiles.{Bytes}
 use Rattle.accepted.proofs.Head.{nodes_limit, readings_limit}

@@ -4,7 +4,7 @@ use Rattle.definitions.specs.Sizes.{most_functions, most_formals, most_fields}
 use Rattle.definitions.specs.Layouts.{items, due}
 use Rattle.definitions.specs.FormalPlaces.{function_of, position_of}
 use Rattle.definitions.specs.Checks.{translation_verdict}
-use Rattle.definitions.specs.declared.Verdict.TheVariants.{Accepted}
+use Rattle.definitions.specs.Verdict.{Accepted}
 use Rattle.file_records.specs.Index.{Indexed}
 
 -- an accepted translation with its index

@@ -8,7 +8,7 @@ ghost use Rattle.definitions.specs.Layouts.{functions, nodes, due, body_of, node
 ghost use Rattle.definitions.specs.NodeFields.{chosen};
 ghost use Rattle.definitions.specs.Checks.{translation_verdict};
 ghost use Rattle.definitions.specs.declared.Layout.TheVariants.{Translation};
-ghost use Rattle.definitions.specs.declared.Verdict.TheVariants.{Accepted};
+ghost use Rattle.definitions.specs.Verdict.{Accepted};
 ghost use Rattle.file_records.specs.Index.{Indexed};
 ghost use Rattle.definitions.specs.Listing.{label_at, previous_at};
 ghost use Rattle.run.specs.States.{found_of, found_in, clauses_at, Ready};

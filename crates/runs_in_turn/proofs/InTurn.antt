@@ -13,8 +13,7 @@ use Rattle.definitions.specs.Verdicts.{◌and_then◌, require}
 use Rattle.definitions.specs.Checks.{translation_verdict}
 use Rattle.definitions.specs.Run.{allowances_fit, run_verdict, rule_answer, rule_cells, answer_after, bytes_after, run_answer, run_cells}
 use Rattle.definitions.specs.RunsInTurn.{cells_in_turn, answer_in_turn}
-use Rattle.definitions.specs.declared.Verdict.{Verdict}
-use Rattle.definitions.specs.declared.Verdict.TheVariants.{Accepted, Refused}
+use Rattle.definitions.specs.Verdict.{Verdict, Accepted, Refused}
 use Rattle.laws.proofs.Verdicts.{both_accepted, required}
 use Rattle.laws.proofs.CellBytes.{over_size}
 use Rattle.agreement.proofs.KnownEnds.{rule_cells_allowed, rule_cells_full}

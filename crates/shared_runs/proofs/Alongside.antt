@@ -14,7 +14,7 @@ use Rattle.definitions.specs.Translate.{formal_of}
 use Rattle.definitions.specs.Rule.{integer, constructor, State}
 use Rattle.definitions.specs.Cells.{Entry, Cell}
 use Rattle.definitions.specs.declared.Layout.TheVariants.{Sheet}
-use Rattle.definitions.specs.declared.Verdict.TheVariants.{Accepted}
+use Rattle.definitions.specs.Verdict.{Accepted}
 use Rattle.accepted.specs.Child.{Child, left, right, condition, if_nonzero, if_zero, scrutinee, clause}
 use Rattle.accepted.proofs.Names.{parameter_below}
 use Rattle.accepted.proofs.Checks.{trees_pass}

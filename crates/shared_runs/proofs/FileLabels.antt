@@ -23,7 +23,7 @@ use Rattle.definitions.specs.Checks.{sheet_verdict}
 use Rattle.definitions.specs.Trees.{equal_trees}
 use Rattle.definitions.specs.Labels.{calls, first_call, is_first, label_of, actuals}
 use Rattle.definitions.specs.Translate.{formal_of, translation}
-use Rattle.definitions.specs.declared.Verdict.TheVariants.{Accepted}
+use Rattle.definitions.specs.Verdict.{Accepted}
 use Rattle.accepted.proofs.Counts.{count_term, count_reached, count_found}
 use Rattle.accepted.proofs.Elements.{element_there}
 use Rattle.accepted.proofs.SheetRecords.{node_is}

@@ -16,7 +16,7 @@ use Rattle.definitions.specs.SheetNodes.{call, sheet_node_of}
 use Rattle.definitions.specs.Checks.{sheet_verdict}
 use Rattle.definitions.specs.Trees.{names_node, equal_trees}
 use Rattle.definitions.specs.Labels.{label_of}
-use Rattle.definitions.specs.declared.Verdict.TheVariants.{Accepted}
+use Rattle.definitions.specs.Verdict.{Accepted}
 use Rattle.laws.proofs.Lists.{listed_length}
 use Rattle.accepted.proofs.SheetRecords.{SheetRecord, is_call, node_is}
 use Rattle.accepted.proofs.Checks.{sheet_shape}

@@ -21,7 +21,7 @@ use Rattle.definitions.specs.Rule.{Ending, Reached, Visit, node_due, where_cell,
 use Rattle.definitions.specs.Cells.{Cell, new_cell, cell_of, entry_at, where_own, under_cell}
 use Rattle.definitions.specs.Run.{ending_outcome}
 use Rattle.definitions.specs.declared.Layout.TheVariants.{Sheet, Translation}
-use Rattle.definitions.specs.declared.Verdict.TheVariants.{Accepted}
+use Rattle.definitions.specs.Verdict.{Accepted}
 use Rattle.accepted.specs.Child.{argument, component}
 use Rattle.accepted.proofs.Elements.{element_there}
 use Rattle.accepted.proofs.Head.{functions_least}

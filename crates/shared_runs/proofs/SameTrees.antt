@@ -12,7 +12,7 @@ use Rattle.definitions.specs.NodeFields.{Clause, chosen}
 use Rattle.definitions.specs.SheetNodes.{SheetNode, call, sheet_node_of}
 use Rattle.definitions.specs.Checks.{sheet_verdict}
 use Rattle.definitions.specs.Trees.{same_tree, deepest}
-use Rattle.definitions.specs.declared.Verdict.TheVariants.{Accepted}
+use Rattle.definitions.specs.Verdict.{Accepted}
 use Rattle.trees.specs.SameNodes.{Pairs, no_pair, pair, ClausePairs, no_clause_law, clause_pair, SameNode, same_call}
 use Rattle.trees.proofs.Heads.{heads, heads_map, no_tree, tree_swap, tree_then, tree_rises}
 use Rattle.trees.proofs.KindByKind.{kind_by_kind}

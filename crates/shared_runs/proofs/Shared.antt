@@ -19,8 +19,7 @@ use Rattle.definitions.specs.Rule.{Reached}
 use Rattle.definitions.specs.LiveCells.{LiveCells}
 use Rattle.definitions.specs.Run.{ending_outcome, answer_at, reached_answer, rule_end, rule_answer, run_verdict, answer_after, run_answer}
 use Rattle.definitions.specs.declared.Layout.TheVariants.{Sheet}
-use Rattle.definitions.specs.declared.Verdict.{Verdict}
-use Rattle.definitions.specs.declared.Verdict.TheVariants.{Accepted, Refused}
+use Rattle.definitions.specs.Verdict.{Verdict, Accepted, Refused}
 use Rattle.accepted.proofs.Elements.{element_there}
 use Rattle.accepted.proofs.Children.{argument_found}
 use Rattle.accepted.proofs.Checks.{sheet_shape}

@@ -15,7 +15,7 @@ use Rattle.definitions.specs.Verdicts.{◌and_then◌, first_of}
 use Rattle.definitions.specs.Layouts.{items, nodes, due, node_record}
 use Rattle.definitions.specs.References.{children, child, clauses, clause_constructor, references}
 use Rattle.definitions.specs.SheetRules.{arguments, times_child, is_body, tree, parent_of, clause_of, clause_within}
-use Rattle.definitions.specs.declared.Verdict.TheVariants.{Accepted}
+use Rattle.definitions.specs.Verdict.{Accepted}
 use Rattle.accepted.proofs.Sums.{sum_found}
 use Rattle.accepted.proofs.Counts.{count_found, last_found}
 use Rattle.sheet_rules.specs.Clauses.{entry_of}

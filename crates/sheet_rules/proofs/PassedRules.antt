@@ -14,7 +14,7 @@ use Rattle.definitions.specs.Verdicts.{◌and_then◌, first_of}
 use Rattle.definitions.specs.Layouts.{items, functions, nodes, first_node, due, node_record}
 use Rattle.definitions.specs.References.{children, child, clauses, clause_constructor, names_in_range, in_range, references}
 use Rattle.definitions.specs.SheetRules.{arguments, times_child, is_body, children_right, tree_right, tree}
-use Rattle.definitions.specs.declared.Verdict.TheVariants.{Accepted}
+use Rattle.definitions.specs.Verdict.{Accepted}
 use Rattle.laws.proofs.Lists.{all_each}
 use Rattle.laws.proofs.Verdicts.{both_accepted, first_each, required}
 use Rattle.accepted.proofs.Children.{ChildOf}

@@ -19,7 +19,7 @@ use Rattle.definitions.specs.Layouts.{items, nodes, first_node, node_record}
 use Rattle.definitions.specs.References.{arity, clauses}
 use Rattle.definitions.specs.SheetRules.{is_body, parent_of, clause_of, clause_within, below_arity, pattern_right, pattern}
 use Rattle.definitions.specs.declared.Layout.TheVariants.{Sheet}
-use Rattle.definitions.specs.declared.Verdict.TheVariants.{Accepted, Refused}
+use Rattle.definitions.specs.Verdict.{Accepted, Refused}
 use Rattle.laws.proofs.Verdicts.{require_true, require_false}
 use Rattle.accepted.proofs.Head.{nodes_limit}
 use Rattle.file_records.specs.Index.{Opened, start_in}

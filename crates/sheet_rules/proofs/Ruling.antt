@@ -6,8 +6,7 @@ use native.Mathlib.Omega.{arith}
 use Rattle.definitions.specs.Verdicts.{first_of}
 use Rattle.definitions.specs.Layouts.{nodes, first_node}
 use Rattle.definitions.specs.declared.Layout.TheVariants.{Sheet}
-use Rattle.definitions.specs.declared.Verdict.{Verdict}
-use Rattle.definitions.specs.declared.Verdict.TheVariants.{Accepted, Refused}
+use Rattle.definitions.specs.Verdict.{Verdict, Accepted, Refused}
 use Rattle.laws.proofs.Verdicts.{Passed, passed_none, passed_more, passed_refused, passed_all}
 use Rattle.file_records.specs.Index.{Opened}
 

@@ -17,7 +17,7 @@ use Rattle.definitions.specs.Layouts.{functions, nodes, first_node, node_record,
 use Rattle.definitions.specs.References.{children, child, clause_constructor}
 use Rattle.definitions.specs.SheetRules.{times_child, is_body, children_right, clauses_rise, tree_right, tree}
 use Rattle.definitions.specs.declared.Layout.TheVariants.{Sheet}
-use Rattle.definitions.specs.declared.Verdict.TheVariants.{Accepted, Refused}
+use Rattle.definitions.specs.Verdict.{Accepted, Refused}
 use Rattle.accepted.proofs.Head.{nodes_limit, functions_limit}
 use Rattle.accepted.proofs.Owners.{owner_below, body_before_end}
 use Rattle.laws.proofs.Verdicts.{require_true, require_false}

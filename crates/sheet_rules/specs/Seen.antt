@@ -7,7 +7,7 @@ use Rattle.definitions.specs.Layouts.{nodes, due, node_record}
 use Rattle.definitions.specs.References.{children, child, references}
 use Rattle.definitions.specs.SheetRules.{arguments, times_child, tree, parent_of}
 use Rattle.definitions.specs.Verdicts.{◌and_then◌, first_of}
-use Rattle.definitions.specs.declared.Verdict.TheVariants.{Accepted}
+use Rattle.definitions.specs.Verdict.{Accepted}
 
 -- how often node k is among the first n nodes that a record names
 unfoldable pub times_in : List ℕ → ℕ → ℕ → ℕ

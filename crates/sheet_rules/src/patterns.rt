@@ -6,7 +6,7 @@ ghost use Rattle.definitions.specs.References.{clauses};
 ghost use Rattle.definitions.specs.SheetRules.{clause_of, clause_within, pattern_right, pattern};
 ghost use Rattle.definitions.specs.Verdicts.{first_of};
 ghost use Rattle.definitions.specs.declared.Layout.TheVariants.{Sheet};
-ghost use Rattle.definitions.specs.declared.Verdict.TheVariants.{Accepted};
+ghost use Rattle.definitions.specs.Verdict.{Accepted};
 ghost use Rattle.file_records.specs.Index.{Opened};
 ghost use Rattle.sheet_rules.specs.Nodes.{NodeAt};
 ghost use Rattle.sheet_rules.specs.Seen.{ParentsOf, TreesAccepted};

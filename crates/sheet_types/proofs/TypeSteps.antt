@@ -19,7 +19,7 @@ use Rattle.definitions.specs.SheetNodes.{SheetNode}
 use Rattle.definitions.specs.SheetRules.{is_body, parent_of, clause_within}
 use Rattle.definitions.specs.Types.{number_type, own_type, result_type, pattern_type, type_by, type_of, children_typed, is_clause_of, is_clause, result_typed, type_right, typing}
 use Rattle.definitions.specs.declared.Layout.TheVariants.{Sheet}
-use Rattle.definitions.specs.declared.Verdict.TheVariants.{Accepted, Refused}
+use Rattle.definitions.specs.Verdict.{Accepted, Refused}
 use Rattle.laws.proofs.Verdicts.{require_true, require_false}
 use Rattle.accepted.proofs.Head.{nodes_limit}
 use Rattle.accepted.proofs.Owners.{owner_below}

@@ -14,7 +14,7 @@ use Rattle.definitions.specs.Layouts.{nodes, first_node, node_record, owner_of}
 use Rattle.definitions.specs.SheetRules.{is_body}
 use Rattle.definitions.specs.Types.{result_type, type_by, type_of, children_typed, is_clause, typing}
 use Rattle.definitions.specs.declared.Layout.TheVariants.{Sheet}
-use Rattle.definitions.specs.declared.Verdict.TheVariants.{Refused}
+use Rattle.definitions.specs.Verdict.{Refused}
 use Rattle.file_records.specs.Index.{start_in}
 use Rattle.file_records.proofs.Indices.{opened_record}
 use Rattle.sheet_rules.specs.Nodes.{NodeAt}

@@ -12,8 +12,7 @@ use Rattle.definitions.specs.Checks.{sheet_verdict}
 use Rattle.definitions.specs.Translate.{translation}
 use Rattle.definitions.specs.Outcomes.{Outcome}
 use Rattle.definitions.specs.Run.{ending_outcome}
-use Rattle.definitions.specs.declared.Verdict.{Verdict}
-use Rattle.definitions.specs.declared.Verdict.TheVariants.{Accepted}
+use Rattle.definitions.specs.Verdict.{Verdict, Accepted}
 use Rattle.laws.proofs.Lists.{all_each}
 use Rattle.actual_visits.specs.Distinct.{Distinct, one_more}
 use Rattle.given_back.specs.SerialCells.{ActualVisit}

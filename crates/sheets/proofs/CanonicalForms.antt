@@ -4,7 +4,7 @@ use mathlib.Core.List.{map}
 use Rattle.definitions.specs.Verdicts.{◌and_then◌}
 use Rattle.definitions.specs.Checks.{sheet_verdict}
 use Rattle.definitions.specs.CanonicalSheet.{first_fields, fields_within, first_bodies, bodies, size_of, field_words, tree_words, sections, canonical}
-use Rattle.definitions.specs.declared.Verdict.TheVariants.{Accepted}
+use Rattle.definitions.specs.Verdict.{Accepted}
 use Rattle.sheets.specs.CanonicalForms.{Drawing, drawings}
 use Rattle.sheets.proofs.Opened.{opened}
 

@@ -12,8 +12,7 @@ use Rattle.definitions.specs.Trees.{equal_trees}
 use Rattle.definitions.specs.Labels.{never_shared, label_of, actuals}
 use Rattle.definitions.specs.Translate.{translation, unshared_translation}
 use Rattle.definitions.specs.Run.{run_answer}
-use Rattle.definitions.specs.declared.Verdict.{Verdict}
-use Rattle.definitions.specs.declared.Verdict.TheVariants.{Accepted}
+use Rattle.definitions.specs.Verdict.{Verdict, Accepted}
 use Rattle.sheets.specs.Starred.{answering}
 use Rattle.sheets.specs.EqualCalls.{LabelTrial, num, first, sum, of, cased, repeated, repeated_within, two_functions, own_parameters, patterns, template, template_with, label_trials}
 use Rattle.sheets.proofs.Opened.{opened}

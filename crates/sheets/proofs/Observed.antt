@@ -13,8 +13,7 @@ use Rattle.agreement.specs.Meaning.{empty, OwnAnswer}
 use Rattle.definitions.specs.Translate.{translation}
 use Rattle.definitions.specs.Run.{Answer, run_answer, run_cells}
 use Rattle.definitions.specs.declared.Layout.TheVariants.{Sheet}
-use Rattle.definitions.specs.declared.Verdict.{Verdict}
-use Rattle.definitions.specs.declared.Verdict.TheVariants.{Accepted}
+use Rattle.definitions.specs.Verdict.{Verdict, Accepted}
 use Rattle.evaluator.specs.Evaluator.{own_within}
 use Rattle.evaluator.proofs.Own.{own_sound, no_own}
 use Rattle.evaluator.proofs.SelfCall.{self_call_endless}

@@ -5,8 +5,7 @@ use Rattle.definitions.specs.Numbers.{bad_arguments, bad_count, bad_record, bad_
 use Rattle.definitions.specs.Bytes.{bytes_of}
 use Rattle.definitions.specs.SheetKinds.{head, function, number, reading, pattern_variable, operator, call}
 use Rattle.definitions.specs.Translate.{record_words}
-use Rattle.definitions.specs.declared.Verdict.{Verdict}
-use Rattle.definitions.specs.declared.Verdict.TheVariants.{Refused}
+use Rattle.definitions.specs.Verdict.{Verdict, Refused}
 
 -- a sheet, and what its reader says
 pub record ReaderTrial : Type 0 where

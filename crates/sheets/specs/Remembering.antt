@@ -16,7 +16,7 @@ use Rattle.definitions.specs.Checks.{translation_verdict}
 use Rattle.definitions.specs.Rule.{Reached}
 use Rattle.definitions.specs.PlainCells.{plain_evaluation}
 use Rattle.definitions.specs.Run.{ending_outcome, kept_end, run_answer, run_cells}
-use Rattle.definitions.specs.declared.Verdict.TheVariants.{Accepted}
+use Rattle.definitions.specs.Verdict.{Accepted}
 use Rattle.sheets.specs.EqualCalls.{num, first, sum, of}
 use Rattle.sheets.specs.MadeCells.{numbered, cell}
 use Rattle.sheets.specs.Trial.{Trial, Holds}

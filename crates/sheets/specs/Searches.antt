@@ -7,8 +7,7 @@ use Rattle.definitions.specs.SheetKinds as kinds
 use Rattle.definitions.specs.OperatorCodes.{subtract, divide}
 use Rattle.definitions.specs.Translate.{record_words}
 use Rattle.definitions.specs.ReadingSearch.{Query, query}
-use Rattle.definitions.specs.declared.Searched.{Searched}
-use Rattle.definitions.specs.declared.Searched.TheVariants.{Found, NoValue, Refused}
+use Rattle.definitions.specs.Searched.{Searched, Found, NoValue, Refused}
 
 -- what is asked for, the readings, the steps and the nesting of a search, and the answer
 pub record SearchTrial : Type 0 where

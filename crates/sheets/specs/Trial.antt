@@ -7,7 +7,7 @@ use Rattle.definitions.specs.Outcomes.{Outcome}
 use Rattle.agreement.specs.Meaning.{OwnAnswer}
 use Rattle.definitions.specs.Translate.{translation}
 use Rattle.definitions.specs.Run.{Answer, run_answer, run_cells}
-use Rattle.definitions.specs.declared.Verdict.TheVariants.{Accepted}
+use Rattle.definitions.specs.Verdict.{Accepted}
 
 pub record Trial : Type 0 where
   pub sheet : List ℕ

@@ -5,7 +5,7 @@ use Rattle.definitions.specs.Numbers.{bad_count, bad_record, bad_tree, ill_typed
 use Rattle.definitions.specs.Bytes.{bytes_of}
 use Rattle.definitions.specs.SheetKinds.{head, constructor, function, typed_constructor, typed_function, number, parameter, pattern_variable, operator, conditional, call, build, case_of}
 use Rattle.definitions.specs.Translate.{record_words}
-use Rattle.definitions.specs.declared.Verdict.TheVariants.{Accepted, Refused}
+use Rattle.definitions.specs.Verdict.{Accepted, Refused}
 use Rattle.sheets.specs.Orders.{ReaderTrial}
 
 unfoldable pub typed_sheets : List ReaderTrial

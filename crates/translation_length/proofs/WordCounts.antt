@@ -18,9 +18,8 @@ use Rattle.definitions.specs.Checks.{sheet_verdict}
 use Rattle.definitions.specs.Trees.{equal_trees}
 use Rattle.definitions.specs.Translate.{translation, translation_refusal, translation_answer}
 use Rattle.definitions.specs.declared.Layout.TheVariants.{Sheet}
-use Rattle.definitions.specs.declared.Verdict.{Verdict}
-use Rattle.definitions.specs.declared.Verdict.TheVariants.{Accepted, Refused}
-use Rattle.definitions.specs.declared.Written.TheVariants as answers
+use Rattle.definitions.specs.Verdict.{Verdict, Accepted, Refused}
+use Rattle.definitions.specs.Written as answers
 use Rattle.laws.proofs.Lists.{sum_more}
 use Rattle.accepted.proofs.Sums.{sum_term}
 use Rattle.readback.proofs.Size.{words_size, formal_size, node_length_law, translation_length, translation_limit}

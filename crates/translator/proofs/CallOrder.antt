@@ -17,7 +17,7 @@ use Rattle.definitions.specs.Shape.{file_shape}
 use Rattle.definitions.specs.Trees.{equal_trees}
 use Rattle.definitions.specs.Labels.{calls, is_first, actuals}
 use Rattle.definitions.specs.declared.Layout.TheVariants.{Sheet}
-use Rattle.definitions.specs.declared.Verdict.TheVariants.{Accepted}
+use Rattle.definitions.specs.Verdict.{Accepted}
 use Rattle.laws.proofs.Lists.{below_suc}
 use Rattle.accepted.proofs.Sums.{sum_term, sum_same, sum_limit}
 use Rattle.accepted.proofs.Counts.{count_term, count_reached}

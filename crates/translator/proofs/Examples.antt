@@ -28,8 +28,8 @@ use Rattle.definitions.specs.Trees
 use Rattle.definitions.specs.Labels
 use Rattle.definitions.specs.Translate
 use Rattle.translator.specs.Promise
-use Rattle.definitions.specs.declared.Written.{Written}
-use Rattle.definitions.specs.declared.Written.TheVariants as answers
+use Rattle.definitions.specs.Written.{Written}
+use Rattle.definitions.specs.Written as answers
 
 -- the definitions that the example computes with, opened together
 unfoldable opened : Unit {0}

@@ -16,15 +16,14 @@ use Rattle.definitions.specs.Verdicts.{require}
 use Rattle.definitions.specs.Checks.{sheet_verdict}
 use Rattle.definitions.specs.Trees.{equal_trees}
 use Rattle.definitions.specs.Translate.{translation_words, translation_by, translation, translation_refusal, translation_answer}
-use Rattle.definitions.specs.declared.Verdict.{Verdict}
-use Rattle.definitions.specs.declared.Verdict.TheVariants.{Accepted, Refused}
+use Rattle.definitions.specs.Verdict.{Verdict, Accepted, Refused}
 use Rattle.laws.proofs.Verdicts.{then_accepted, then_refused}
 use Rattle.readback.proofs.Size.{translation_length, translation_limit}
 use Rattle.format.specs.Readers.{ReadSheet}
 use Rattle.translation_length.proofs.WordCounts as WordCounts
 use Rattle.translator.specs.Promise.{Translates}
 use Rattle.translation_words.specs.Writing.{WroteWords}
-use Rattle.definitions.specs.declared.Written.TheVariants as answers
+use Rattle.definitions.specs.Written as answers
 
 -- the reader's refusal
 pub reader_refuses : {b out starts ends owners : List ℕ} {v : Verdict} {n p : ℕ} → ReadSheet b v starts ends owners → v ≡ Refused n p

@@ -2,7 +2,7 @@
 use Rattle.std.specs.Prelude.{◌≡◌, ℕ, List, length}
 use Rattle.definitions.specs.Output.{output_of}
 use Rattle.definitions.specs.Translate.{translation, translation_refusal, translation_answer}
-use Rattle.definitions.specs.declared.Written.{Written}
+use Rattle.definitions.specs.Written.{Written}
 
 pub record Translates (sheet out : List ℕ) (r : Written) (out' : List ℕ) : Type 0 where
   pub answer : r ≡ translation_answer sheet (length out)

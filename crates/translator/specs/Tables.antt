@@ -9,7 +9,7 @@ use Rattle.definitions.specs.Shape.{file_shape}
 use Rattle.definitions.specs.Trees.{equal_trees}
 use Rattle.definitions.specs.Labels.{is_first}
 use Rattle.definitions.specs.declared.Layout.TheVariants.{Sheet}
-use Rattle.definitions.specs.declared.Verdict.TheVariants.{Accepted}
+use Rattle.definitions.specs.Verdict.{Accepted}
 use Rattle.file_records.specs.Index.{Opened}
 use Rattle.file_runs.specs.Runs.{Owners}
 use Rattle.tree_classes.specs.Classes.{ReadTables, FirstNodes}

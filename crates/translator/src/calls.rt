@@ -3,7 +3,7 @@ ghost use Rattle.std.specs.Prelude.{◌≡◌, ◌+◌};
 ghost use Rattle.definitions.specs.Layouts.{functions, nodes};
 ghost use Rattle.definitions.specs.Shape.{file_shape};
 ghost use Rattle.definitions.specs.declared.Layout.TheVariants.{Sheet};
-ghost use Rattle.definitions.specs.declared.Verdict.TheVariants.{Accepted};
+ghost use Rattle.definitions.specs.Verdict.{Accepted};
 ghost use Rattle.call_labels.specs.Tables.{label_count, Counts};
 ghost use Rattle.translator.specs.Tables.{Sums, CallOrder, Placing, PlaceAt};
 

@@ -7,7 +7,7 @@ ghost use Rattle.definitions.specs.Shape.{file_shape};
 ghost use Rattle.definitions.specs.Trees.{equal_trees};
 ghost use Rattle.definitions.specs.Translate.{head_words, function_words, translation_words, translation};
 ghost use Rattle.definitions.specs.declared.Layout.TheVariants.{Sheet};
-ghost use Rattle.definitions.specs.declared.Verdict.TheVariants.{Accepted};
+ghost use Rattle.definitions.specs.Verdict.{Accepted};
 ghost use Rattle.file_records.specs.Index.{Opened};
 ghost use Rattle.translation_length.specs.Words.{CountedLabels};
 ghost use Rattle.translation_words.specs.Writing.{WroteWords};

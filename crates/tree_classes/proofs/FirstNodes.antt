@@ -15,7 +15,7 @@ use Rattle.definitions.specs.SheetNodes.{scrutinee_of}
 use Rattle.definitions.specs.Checks.{sheet_verdict}
 use Rattle.definitions.specs.Trees.{names_node, equal_trees}
 use Rattle.definitions.specs.declared.Layout.TheVariants.{Sheet}
-use Rattle.definitions.specs.declared.Verdict.TheVariants.{Accepted}
+use Rattle.definitions.specs.Verdict.{Accepted}
 use Rattle.laws.proofs.FirstPassing.{first_found}
 use Rattle.accepted.proofs.Owners.{owner_below}
 use Rattle.accepted.proofs.Checks.{sheet_shape}

@@ -8,7 +8,7 @@ use Rattle.definitions.specs.Records.{kind_of, field, field_count}
 use Rattle.definitions.specs.Layouts.{nodes, node_record}
 use Rattle.definitions.specs.Checks.{sheet_verdict}
 use Rattle.definitions.specs.Trees.{names_node}
-use Rattle.definitions.specs.declared.Verdict.TheVariants.{Accepted}
+use Rattle.definitions.specs.Verdict.{Accepted}
 use Rattle.trees.proofs.Parts.{part_smaller}
 use Rattle.tree_classes.specs.Keys.{bucket_of, SameKey}
 use Rattle.tree_classes.proofs.SameKeys.{value_kept, bucket_kept}

@@ -13,7 +13,7 @@ use borrow.Author.Tests.{eq-eqb, ne_eqb, eqb-true, eqb-false}
 use Rattle.definitions.specs.Sizes.{most_nodes}
 use Rattle.definitions.specs.Layouts.{nodes, node_record}
 use Rattle.definitions.specs.Checks.{sheet_verdict}
-use Rattle.definitions.specs.declared.Verdict.TheVariants.{Accepted}
+use Rattle.definitions.specs.Verdict.{Accepted}
 use Rattle.laws.proofs.Lists.{below_suc}
 use Rattle.tree_classes.specs.Keys.{entry_of, buckets, bucket_of, SameKey}
 use Rattle.tree_classes.specs.Classes.{Numbered}

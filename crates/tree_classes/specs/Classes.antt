@@ -6,7 +6,7 @@ use Rattle.definitions.specs.Layouts.{nodes}
 use Rattle.definitions.specs.Checks.{sheet_verdict}
 use Rattle.definitions.specs.Trees.{equal_trees}
 use Rattle.definitions.specs.declared.Layout.TheVariants.{Sheet}
-use Rattle.definitions.specs.declared.Verdict.TheVariants.{Accepted}
+use Rattle.definitions.specs.Verdict.{Accepted}
 use Rattle.file_records.specs.Index.{Opened}
 use Rattle.file_runs.specs.Runs.{RunEndTable, Owners}
 use Rattle.tree_classes.specs.Keys.{entry_of, SameKey}

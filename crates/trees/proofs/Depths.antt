@@ -11,7 +11,7 @@ use Rattle.definitions.specs.Layouts.{nodes, node_record}
 use Rattle.definitions.specs.SheetNodes.{scrutinee_of}
 use Rattle.definitions.specs.Checks.{sheet_verdict}
 use Rattle.definitions.specs.Trees.{same_tree, deepest}
-use Rattle.definitions.specs.declared.Verdict.TheVariants.{Accepted}
+use Rattle.definitions.specs.Verdict.{Accepted}
 use Rattle.trees.specs.Depths.{Within, deeper, Outside}
 use Rattle.trees.proofs.Parts.{scrutinee_outside, part_smaller, part_below, outside_part, outside_no_pattern}
 use Rattle.trees.proofs.Heads.{heads, from_heads, no_tree}

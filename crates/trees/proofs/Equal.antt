@@ -7,7 +7,7 @@ use mathlib.Core.Bool.{true}
 use Rattle.definitions.specs.Layouts.{nodes}
 use Rattle.definitions.specs.Checks.{sheet_verdict}
 use Rattle.definitions.specs.Trees.{same_tree, deepest, equal_trees}
-use Rattle.definitions.specs.declared.Verdict.TheVariants.{Accepted}
+use Rattle.definitions.specs.Verdict.{Accepted}
 use Rattle.trees.specs.SameNodes.{Heads}
 use Rattle.trees.proofs.Heads.{heads, from_heads, heads_map, no_tree, tree_swap, tree_then, tree_deeper}
 use Rattle.trees.proofs.Depths.{within_deepest, tree_itself, tree_within}

@@ -17,7 +17,7 @@ use Rattle.definitions.specs.SheetRules.{clause_within}
 use Rattle.definitions.specs.Types.{number_type, own_type, field_type, pattern_type, type_of}
 use Rattle.definitions.specs.Checks.{sheet_verdict}
 use Rattle.definitions.specs.declared.Layout.TheVariants.{Sheet}
-use Rattle.definitions.specs.declared.Verdict.TheVariants.{Accepted}
+use Rattle.definitions.specs.Verdict.{Accepted}
 use Rattle.accepted.specs.Child.{left, right, condition, if_nonzero, if_zero}
 use Rattle.accepted.proofs.Names.{parameter_below, call_below, build_below}
 use Rattle.accepted.proofs.Clauses.{chosen_found}

@@ -9,7 +9,7 @@ use Rattle.definitions.specs.Layouts.{is_typed, body_of}
 use Rattle.definitions.specs.Outcomes.{Outcome, number_outcome, constructor_outcome, end_outcome}
 use Rattle.definitions.specs.Checks.{sheet_verdict}
 use Rattle.definitions.specs.declared.Layout.TheVariants.{Sheet}
-use Rattle.definitions.specs.declared.Verdict.TheVariants.{Accepted}
+use Rattle.definitions.specs.Verdict.{Accepted}
 use Rattle.agreement.specs.Meaning.{End, outcome_of, OwnAnswer}
 use Rattle.typed_sheets.specs.TypeErrors.{NoTypeError}
 use Rattle.typed_sheets.specs.Fits.{OfType, a_number, a_constructor, a_fault}

@@ -19,8 +19,7 @@ use Rattle.definitions.specs.Shape.{counts, operator_code, shape_at, shape, file
 use Rattle.definitions.specs.Types.{types}
 use Rattle.definitions.specs.Checks.{checks_to_six, sheet_verdict}
 use Rattle.definitions.specs.declared.Layout.TheVariants.{Sheet}
-use Rattle.definitions.specs.declared.Verdict.{Verdict}
-use Rattle.definitions.specs.declared.Verdict.TheVariants.{Accepted, Refused}
+use Rattle.definitions.specs.Verdict.{Verdict, Accepted, Refused}
 use Rattle.laws.proofs.Records.{whole_is, is_whole, next_whole, record_none, record_word}
 use Rattle.laws.proofs.Verdicts.{both_accepted, required, first_each}
 use Rattle.laws.proofs.Walk.{head_ranges}

@@ -20,7 +20,7 @@ use Rattle.definitions.specs.Checks.{checks_to_six, sheet_verdict}
 use Rattle.definitions.specs.Translate.{translation}
 use Rattle.definitions.specs.TypesRemoved.{types_removed}
 use Rattle.definitions.specs.declared.Layout.TheVariants.{Sheet}
-use Rattle.definitions.specs.declared.Verdict.TheVariants.{Accepted}
+use Rattle.definitions.specs.Verdict.{Accepted}
 use Rattle.laws.proofs.Verdicts.{then_accepted, require_true, first_all}
 use Rattle.accepted.proofs.Records.{within_limit}
 use Rattle.accepted.proofs.Checks.{sheet_shape, tree_right_law, pattern_right_law}

@@ -23,7 +23,7 @@ use Rattle.definitions.specs.SheetRules.{arguments_match, arguments}
 use Rattle.definitions.specs.Checks.{sheet_verdict}
 use Rattle.definitions.specs.TypesRemoved.{types_removed}
 use Rattle.definitions.specs.declared.Layout.TheVariants.{Sheet}
-use Rattle.definitions.specs.declared.Verdict.TheVariants.{Accepted}
+use Rattle.definitions.specs.Verdict.{Accepted}
 use Rattle.laws.proofs.Ranges.{within_both}
 use Rattle.laws.proofs.Records.{whole_is, record_length_law, record_word}
 use Rattle.laws.proofs.Verdicts.{then_accepted, require_true}

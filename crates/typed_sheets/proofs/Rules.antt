@@ -21,7 +21,7 @@ use Rattle.definitions.specs.Types.{number_type, own_type, field_type, result_ty
 use Rattle.definitions.specs.Types.{arguments_typed, clauses_typed, children_typed, is_clause_of, is_clause, result_typed, type_right}
 use Rattle.definitions.specs.Checks.{sheet_verdict}
 use Rattle.definitions.specs.declared.Layout.TheVariants.{Sheet}
-use Rattle.definitions.specs.declared.Verdict.TheVariants.{Accepted}
+use Rattle.definitions.specs.Verdict.{Accepted}
 use Rattle.laws.proofs.Lists.{all_each}
 use Rattle.laws.proofs.Ranges.{within_by}
 use Rattle.accepted.specs.Child.{clause}

@@ -14,7 +14,7 @@ use Rattle.definitions.specs.SheetRules.{clause_within}
 use Rattle.definitions.specs.Types.{field_type, parameter_type, type_of}
 use Rattle.definitions.specs.Checks.{sheet_verdict}
 use Rattle.definitions.specs.declared.Layout.TheVariants.{Sheet}
-use Rattle.definitions.specs.declared.Verdict.TheVariants.{Accepted}
+use Rattle.definitions.specs.Verdict.{Accepted}
 use Rattle.accepted.specs.Child.{Child, argument, component, scrutinee, clause, is_case}
 use Rattle.accepted.proofs.Elements.{element_there}
 use Rattle.accepted.proofs.Head.{functions_least}

@@ -14,7 +14,7 @@ use Rattle.definitions.specs.Shape.{file_shape}
 use Rattle.definitions.specs.Checks.{sheet_verdict}
 use Rattle.definitions.specs.TypesRemoved.{untyped_record, types_removed}
 use Rattle.definitions.specs.declared.Layout.TheVariants.{Sheet}
-use Rattle.definitions.specs.declared.Verdict.TheVariants.{Accepted}
+use Rattle.definitions.specs.Verdict.{Accepted}
 use Rattle.laws.proofs.Joined.{joined_same}
 use Rattle.laws.proofs.Records
 use Rattle.accepted.proofs.Records.{records_fill, record_whole, kind_due}

@@ -17,7 +17,7 @@ use Rattle.definitions.specs.Shape.{file_shape}
 use Rattle.definitions.specs.Translate.{record_words}
 use Rattle.definitions.specs.TypesRemoved.{untyped_record, types_removed}
 use Rattle.definitions.specs.declared.Layout.TheVariants.{Sheet}
-use Rattle.definitions.specs.declared.Verdict.TheVariants.{Accepted}
+use Rattle.definitions.specs.Verdict.{Accepted}
 use Rattle.laws.proofs.Records.{whole_is, record_length_law, record_word}
 use Rattle.laws.proofs.Joined.{joined_length}
 use Rattle.laws.proofs.Words.{word_read}

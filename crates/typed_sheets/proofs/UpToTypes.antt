@@ -14,7 +14,7 @@ use Rattle.definitions.specs.References.{parameters, arity}
 use Rattle.definitions.specs.Checks.{sheet_verdict}
 use Rattle.definitions.specs.TypesRemoved.{types_removed}
 use Rattle.definitions.specs.declared.Layout.TheVariants.{Sheet}
-use Rattle.definitions.specs.declared.Verdict.TheVariants.{Accepted}
+use Rattle.definitions.specs.Verdict.{Accepted}
 use Rattle.laws.proofs.Records.{record_length_law, record_word}
 use Rattle.accepted.proofs.Records.{record_whole}
 use Rattle.accepted.proofs.Sections.{arity_limit}

@@ -15,7 +15,7 @@ use Rattle.definitions.specs.Shape.{head_counts, run_counts, parameter_counts, o
 use Rattle.definitions.specs.References.{references}
 use Rattle.definitions.specs.SheetRules.{arguments, tree, pattern}
 use Rattle.definitions.specs.declared.Layout.TheVariants.{Sheet}
-use Rattle.definitions.specs.declared.Verdict.{Verdict}
+use Rattle.definitions.specs.Verdict.{Verdict}
 
 -- the row of a kind: 6 and 7 were no kinds, and a number that is no kind allows no length
 unfoldable pub row_of_before : ℕ → Row

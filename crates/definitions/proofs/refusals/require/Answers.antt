@@ -1,7 +1,7 @@
--- `definitions::verdicts::required` meets its contract.
+-- `definitions::refusals::require` meets its contract.
 use mathlib.Core.Path.{refl}
 use Rattle.definitions.specs.Verdicts.{require}
-use Rattle.definitions.proofs.verdicts.required.Goals as goal
+use Rattle.definitions.proofs.refusals.require.Goals as goal
 
 pub returns-then-test : goal.returns-then-test
 unfolding require
