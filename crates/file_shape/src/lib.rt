@@ -9,12 +9,14 @@ ghost use Rattle.definitions.specs.Records.{field};
 ghost use Rattle.definitions.specs.Lists.{sum_of};
 ghost use Rattle.definitions.specs.Layouts.{functions, first_function, function_record, due};
 ghost use Rattle.definitions.specs.Shape.{file_limit, head_counts, run_counts, parameter_counts, typed_function_counts, counts, operator_code, shape_at};
+ghost use Rattle.definitions.specs.Refusals.{as_verdict};
 ghost use Rattle.file_records.specs.Index.{Indexed};
 ghost use Rattle.file_shape.specs.Walks.{WalkAt, Walked};
 
 use crate::types::{typed_constructor_counts, types_right};
+use definitions::refusals::{Reason, Refusal};
 use definitions::sizes::{MOST_FIELDS, MOST_FUNCTIONS, MOST_NODES, MOST_READINGS, Starts};
-use definitions::{Layout, Verdict, numbers, operator_codes, sheet_kinds, translation_kinds};
+use definitions::{Layout, operator_codes, sheet_kinds, translation_kinds};
 use file_fields::bytes::{word, word_inside};
 use file_kinds::{Rows, allows, rows};
 use file_layout::layout::{
@@ -162,57 +164,57 @@ fn shape_at(
     first: usize,
     r: usize,
     at: usize,
-) -> Verdict
+) -> Result<(), Refusal>
     requires { WalkAt rows.now b.now starts.now first r at }
-    ensures { result ≡ shape_at y b.now r at }
+    ensures { as_verdict result ≡ shape_at y b.now r at }
 {
     let left = b.len() - at;
     if left < 4 {
-        return Verdict::Refused {
-            number: numbers::TRUNCATED,
+        return Err(Refusal {
+            reason: Reason::Truncated,
             place: r,
-        };
+        });
     }
     let k = word_inside(b, at + 2);
     let n = word_inside(b, at);
     if !is_due(y, b, first, r, k) {
-        return Verdict::Refused {
-            number: numbers::BAD_RECORD,
+        return Err(Refusal {
+            reason: Reason::BadRecord,
             place: r,
-        };
+        });
     }
     if !allows(rows, k, n) {
-        return Verdict::Refused {
-            number: numbers::BAD_RECORD,
+        return Err(Refusal {
+            reason: Reason::BadRecord,
             place: r,
-        };
+        });
     }
     if left < n as usize {
-        return Verdict::Refused {
-            number: numbers::TRUNCATED,
+        return Err(Refusal {
+            reason: Reason::Truncated,
             place: r,
-        };
+        });
     }
     let rec = record_at(b, at);
     if !operator_code(rec) {
-        return Verdict::Refused {
-            number: numbers::BAD_RECORD,
+        return Err(Refusal {
+            reason: Reason::BadRecord,
             place: r,
-        };
+        });
     }
     if !counts(y, b, starts, r, rec) {
-        return Verdict::Refused {
-            number: numbers::BAD_COUNT,
+        return Err(Refusal {
+            reason: Reason::BadCount,
             place: r,
-        };
+        });
     }
-    Verdict::Accepted
+    Ok(())
 }
 
 // One walk by lengths: the checks of every record due, then of bytes left over; the places go into the index.
-fn walk(y: Layout, b: &[u8], starts: &mut Starts) -> Verdict
+fn walk(y: Layout, b: &[u8], starts: &mut Starts) -> Result<(), Refusal>
     requires { (length b.now ≤ file_limit y) × (length starts.old ≡ most_records) }
-    ensures { Walked y b.now result starts.new }
+    ensures { Walked y b.now (as_verdict result) starts.new }
 {
     let rows = rows();
     let first = first_node(b);
@@ -220,32 +222,29 @@ fn walk(y: Layout, b: &[u8], starts: &mut Starts) -> Verdict
     let mut at: usize = 0;
     for r in 0..count {
         starts[r] = at as u16;
-        let v = shape_at(&rows, y, b, starts, first, r, at);
-        let Verdict::Accepted = v else {
-            return v;
-        };
+        shape_at(&rows, y, b, starts, first, r, at)?;
         at += word(b, at) as usize;
     }
     if at == b.len() {
-        Verdict::Accepted
+        Ok(())
     } else {
-        Verdict::Refused {
-            number: numbers::BAD_RECORD,
+        Err(Refusal {
+            reason: Reason::BadRecord,
             place: count,
-        }
+        })
     }
 }
 
 // The checks of a file up to the left-over bytes; fills the index of its records.
-pub fn file_shape(y: Layout, b: &[u8], starts: &mut Starts) -> Verdict
+pub fn file_shape(y: Layout, b: &[u8], starts: &mut Starts) -> Result<(), Refusal>
     requires { length starts.old ≡ most_records }
-    ensures { Walked y b.now result starts.new }
+    ensures { Walked y b.now (as_verdict result) starts.new }
 {
     if file_limit(y) < b.len() {
-        return Verdict::Refused {
-            number: numbers::OVERSIZE,
+        return Err(Refusal {
+            reason: Reason::Oversize,
             place: 0,
-        };
+        });
     }
     walk(y, b, starts)
 }

@@ -24,3 +24,4 @@ pub mod Written
 pub mod LiveAfter
 pub mod CellBytes
 pub mod FirstPassing
+pub mod Refusals

@@ -4,9 +4,8 @@ ghost use Rattle.std.specs.Int.{w32};
 ghost use Rattle.definitions.specs.Operators.{reduced, in_signed_range, product, quotient, truth, equal};
 ghost use Rattle.operators.specs.Results.{computed_of};
 
-use crate::Computed;
+use crate::Fault;
 use crate::bits::{bits_of, number_of};
-use definitions::numbers;
 
 pub(crate) fn add(x: i32, y: i32) -> i32
     ensures { result ≡ reduced w32 (x +ℤ y) }
@@ -38,29 +37,29 @@ pub(crate) fn in_signed_range(z: i64) -> bool
 }
 
 // The product; one outside the range is a fault.
-pub(crate) fn multiply(x: i32, y: i32) -> Computed
+pub(crate) fn multiply(x: i32, y: i32) -> Result<i32, Fault>
     ensures { computed_of result ≡ product w32 x y }
 {
     let exact = exact_product(x, y);
     if in_signed_range(exact) {
-        return Computed::Number(exact as i32);
+        return Ok(exact as i32);
     }
-    Computed::Fault(numbers::OVERFLOW)
+    Err(Fault::Overflow)
 }
 
 // Division towards zero. A zero divisor is a fault, and the lowest number by -1 gives itself.
-pub(crate) fn divide(x: i32, y: i32) -> Computed
+pub(crate) fn divide(x: i32, y: i32) -> Result<i32, Fault>
     ensures { computed_of result ≡ quotient w32 x y }
 {
     if y == 0 {
-        return Computed::Fault(numbers::ZERO_DIVISOR);
+        return Err(Fault::ZeroDivisor);
     }
     if y == -1 {
         if x == -0x8000_0000 {
-            return Computed::Number(x);
+            return Ok(x);
         }
     }
-    Computed::Number(x / y)
+    Ok(x / y)
 }
 
 // 1 where the first number is less, else 0.

@@ -3,22 +3,34 @@
 
 ghost use Rattle.std.specs.Prelude.{◌≡◌};
 ghost use Rattle.definitions.specs.Operators.{computed};
-ghost use Rattle.operators.specs.Results.{computed_of};
+ghost use Rattle.operators.specs.Results.{computed_of, fault_number};
 
 mod arithmetic;
 pub mod bits;
 
-use definitions::operator_codes;
+use definitions::{numbers, operator_codes};
 
-// What an operator gives: a number, or the number of a run fault.
-#[derive(Clone, Copy)]
-pub enum Computed {
-    Number(i32),
-    Fault(u16),
+// Why an operator gives no number.
+#[derive(Clone, Copy, PartialEq, Eq)]
+pub enum Fault {
+    ZeroDivisor,
+    Overflow,
+}
+
+impl Fault {
+    // The number of the run fault in document 01's table.
+    pub fn number(self) -> u16
+        ensures { result ≡ fault_number self }
+    {
+        match self {
+            Fault::ZeroDivisor => numbers::ZERO_DIVISOR,
+            Fault::Overflow => numbers::OVERFLOW,
+        }
+    }
 }
 
 // The operator of a code, first the two that may fault; a code above the greatest gives 0.
-pub fn compute(code: u16, x: i32, y: i32) -> Computed
+pub fn compute(code: u16, x: i32, y: i32) -> Result<i32, Fault>
     ensures { computed_of result ≡ computed code x y }
 {
     if code == operator_codes::MULTIPLY {
@@ -28,16 +40,16 @@ pub fn compute(code: u16, x: i32, y: i32) -> Computed
         return arithmetic::divide(x, y);
     }
     if code == operator_codes::ADD {
-        return Computed::Number(arithmetic::add(x, y));
+        return Ok(arithmetic::add(x, y));
     }
     if code == operator_codes::SUBTRACT {
-        return Computed::Number(arithmetic::subtract(x, y));
+        return Ok(arithmetic::subtract(x, y));
     }
     if code == operator_codes::LESS {
-        return Computed::Number(arithmetic::less(x, y));
+        return Ok(arithmetic::less(x, y));
     }
     if code == operator_codes::EQUAL {
-        return Computed::Number(arithmetic::equal(x, y));
+        return Ok(arithmetic::equal(x, y));
     }
-    Computed::Number(0)
+    Ok(0)
 }
