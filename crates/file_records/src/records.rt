@@ -5,7 +5,6 @@ ghost use Rattle.definitions.specs.Records.{whole, next, start_of, record_at, re
 
 use definitions::sizes::{MOST_RECORDS, Starts};
 use file_fields::bytes::{word, word_inside};
-use widths::wide;
 
 // Whether a whole record stands at a place.
 fn is_whole(b: &[u8], at: usize) -> bool
@@ -37,7 +36,7 @@ fn start(b: &[u8], r: usize) -> usize
     ensures { result ≡ start_of b.now r }
 {
     let mut at: usize = 0;
-    for i in 0..r {
+    for _i in 0..r {
         at = next(b, at);
     }
     at
@@ -67,7 +66,7 @@ pub fn record(b: &[u8], r: usize) -> &[u8]
 pub fn start_in(starts: &Starts, r: usize) -> usize
     ensures { (result ≡ start_in starts.now r) × (result ≤ 65535) }
 {
-    if r < MOST_RECORDS { wide(starts[r]) } else { 0 }
+    if r < MOST_RECORDS { usize::from(starts[r]) } else { 0 }
 }
 
 // Record `r` by an index, in constant time: the record at the place that the index names.

@@ -46,7 +46,7 @@ fn start(file: &Space, r: usize) -> usize
     ensures { (result ≡ start_of file.now r) × (result < walk_end) }
 {
     let mut at: usize = 0;
-    for i in 0..r {
+    for _i in 0..r {
         at = skip(file, at);
     }
     at
