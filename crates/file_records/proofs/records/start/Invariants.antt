@@ -5,4 +5,4 @@ use Prim.Native.Nat.{◌≤◌, ◌-◌}
 use Rattle.file_records.proofs.records.start.Given as goal
 
 abbrev pub invariant-loop-i : goal.invariant-loop-i
-invariant-loop-i l = (l.i ≤ l.r) × (l.at ≡ start_of l.b l.i)
+invariant-loop-i l = (l._i ≤ l.r) × (l.at ≡ start_of l.b l._i)
