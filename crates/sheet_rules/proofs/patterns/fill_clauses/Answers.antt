@@ -7,10 +7,10 @@ use Rattle.sheet_rules.proofs.patterns.fill_clauses.Goals as goal
 pub loop-k-init : goal.loop-k-init
 loop-k-init c =
     let pre = c.requires in
-    filling_begins pre.0 pre.1 (c.wide-k.ensures.0 ∙ c.nodes.ensures)
+    filling_begins pre.0 pre.1 (c.from-k.ensures ∙ c.nodes.ensures)
 
-pub clause_at-entry-requires : goal.clause_at-entry-requires
-clause_at-entry-requires c =
+pub clause_at-requires : goal.clause_at-requires
+clause_at-requires c =
     let loop = c.loop-k in
     let loop_test = c.loop-k-test in (
       filling_node loop.invariant loop_test.true,
@@ -26,16 +26,12 @@ offset_bounds-held-k c =
     record { fits = omega (arith, loop.invariant.room) }
 
 pub bounds-held-k : goal.bounds-held-k
-bounds-held-k c =
-    let loop = c.loop-k in
-    let loop_test = c.loop-k-test in
-    omega (arith, loop.invariant.room, loop_test.true)
+bounds-held-k c = omega (arith, c.loop-k.invariant.room, c.loop-k-test.true)
 
 pub loop-k-preserved : goal.loop-k-preserved
 loop-k-preserved c =
     let loop = c.loop-k in
-    let loop_test = c.loop-k-test in
-    filling_goes_on loop.invariant loop_test.true c.clause_at-entry.ensures
+    filling_goes_on loop.invariant c.loop-k-test.true c.clause_at.ensures
 
 pub returns : goal.returns
 returns c = filling_done c.loop-k.invariant c.loop-k-test.false

@@ -17,8 +17,8 @@ pub loop-j-preserved : goal.loop-j-preserved
 loop-j-preserved c =
     let loop = c.loop-j in
     let child_inside = c.child_inside in
-    let wide = c.wide in
-    (omega arith, loop.invariant.1, noted_more loop.invariant.2 (wide.ensures.0 ∙ child_inside.ensures) c.note_child.ensures)
+    let from = c.from in
+    (omega arith, loop.invariant.1, noted_more loop.invariant.2 (from.ensures ∙ child_inside.ensures) c.note_child.ensures)
 
 pub returns : goal.returns
 returns c =

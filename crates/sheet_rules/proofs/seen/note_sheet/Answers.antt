@@ -26,9 +26,9 @@ pub loop-p-preserved : goal.loop-p-preserved
 loop-p-preserved c =
     let loop = c.loop-p in
     let loop_test = c.loop-p-test in
-    let wide = c.wide in
+    let from = c.from in
     let indexed = c.indexed in
-    seeing_goes_on loop.invariant loop_test.true wide.ensures.0 indexed.ensures c.note_children.ensures
+    seeing_goes_on loop.invariant loop_test.true from.ensures indexed.ensures c.note_children.ensures
 
 pub returns : goal.returns
 returns c = seeing_done c.loop-p.invariant c.loop-p-test.false

@@ -18,7 +18,7 @@ returns-then-k-c c =
     let loop = c.loop-j in
     let loop_test = c.loop-j-test in
     let child_inside = c.child_inside in
-    tests_fail loop.invariant loop_test.true (child_not_smaller _ _ _ (c.wide-c.ensures.0 ∙ child_inside.ensures) c.if-k-c.true)
+    tests_fail loop.invariant loop_test.true (child_not_smaller _ _ _ (c.from-c.ensures ∙ child_inside.ensures) c.if-k-c.true)
 
 pub bounds-owners-c : goal.bounds-owners-c
 bounds-owners-c c =
@@ -36,10 +36,10 @@ returns-then-owners-c c =
     let loop = c.loop-j in
     let loop_test = c.loop-j-test in
     let child_inside = c.child_inside in
-    let wide = c.wide-c in
+    let from = c.from-c in
     let if1 = c.if-k-c in
     tests_fail loop.invariant loop_test.true
-    (child_elsewhere _ _ _ (wide.ensures.0 ∙ child_inside.ensures) pre.0 pre.1 if1.false c.if-owners-c.true)
+    (child_elsewhere _ _ _ (from.ensures ∙ child_inside.ensures) pre.0 pre.1 if1.false c.if-owners-c.true)
 
 pub loop-j-preserved : goal.loop-j-preserved
 loop-j-preserved c =
@@ -47,10 +47,10 @@ loop-j-preserved c =
     let loop = c.loop-j in
     let loop_test = c.loop-j-test in
     let child_inside = c.child_inside in
-    let wide = c.wide-c in
+    let from = c.from-c in
     let if1 = c.if-k-c in
     tests_go_on loop.invariant loop_test.true
-    (child_right_law _ _ _ (wide.ensures.0 ∙ child_inside.ensures) pre.0 pre.1 if1.false c.if-owners-c.false)
+    (child_right_law _ _ _ (from.ensures ∙ child_inside.ensures) pre.0 pre.1 if1.false c.if-owners-c.false)
 
 pub returns : goal.returns
 returns c = tests_end c.loop-j.invariant c.loop-j-test.false

@@ -8,8 +8,7 @@ pub loop-k-init : goal.loop-k-init
 loop-k-init c =
     let pre = c.requires in
     let first_node = c.first_node-first in
-    let wide = c.wide-count in
-    (ruling_begins pre.0 first_node.ensures (wide.ensures.0 ∙ c.nodes.ensures) wide.ensures.1, pre.1, pre.2, pre.3)
+    (ruling_begins pre.0 first_node.ensures (c.from-count.ensures ∙ c.nodes.ensures), pre.1, pre.2, pre.3)
 
 pub tree_right-requires : goal.tree_right-requires
 tree_right-requires c =
