@@ -10,7 +10,6 @@ ghost use Rattle.translation_words.specs.Writing.{WroteWords, field_words};
 use definitions::sizes::TRANSLATION_BYTES;
 use file_fields::writing::put_byte;
 use file_records::records::{field, field_count, kind};
-use widths::wide;
 
 // A kind of node of a translation is as far above the sheet's.
 const KIND_STEP: usize = 32;
@@ -60,7 +59,7 @@ fn put_fields(out: &mut [u8], at: usize, rec: &[u8]) -> usize
     let count = field_count(rec);
     let mut next = at;
     for j in 0..count {
-        next = put(out, next, wide(field(rec, j)));
+        next = put(out, next, usize::from(field(rec, j)));
     }
     next
 }
@@ -70,6 +69,11 @@ pub fn put_copy(out: &mut [u8], at: usize, rec: &[u8]) -> usize
     requires { field_count rec.now ≤ 65535 }
     ensures { WroteWords out.old at (record_words (32 + kind_of rec.now) (field_words rec.now)) result out.new }
 {
-    let fields = put_start(out, at, KIND_STEP + wide(kind(rec)), field_count(rec));
+    let fields = put_start(
+        out,
+        at,
+        KIND_STEP + usize::from(kind(rec)),
+        field_count(rec),
+    );
     put_fields(out, fields, rec)
 }

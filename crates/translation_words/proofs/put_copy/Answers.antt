@@ -6,4 +6,4 @@ use Rattle.translation_words.proofs.put_copy.Goals as goal
 pub returns : goal.returns
 returns c =
     wrote_copy _ c.put_start-fields.ensures c.put_fields.ensures
-    (c.wide.ensures.0 ∙ c.kind.ensures) c.field_count.ensures
+    (c.from.ensures ∙ c.kind.ensures) c.field_count.ensures

@@ -10,7 +10,7 @@ loop-j-init c = parts_begin
 pub loop-j-preserved : goal.loop-j-preserved
 loop-j-preserved c =
     parts_go_on c.loop-j.invariant c.loop-j-test.true
-    (wrote_element (c.wide.ensures.0 ∙ c.field.ensures) c.put-next.ensures)
+    (wrote_element (c.from.ensures ∙ c.field.ensures) c.put-next.ensures)
 
 pub shape_of-out : goal.shape_of-out
 shape_of-out c = c.loop-j.invariant.wrote.kept

@@ -1,6 +1,5 @@
 -- `translation_words::put_fields` meets its contract. The loop's invariant: the fields passed are written.
 use Rattle.translation_words.proofs.Writing.{PartsWritten}
-use Prim.Native.Nat.{◌-◌}
 use mathlib.Core.List.{[], ◌∷◌}
 use Rattle.definitions.specs.Records.{field}
 use Rattle.translation_words.proofs.put_fields.Given as goal
