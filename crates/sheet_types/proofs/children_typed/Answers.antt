@@ -54,9 +54,9 @@ returns-then-i-eq-CALL c =
     let field = c.field-x in
     let if5 = c.if-i-eq-CALL in
     let first_function = c.first_function in
-    let wide = c.wide in
+    let from = c.from in
     call_tested _ _ _ kind.ensures if5.true
-    (callee_record pre.0 pre.1 kind.ensures (wide.ensures.0 ∙ field.ensures) if5.true first_function.ensures.0 c.indexed-callee.ensures)
+    (callee_record pre.0 pre.1 kind.ensures (from.ensures ∙ field.ensures) if5.true first_function.ensures.0 c.indexed-callee.ensures)
     c.arguments_typed.ensures
 
 pub arguments_typed-requires-then-i-eq-BUILD : goal.arguments_typed-requires-then-i-eq-BUILD
@@ -73,9 +73,9 @@ returns-then-i-eq-BUILD c =
     let field = c.field-x in
     let if6 = c.if-i-eq-BUILD in
     let first_item = c.first_item in
-    let wide2 = c.wide-then-i-eq-BUILD in
+    let from2 = c.from-then-i-eq-BUILD in
     build_tested _ _ _ kind.ensures if6.true
-    (constructor_record pre.0 pre.1 kind.ensures (wide2.ensures.0 ∙ field.ensures) if6.true first_item.ensures.0 c.indexed-constructor.ensures)
+    (constructor_record pre.0 pre.1 kind.ensures (from2.ensures ∙ field.ensures) if6.true first_item.ensures.0 c.indexed-constructor.ensures)
     c.arguments_typed-then-i-eq-BUILD.ensures
 
 pub returns-then-t-lt1 : goal.returns-then-t-lt1

@@ -16,4 +16,4 @@ returns c =
     let pre = c.requires in
     let is_result = c.is_result in
     let if1 = c.if-not-is_result in
-    result_compared pre.0 pre.2 is_result.ensures if1.false c.wide8.ensures.0 _ c.function_field.ensures
+    result_compared pre.0 pre.2 is_result.ensures if1.false c.from.ensures _ c.function_field.ensures

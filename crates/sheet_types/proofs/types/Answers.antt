@@ -10,7 +10,7 @@ pub loop-k-init : goal.loop-k-init
 loop-k-init c =
     let pre = c.requires in
     let first_node = c.first_node-first in
-    typing_begins pre.0 pre.1 (search rules) first_node.ensures (c.wide-count.ensures.0 ∙ c.nodes.ensures) c.wide-count.ensures.1
+    typing_begins pre.0 pre.1 (search rules) first_node.ensures (c.from-count.ensures ∙ c.nodes.ensures)
 
 pub type_at-t-requires : goal.type_at-t-requires
 type_at-t-requires c =
