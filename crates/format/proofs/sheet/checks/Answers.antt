@@ -23,7 +23,8 @@ trees-requires c =
 pub returns-in_err-trees : goal.returns-in_err-trees
 returns-in_err-trees c =
     let refusal = c.in_err-trees in
-    rw (passed_on c.from_residual.result refusal.field-0.0 c.from_residual.ensures.1) (trees_refused c.requires.0 c.in_ok-names.ensures refl refusal.ensures refl)
+    let residual = c.from_residual-in_err-trees in
+    rw (passed_on residual.result refusal.field-0.0 residual.ensures.1) (trees_refused c.requires.0 c.in_ok-names.ensures refl refusal.ensures refl)
 
 pub last_checks-requires : goal.last_checks-requires
 last_checks-requires c =
