@@ -16,8 +16,8 @@ ghost use Rattle.sheet_rules.specs.Seen.{ParentsOf, TreesAccepted};
 ghost use Rattle.sheet_rules.specs.Clauses.{ClausesOf, Ruled};
 ghost use Rattle.sheet_types.specs.Tables.{type_in, NamedAt, CaseAt, TypedAt};
 
-use definitions::sizes::{Ends, MOST_NODES, OfNodes, Owners, Starts};
 use definitions::refusals::{Reason, Refusal};
+use definitions::sizes::{Ends, MOST_NODES, OfNodes, Owners, Starts};
 use definitions::{Layout, sheet_kinds};
 use file_layout::layout::{first_function, first_item, first_node, nodes};
 use file_records::declared_fields::{constructor_field, function_field};
@@ -78,7 +78,12 @@ fn type_at(
     let i = kind(rec);
     let x = field(rec, 0);
     if i == sheet_kinds::PARAMETER {
-        return function_field(b, starts, usize::from(owners[k]), PARAMETER_TYPES + usize::from(x));
+        return function_field(
+            b,
+            starts,
+            usize::from(owners[k]),
+            PARAMETER_TYPES + usize::from(x),
+        );
     }
     if i == sheet_kinds::PATTERN_VARIABLE {
         return pattern_type(b, starts, held, k, x);
@@ -229,10 +234,16 @@ pub fn types(
         let t = type_at(b, starts, owners, held, &types, k, rec);
         types[k] = t;
         if !children_typed(b, starts, &types, k, rec) {
-            return Err(Refusal { reason: Reason::IllTyped, place: first + k });
+            return Err(Refusal {
+                reason: Reason::IllTyped,
+                place: first + k,
+            });
         }
         if !result_typed(b, starts, ends, owners, parents, k, t) {
-            return Err(Refusal { reason: Reason::IllTyped, place: first + k });
+            return Err(Refusal {
+                reason: Reason::IllTyped,
+                place: first + k,
+            });
         }
     }
     Ok(())

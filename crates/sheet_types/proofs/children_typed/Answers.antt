@@ -1,5 +1,5 @@
 -- `sheet_types::children_typed` meets its contract, kind by kind.
-use mathlib.Core.Path.{refl, sym, ◌∙◌}
+use mathlib.Core.Path.{refl, ◌∙◌}
 use native.Mathlib.Omega.{arith}
 use Rattle.laws.proofs.Types.{left_no_number, right_tested, condition_no_number, arms_tested, call_tested, build_tested, scrutinee_number, clauses_tested, childless}
 use Rattle.sheet_types.proofs.TypeSteps.{few_arguments, callee_record, constructor_record}
@@ -84,13 +84,6 @@ returns-then-t-lt1 c =
     let field = c.field-x in
     let if7 = c.if-i-eq-CASE in
     scrutinee_number _ _ _ kind.ensures if7.true (c.type_in-t.ensures ∙ rw field.ensures refl) c.if-t-lt1.true
-
-pub clauses_typed-requires : goal.clauses_typed-requires
-clauses_typed-requires c =
-    let pre = c.requires in
-    let kind = c.kind-i in
-    let if7 = c.if-i-eq-CASE in
-    record { node = pre.0; is = pre.1; kind = sym kind.ensures ∙ if7.true }
 
 pub returns-then-i-eq-CASE : goal.returns-then-i-eq-CASE
 returns-then-i-eq-CASE c =

@@ -1,6 +1,6 @@
 -- `sheet_types::clauses_typed` meets its contract. The loop's invariant: the clauses so far are of the type.
 use mathlib.Core.Path.{refl, ◌∙◌}
-use Rattle.laws.proofs.Tests.{tests_begin, tests_go_on, tests_fail, tests_end, same_test, differ_test}
+use Rattle.laws.proofs.Tests.{tests_begin, tests_go_on, tests_fail, same_test, differ_test}
 use Rattle.sheet_types.proofs.TypeSteps.{clause_type}
 use Rattle.sheet_types.proofs.clauses_typed.Goals as goal
 
@@ -26,8 +26,3 @@ loop-j-preserved c =
     let from = c.from-c in
     let own = clause_type loop.invariant.1 loop.invariant.0.count loop_test.true (from.ensures ∙ clause_constructor.ensures) c.constructor_field.ensures in
     (tests_go_on loop.invariant.0 loop_test.true (same_test own refl c.if-constructor_field-t.false), loop.invariant.1)
-
-pub returns : goal.returns
-returns c =
-    let loop = c.loop-j in
-    tests_end loop.invariant.0 c.loop-j-test.false

@@ -1,13 +1,8 @@
 -- `sheet_types::is_result` meets its contract: a clause's node is a child of a case, and not its scrutinee.
 use mathlib.Core.Path.{◌∙◌}
 use Rattle.sheet_rules.proofs.TreeSteps.{node_in_table}
-use Rattle.sheet_types.proofs.TypeSteps.{result_body, result_no_case, result_clause}
+use Rattle.sheet_types.proofs.TypeSteps.{result_no_case, result_clause}
 use Rattle.sheet_types.proofs.is_result.Goals as goal
-
-pub returns-then-is_body : goal.returns-then-is_body
-returns-then-is_body c =
-    let pre = c.requires in
-    result_body pre.0 pre.1 pre.2 c.is_body.ensures c.if-is_body.true
 
 pub bounds-parents-k : goal.bounds-parents-k
 bounds-parents-k c =

@@ -1,6 +1,5 @@
 -- `sheet_types::pattern_type` meets its contract: the type is that of the field, by the clause's constructor.
-use mathlib.Core.Path.{refl, ◌∙◌}
-use native.Mathlib.Omega.{arith}
+use mathlib.Core.Path.{refl}
 use Rattle.sheet_types.proofs.TypeSteps.{node_in_table, pattern_outside, pattern_inside}
 use Rattle.sheet_types.proofs.pattern_type.Goals as goal
 

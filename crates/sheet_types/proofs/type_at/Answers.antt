@@ -18,11 +18,6 @@ returns-then-i-eq-PARAMETER c =
     parameter_by _ _ _ _ kind.ensures if1.true
     (owner_field pre.0.node pre.0.owned c.from.ensures _ (c.function_field.ensures ∙ rw (c.from-then-i-eq-PARAMETER.ensures, field.ensures) refl))
 
-pub pattern_type-requires : goal.pattern_type-requires
-pattern_type-requires c =
-    let pre = c.requires in
-    (pre.0.node, pre.0.clauses)
-
 pub returns-then-i-eq-PATTERN_VARIABLE : goal.returns-then-i-eq-PATTERN_VARIABLE
 returns-then-i-eq-PATTERN_VARIABLE c =
     let kind = c.kind-i in

@@ -2,18 +2,13 @@
 use mathlib.Core.Path.{ap, ◌∙◌}
 use Rattle.definitions.specs.Refusals.{as_verdict}
 use Rattle.laws.proofs.Refusals.{passed_on}
-use Rattle.laws.proofs.Verdicts.{passed_none, passed_more, passed_refused, passed_all}
+use Rattle.laws.proofs.Verdicts.{passed_none, passed_more, passed_refused}
 use native.Mathlib.Omega.{arith}
 use borrow.Author.Rules.{rules}
 use Rattle.sheet_rules.proofs.names.names.Goals as goal
 
 pub loop-r-init : goal.loop-r-init
 loop-r-init c = (search rules, c.due-count.ensures.0, c.requires.0, c.requires.1, passed_none _)
-
-pub names_at-requires : goal.names_at-requires
-names_at-requires c =
-    let loop = c.loop-r in
-    record { file = loop.invariant.2; owned = loop.invariant.3; below = omega arith }
 
 pub returns-in_err-names_at : goal.returns-in_err-names_at
 returns-in_err-names_at c =
@@ -25,8 +20,3 @@ pub loop-r-preserved : goal.loop-r-preserved
 loop-r-preserved c =
     let loop = c.loop-r in
     (omega arith, loop.invariant.1, loop.invariant.2, loop.invariant.3, passed_more _ _ _ loop.invariant.4 c.names_at.ensures (ap as_verdict c.in_ok-names_at.was))
-
-pub returns : goal.returns
-returns c =
-    let loop = c.loop-r in
-    passed_all _ _ _ _ loop.invariant.1 loop.invariant.0 c.loop-r-test.false loop.invariant.4

@@ -2,7 +2,7 @@
 use Rattle.file_records.proofs.Indices.{opened_record}
 use Rattle.laws.proofs.Arguments.{out_of_range_law, mismatched, matched}
 use Rattle.laws.proofs.Names.{children_out, names_out, all_in}
-use mathlib.Core.Path.{sym, ◌∙◌}
+use mathlib.Core.Path.{◌∙◌}
 use Rattle.sheet_rules.proofs.names.names_at.Goals as goal
 
 pub returns-then-not-children_below : goal.returns-then-not-children_below
@@ -30,11 +30,6 @@ returns-then-not-names_in_range c =
     let if1 = c.if-not-children_below in
     out_of_range_law _ _ (names_out _ _ (opened_record _ _ _ _ _ pre.file pre.below indexed.ensures) (from.ensures ∙ nodes.ensures)
     children_below.ensures if1.false c.names_in_range.ensures c.if-not-names_in_range.true)
-
-pub arguments_match-requires : goal.arguments_match-requires
-arguments_match-requires c =
-    let pre = c.requires in
-    (pre.file, sym c.names_in_range.ensures ∙ c.if-not-names_in_range.false)
 
 pub returns-then-not-arguments_match : goal.returns-then-not-arguments_match
 returns-then-not-arguments_match c =

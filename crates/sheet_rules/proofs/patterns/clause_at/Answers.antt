@@ -3,9 +3,6 @@ use Rattle.sheet_rules.proofs.PatternSteps.{body_entry, parent_in_table, clause_
 use Rattle.sheet_rules.proofs.TreeSteps.{node_in_table}
 use Rattle.sheet_rules.proofs.patterns.clause_at.Goals as goal
 
-pub is_body-requires : goal.is_body-requires
-is_body-requires c = c.requires.0
-
 pub returns-then-is_body : goal.returns-then-is_body
 returns-then-is_body c =
     let pre = c.requires in

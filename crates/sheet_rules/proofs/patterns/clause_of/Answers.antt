@@ -1,10 +1,7 @@
 -- `sheet_rules::patterns::clause_of` meets its contract. The loop's invariant: the clauses passed are not the one.
-use Rattle.sheet_rules.proofs.ClauseTable.{clause_left_all, clause_left_fewer, clause_found, clause_not_found}
+use Rattle.sheet_rules.proofs.ClauseTable.{clause_left_fewer, clause_found, clause_not_found}
 use mathlib.Core.Path.{◌∙◌}
 use Rattle.sheet_rules.proofs.patterns.clause_of.Goals as goal
-
-pub loop-j-init : goal.loop-j-init
-loop-j-init c = clause_left_all c.clauses-j.ensures
 
 pub returns-then-from-k : goal.returns-then-from-k
 returns-then-from-k c =
