@@ -1,6 +1,7 @@
 -- The ceilings of the allowances, one law for each way that the test of them ends.
 use mathlib.Core.Path.{◌≡◌, refl, sym, ◌∙◌}
 use Prim.Native.Nat.{ℕ, ◌*◌, ◌≤◌, ◌<◌}
+use mathlib.Core.Logic.{◌⊎◌, inl, inr}
 use mathlib.Core.Bool.{Bool, true, false, ◌&&◌, and-eq-true_iff}
 use lib.Dec.{leb}
 use borrow.Author.Tests.{le-leb, lt-leb, leb-true}
@@ -9,21 +10,16 @@ use Rattle.definitions.specs.Sizes.{most_nesting, most_cells, cell_size}
 use Rattle.definitions.specs.Run.{allowances_fit}
 
 module _ (nesting cells_allowed lent : ℕ) where
-  pub no_nesting_law : nesting < 1 → false ≡ allowances_fit nesting cells_allowed lent
+  pub past_a_ceiling : nesting < 1 ⊎ ((1 ≤ nesting × most_nesting < nesting) ⊎ (1 ≤ nesting × nesting ≤ most_nesting × most_cells < cells_allowed))
+      → false ≡ allowances_fit nesting cells_allowed lent
   unfolding within
-  no_nesting_law h = rw (lt-leb 1 nesting h) refl
+  past_a_ceiling (inl h) = rw (lt-leb 1 nesting h) refl
+  past_a_ceiling (inr (inl (h, k))) = rw (le-leb 1 nesting h, lt-leb nesting most_nesting k) refl
+  past_a_ceiling (inr (inr (h, k, l))) = rw (le-leb 1 nesting h, le-leb nesting most_nesting k, lt-leb cells_allowed most_cells l) refl
 
-  pub much_nesting : 1 ≤ nesting → most_nesting < nesting → false ≡ allowances_fit nesting cells_allowed lent
+  pub cells_lent : 1 ≤ nesting → nesting ≤ most_nesting → cells_allowed ≤ most_cells → leb (cell_size * cells_allowed) lent ≡ allowances_fit nesting cells_allowed lent
   unfolding within
-  much_nesting h k = rw (le-leb 1 nesting h, lt-leb nesting most_nesting k) refl
-
-  pub many_cells : 1 ≤ nesting → nesting ≤ most_nesting → most_cells < cells_allowed → false ≡ allowances_fit nesting cells_allowed lent
-  unfolding within
-  many_cells h k l = rw (le-leb 1 nesting h, le-leb nesting most_nesting k, lt-leb cells_allowed most_cells l) refl
-
-  pub cells_lent : (x : ℕ) → 1 ≤ nesting → nesting ≤ most_nesting → cells_allowed ≤ most_cells → x ≡ cells_allowed → leb (cell_size * x) lent ≡ allowances_fit nesting cells_allowed lent
-  unfolding within
-  cells_lent x h k l e = rw (le-leb 1 nesting h, le-leb nesting most_nesting k, le-leb cells_allowed most_cells l, e) refl
+  cells_lent h k l = rw (le-leb 1 nesting h, le-leb nesting most_nesting k, le-leb cells_allowed most_cells l) refl
 
   pub record WithinLimits : Type 0 where
     pub nested : nesting ≤ most_nesting

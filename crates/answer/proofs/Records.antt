@@ -1,12 +1,13 @@
 -- The answer record, written field by field.
 use mathlib.Core.Path.{◌≡◌, refl, sym, ap, ◌∙◌}
-use Prim.Native.Nat.{ℕ, ◌%◌, ◌≤◌, ◌<◌}
+use Prim.Native.Nat.{ℕ}
 use mathlib.Core.List.{List}
-use native.Mathlib.Nat.{mod-eq_of_lt}
-use lib.IntN.{ℤ, pos}
+use lib.IntN.{ℤ}
 use lib.ListN.{length}
 use lib.Seq.{sets}
-use borrow.Author.Tests.{le-leb, lt-leb}
+use lib.Dec.{leb}
+use borrow.Author.Tests.{leb-true}
+use mathlib.Core.Bool.{Bool, true, false}
 use mir.Syntax.{w32}
 use mir.Val.{to_z, of_z, SFits}
 use mir.ValLaws.{to_z-of_z}
@@ -18,38 +19,28 @@ use Rattle.definitions.specs.Run as Run
 use Rattle.definitions.specs.Run.{refusal}
 use Rattle.definitions.specs.Verdicts.{require}
 use Rattle.definitions.specs.AnswerRecord.{answer_kind, answer_words, answer_bytes}
-use Rattle.definitions.specs.Verdict.{Accepted, Refused}
+use Rattle.definitions.specs.Verdict.{Verdict, Accepted, Refused}
 use Rattle.answer.specs.declared.Answer.{Answer}
 use Rattle.answer.specs.declared.Outcome.{Outcome}
 use Rattle.answer.specs.declared.Outcome.TheVariants.{Number, Constructor, Ended}
 use Rattle.answer.specs.declared.Outcome.TheVariants as Out
 use Rattle.answer.specs.Answers.{outcome_of, value_of, node_of, context_of, answer_of, Writes}
 use Rattle.laws.proofs.Stores.{over_front}
+use Rattle.laws.proofs.Verdicts.{required}
 
-value_small : (n : ℕ) → n < 4294967296 → n ≡ residue w32 (pos n)
-unfolding residue
-value_small n h = sym (mod-eq_of_lt h)
-
--- the bits of each outcome's value
+-- the bits of a number
 pub number_bits : {o : Outcome} {z : ℤ} {r : ℕ} → SFits w32 z → o ≡ Number z → r ≡ residue w32 (to_z w32 (of_z w32 z)) → r ≡ residue w32 (value_of o)
 unfolding value_of
 number_bits {z} f e g = g ∙ ap (residue w32) (to_z-of_z w32 z f) ∙ sym (ap (λ (u : Outcome). residue w32 (value_of u)) e)
 
-pub tag_bits : {o : Outcome} {t k w : ℕ} → t < 4294967296 → o ≡ Constructor t k w → t ≡ residue w32 (value_of o)
-unfolding value_of
-tag_bits {t} h e = value_small t h ∙ sym (ap (λ (u : Outcome). residue w32 (value_of u)) e)
-
-pub end_bits : (o : Outcome) (n : ℕ) → o ≡ Ended n → 0 ≡ residue w32 (value_of o)
-unfolding value_of residue
-end_bits o n e = sym (ap (λ (u : Outcome). residue w32 (value_of u)) e)
-
-pub place_bits : {o : Outcome} {n p : ℕ} → o ≡ Out.Refused n p → p % 4294967296 ≡ residue w32 (value_of o)
-unfolding value_of residue
-place_bits e = sym (ap (λ (u : Outcome). residue w32 (value_of u)) e)
-
-pub record_short : (a : Answer) (out : List ℕ) → length out < answer_size → Writes a out out (Refused short_output 0)
+not_met : (t : Bool) (n p : ℕ) {m q : ℕ} → require t n p ≡ Refused m q → t ≡ false
 unfolding require
-record_short a out h = record { verdict = rw (lt-leb answer_size (length out) h) refl; bytes = rw (lt-leb answer_size (length out) h) refl }
+not_met true n p e = cc e
+not_met false n p e = refl
+
+-- a record that is not written
+pub record_short : {a : Answer} {out : List ℕ} {v : Verdict} {n p : ℕ} → v ≡ require (leb answer_size (length out)) short_output 0 → v ≡ Refused n p → Writes a out out v
+record_short e f = record { verdict = e; bytes = rw (not_met _ short_output 0 (sym e ∙ f)) refl }
 
 module _ (a : Answer) (l m n o p q r s t : List ℕ) (outcome value node context : ℕ) where
   pub record_bytes_law : outcome ≡ outcome_of a.outcome → value ≡ residue w32 (value_of a.outcome) → node ≡ node_of a.outcome → context ≡ context_of a.outcome
@@ -63,13 +54,12 @@ pub answer_length : (a : Run.Answer) → length (answer_bytes a) ≡ answer_size
 unfolding word_bytes words32 bytes_of answer_words answer_bytes
 answer_length a = refl
 
-pub record_written : (a : Answer) (l t : List ℕ) → answer_size ≤ length l → t ≡ sets l 0 (answer_bytes (answer_of a)) → Writes a l t Accepted
-unfolding require
+pub record_written : (a : Answer) (l t : List ℕ) → Accepted ≡ require (leb answer_size (length l)) short_output 0
+    → t ≡ sets l 0 (answer_bytes (answer_of a)) → Writes a l t Accepted
 record_written a l t h e =
-    record {
-      verdict = rw (le-leb answer_size (length l) h) refl;
-      bytes = rw (le-leb answer_size (length l) h) (e ∙ over_front (answer_bytes (answer_of a)) l answer_size (answer_length (answer_of a)) h);
-    }
+    let k = required (leb answer_size (length l)) short_output 0 (sym h) in
+    let room = leb-true answer_size (length l) k in
+    record { verdict = h; bytes = rw k (e ∙ over_front (answer_bytes (answer_of a)) l answer_size (answer_length (answer_of a)) room) }
 
 -- the answer of a refusal
 pub refusal_is : (n p : ℕ) → answer_of (record { outcome = Out.Refused n p; steps = 0; cells = 0 }) ≡ refusal n p

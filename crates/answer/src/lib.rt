@@ -4,11 +4,13 @@
 ghost use Rattle.std.specs.Prelude.{◌≡◌};
 ghost use Rattle.std.specs.Int.{w32};
 ghost use Rattle.definitions.specs.Operators.{residue};
+ghost use Rattle.definitions.specs.Refusals.{number_of, as_verdict};
 ghost use Rattle.definitions.specs.Run.{refusal};
 ghost use Rattle.answer.specs.Answers.{outcome_of, value_of, node_of, context_of, answer_of, Writes};
 
+use definitions::refusals::{Reason, Refusal, require};
 use definitions::sizes::ANSWER_BYTES;
-use definitions::{Verdict, answer_record, numbers};
+use definitions::{answer_record, numbers};
 use file_fields::writing::{put_word, put_word32};
 use operators::bits::bits_of;
 
@@ -40,86 +42,67 @@ pub fn refused(number: u16, place: usize) -> Answer
     }
 }
 
+// The answer of a run that was refused.
+impl From<Refusal> for Answer {
+    ghost from_gives = { λ r a. answer_of a ≡ refusal (number_of r.reason) r.place };
+
+    fn from(r: Refusal) -> Answer {
+        refused(r.reason.number(), r.place)
+    }
+}
+
 // The outcome's number.
+#[tactic(auto, unfolding(crate::specs::Answers::outcome_of))]
 fn outcome_of(o: Outcome) -> u16
     ensures { result ≡ outcome_of o }
 {
     match o {
         Outcome::Number(_) => numbers::NUMBER,
-        Outcome::Constructor {
-            tag: _,
-            node: _,
-            context: _,
-        } => numbers::CONSTRUCTOR,
-        Outcome::Ended(number) => number,
-        Outcome::Refused { number, place: _ } => number,
+        Outcome::Constructor { .. } => numbers::CONSTRUCTOR,
+        Outcome::Ended(number) | Outcome::Refused { number, .. } => number,
     }
 }
 
 // The bits of the outcome's value.
+#[tactic(auto, unfolding(crate::specs::Answers::value_of, definitions::specs::Operators::residue))]
 fn value_bits(o: Outcome) -> u32
     ensures { result ≡ residue w32 (value_of o) }
 {
     match o {
         Outcome::Number(value) => bits_of(value),
-        Outcome::Constructor {
-            tag,
-            node: _,
-            context: _,
-        } => tag as u32,
+        Outcome::Constructor { tag, .. } => u32::from(tag),
         Outcome::Ended(_) => 0,
-        Outcome::Refused { number: _, place } => (place % 0x1_0000_0000) as u32,
+        Outcome::Refused { place, .. } => (place % 0x1_0000_0000) as u32,
     }
 }
 
 // The node of a constructor, else 0.
+#[tactic(auto, unfolding(crate::specs::Answers::node_of))]
 fn node_of(o: Outcome) -> u16
     ensures { result ≡ node_of o }
 {
     match o {
-        Outcome::Number(_) => 0,
-        Outcome::Constructor {
-            tag: _,
-            node,
-            context: _,
-        } => node,
-        Outcome::Ended(_) => 0,
-        Outcome::Refused {
-            number: _,
-            place: _,
-        } => 0,
+        Outcome::Constructor { node, .. } => node,
+        _ => 0,
     }
 }
 
 // The context of a constructor, else 0.
+#[tactic(auto, unfolding(crate::specs::Answers::context_of))]
 fn context_of(o: Outcome) -> u16
     ensures { result ≡ context_of o }
 {
     match o {
-        Outcome::Number(_) => 0,
-        Outcome::Constructor {
-            tag: _,
-            node: _,
-            context,
-        } => context,
-        Outcome::Ended(_) => 0,
-        Outcome::Refused {
-            number: _,
-            place: _,
-        } => 0,
+        Outcome::Constructor { context, .. } => context,
+        _ => 0,
     }
 }
 
 // Writes the answer's record.
-pub fn write_answer(a: Answer, out: &mut [u8]) -> Verdict
-    ensures { Writes a out.old out.new result }
+pub fn write_answer(a: Answer, out: &mut [u8]) -> Result<(), Refusal>
+    ensures { Writes a out.old out.new (as_verdict result) }
 {
-    if out.len() < ANSWER_BYTES {
-        return Verdict::Refused {
-            number: numbers::SHORT_OUTPUT,
-            place: 0,
-        };
-    }
+    require(ANSWER_BYTES <= out.len(), Reason::ShortOutput)?;
     let o = a.outcome;
     put_word(out, answer_record::LENGTH_PLACE, answer_record::LENGTH);
     put_word(out, answer_record::KIND_PLACE, answer_record::KIND);
@@ -129,5 +112,5 @@ pub fn write_answer(a: Answer, out: &mut [u8]) -> Verdict
     put_word(out, answer_record::NODE_PLACE, node_of(o));
     put_word(out, answer_record::CONTEXT_PLACE, context_of(o));
     put_word(out, answer_record::CELLS_PLACE, a.cells);
-    Verdict::Accepted
+    Ok(())
 }

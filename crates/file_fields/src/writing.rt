@@ -17,8 +17,9 @@ pub fn put_word(b: &mut [u8], at: usize, n: u16)
     ensures { b.new ≡ sets b.old at (word_bytes n) }
 {
     if at < b.len() {
-        put_byte(b, at, (n % 256) as u8);
-        put_byte(b, at + 1, (n / 256) as u8);
+        let [low, high] = n.to_le_bytes();
+        put_byte(b, at, low);
+        put_byte(b, at + 1, high);
     }
 }
 
@@ -26,10 +27,8 @@ pub fn put_word(b: &mut [u8], at: usize, n: u16)
 pub fn put_word32(b: &mut [u8], at: usize, n: u32)
     ensures { b.new ≡ sets b.old at (bytes_of (words32 n)) }
 {
-    if at < b.len() {
-        put_word(b, at, (n % 65536) as u16);
-        if 1 < b.len() - at {
-            put_word(b, at + 2, (n / 65536) as u16);
-        }
+    put_word(b, at, (n % 65536) as u16);
+    if let Some(next) = at.checked_add(2) {
+        put_word(b, next, (n / 65536) as u16);
     }
 }

@@ -11,12 +11,6 @@ const KINDS: usize = 57;
 // A row: least length, step and greatest length.
 type Row = [u16; 3];
 
-const LEAST: usize = 0;
-
-const STEP: usize = 1;
-
-const GREATEST: usize = 2;
-
 // The row of a number that is no kind: no length is from 1 to 0.
 const NONE: Row = [1, 1, 0];
 
@@ -95,20 +89,11 @@ pub fn allows(rows: &Rows, kind: u16, length: u16) -> bool
     requires { RowsOf rows.now }
     ensures { result ≡ allows (row_of kind) length }
 {
-    let k = kind as usize;
-    if KINDS <= k {
+    let Some(&[least, step, greatest]) = rows.get(usize::from(kind)) else {
+        return false;
+    };
+    if length < least || greatest < length {
         return false;
     }
-    let row = rows[k];
-    let least = row[LEAST];
-    if length < least {
-        return false;
-    }
-    if row[GREATEST] < length {
-        return false;
-    }
-    if row[STEP] == 4 {
-        return (length - least) % 4 == 0;
-    }
-    (length - least) % 2 == 0
+    (length - least) % step == 0
 }

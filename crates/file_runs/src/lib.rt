@@ -13,7 +13,6 @@ use definitions::Layout;
 use definitions::sizes::{Ends, Owners, Starts};
 use file_layout::layout::{count_field, first_function, functions, nodes};
 use file_records::records::{field, indexed};
-use widths::wide;
 
 // Fills the table of the ends of runs.
 pub fn run_ends(y: Layout, b: &[u8], starts: &Starts, ends: &mut Ends)
@@ -25,7 +24,7 @@ pub fn run_ends(y: Layout, b: &[u8], starts: &Starts, ends: &mut Ends)
     let j = count_field(y);
     let mut total: usize = 0;
     for f in 0..count {
-        total += wide(field(indexed(b, starts, first + f), j));
+        total += usize::from(field(indexed(b, starts, first + f), j));
         ends[f] = total as u16;
     }
 }
@@ -35,7 +34,7 @@ fn owner_after(ends: &Ends, f: usize, k: usize) -> usize
     requires { f < most_functions }
     ensures { result ≡ owner_after ends.now f k }
 {
-    if wide(ends[f]) <= k { f + 1 } else { f }
+    if usize::from(ends[f]) <= k { f + 1 } else { f }
 }
 
 // Fills the table of owners of a sheet's nodes.

@@ -6,7 +6,6 @@ ghost use Rattle.std.specs.Prelude.{◌≡◌, ◌+◌, ◌*◌, ◌<◌};
 ghost use Rattle.file_writer.specs.Writing.{walk_end, word_bytes, written, Written, skipped, start_of};
 
 use definitions::sizes::{CELL_BYTES, MOST_CELLS};
-use widths::wide8;
 
 // How many bytes the space has: those of one cell more than there may be. A file may have fewer.
 pub const SPACE_BYTES: usize = CELL_BYTES * (MOST_CELLS as usize + 1);
@@ -35,7 +34,7 @@ fn skip(file: &Space, at: usize) -> usize
     ensures { (result ≡ skipped file.now at) × (result < walk_end) }
 {
     if at < WORD_PLACES {
-        at + (wide8(file[at]) + 256 * wide8(file[at + 1]))
+        at + (usize::from(file[at]) + 256 * usize::from(file[at + 1]))
     } else {
         WORD_PLACES
     }

@@ -44,12 +44,16 @@ pub record ClauseLeft (rec : List ℕ) (k j : ℕ) : Type 0 where
 pub clause_left_all : {rec : List ℕ} {k j : ℕ} → j ≡ clauses rec → ClauseLeft rec k j
 clause_left_all e = record { same = rw e refl }
 
-pub clause_left_fewer : {rec : List ℕ} {k j x : ℕ} → ClauseLeft rec k j → 0 < j → x ≡ child rec j → (x ≡ k → ⊥) → ClauseLeft rec k (j - 1)
-clause_left_fewer {rec} {k} {j} {x} w h e f = record { same = w.same ∙ clause_before rec k j x h e f }
+pub clause_left_fewer : {rec : List ℕ} {k j x : ℕ} → ClauseLeft rec k j → 0 < j → x ≡ child rec (j - 1 + 1) → (x ≡ k → ⊥) → ClauseLeft rec k (j - 1)
+clause_left_fewer {rec} {k} {j} {x} w h e f =
+    let q : j - 1 + 1 ≡ j = omega (arith, h) in
+    record { same = w.same ∙ clause_before rec k j x h (rw q at e) f }
 
-pub clause_found : {rec : List ℕ} {k j x y : ℕ} → ClauseLeft rec k j → 0 < j → x ≡ child rec j → x ≡ k → y ≡ clause_constructor rec (j - 1)
+pub clause_found : {rec : List ℕ} {k j x y : ℕ} → ClauseLeft rec k j → 0 < j → x ≡ child rec (j - 1 + 1) → x ≡ k → y ≡ clause_constructor rec (j - 1)
     → 1 + y ≡ entry_of (clause_of rec (clauses rec) k)
-clause_found {rec} {k} {j} {x} {y} w h e f g = clause_here rec k j x y h e f g ∙ ap entry_of (sym w.same)
+clause_found {rec} {k} {j} {x} {y} w h e f g =
+    let q : j - 1 + 1 ≡ j = omega (arith, h) in
+    clause_here rec k j x y h (rw q at e) f g ∙ ap entry_of (sym w.same)
 
 pub clause_not_found : {rec : List ℕ} {k j : ℕ} → ClauseLeft rec k j → j ≤ 0 → 0 ≡ entry_of (clause_of rec (clauses rec) k)
 clause_not_found {rec} {k} {j} w h = clause_none rec k j h ∙ ap entry_of (sym w.same)

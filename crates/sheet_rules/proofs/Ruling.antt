@@ -7,6 +7,7 @@ use Rattle.definitions.specs.Verdicts.{first_of}
 use Rattle.definitions.specs.Layouts.{nodes, first_node}
 use Rattle.definitions.specs.declared.Layout.TheVariants.{Sheet}
 use Rattle.definitions.specs.Verdict.{Verdict, Accepted, Refused}
+use Rattle.accepted.proofs.Head.{nodes_limit}
 use Rattle.laws.proofs.Verdicts.{Passed, passed_none, passed_more, passed_refused, passed_all}
 use Rattle.file_records.specs.Index.{Opened}
 
@@ -21,14 +22,14 @@ pub record Ruling (b starts : List ℕ) (first count k : ℕ) (rule : ℕ → Ve
   pub passed : Passed k rule
 
 pub ruling_begins : {b starts : List ℕ} {first count : ℕ} {rule : ℕ → Verdict} → Opened Sheet b starts → (first ≡ first_node b) × (first ≤ 131071)
-    → count ≡ nodes b → count ≤ 65535 → Ruling b starts first count 0 rule
-ruling_begins o f n h =
+    → count ≡ nodes b → Ruling b starts first count 0 rule
+ruling_begins {b} o f n =
     record {
       file = o;
       start = f.0;
       low = f.1;
       counts = n;
-      narrow = h;
+      narrow = omega (arith, n, nodes_limit Sheet b o.accepted);
       reached = omega arith;
       passed = passed_none _;
     }

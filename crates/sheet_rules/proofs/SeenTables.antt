@@ -34,13 +34,6 @@ once_is n false e = sym (once_more n (ltb-false n 1 e)) ∙ omega (arith, ltb-fa
 pub once_counts : (n : ℕ) → once n ≡ min 2 (n + 1)
 once_counts n = once_is n (ltb n 1) refl
 
--- one node is noted, where there is an entry for it and where there is none
-pub noted_inside : {c p : ℕ} {times parents t s : List ℕ} → c < most_nodes → t ≡ set times c (once (get_or times c 0)) → s ≡ set parents c p → NotedOne c p times parents t s
-noted_inside {c} h e f = record { counted = rw (lt-ltb c most_nodes h) e; last = rw (lt-ltb c most_nodes h) f }
-
-pub noted_outside : {c p : ℕ} {times parents : List ℕ} → most_nodes ≤ c → NotedOne c p times parents times parents
-noted_outside {c} h = record { counted = rw (le-ltb c most_nodes h) refl; last = rw (le-ltb c most_nodes h) refl }
-
 -- an entry after one node is noted
 module _ (c p : ℕ) (times parents t s : List ℕ) (w : ChildTables times parents) (o : NotedOne c p times parents t s) (k : ℕ) (h : k < most_nodes) where
   noted_here : c ≡ k → (get_or t k 0 ≡ min 2 (get_or times k 0 + 1)) × (get_or s k 0 ≡ p)

@@ -1,6 +1,6 @@
 -- Laws of the child, case and clause order rules over an opened sheet's tables.
 use mathlib.Core.Path.{◌≡◌, refl, sym, ◌∙◌}
-use Prim.Native.Nat.{ℕ, suc, ◌+◌, ◌≤◌, ◌<◌}
+use Prim.Native.Nat.{ℕ, suc, ◌+◌, ◌-◌, ◌≤◌, ◌<◌}
 use mathlib.Core.List.{List}
 use mathlib.Core.Bool.{Bool, true, false, cond, not}
 use native.Mathlib.Omega.{arith}
@@ -67,13 +67,15 @@ module _ (b rec : List ℕ) {k : ℕ} (j : ℕ) {c : ℕ} (e : c ≡ child rec j
         rw (← e, lt-ltb c k h, eq-eqb (owner_of Sheet b c) (owner_of Sheet b k) (sym (w.entry c (omega arith)) ∙ f ∙ w.entry k hk)) refl
 
 -- the test of two clauses that follow one another
-pub clauses_fall : (rec : List ℕ) (j x y : ℕ) → x ≡ clause_constructor rec (j + 1) → y ≡ clause_constructor rec j → x ≤ y
-    → ltb (clause_constructor rec j) (clause_constructor rec (suc j)) ≡ false
-clauses_fall rec j x y e f h = rw (← f, ← (rw add-one at e)) (le-ltb y x h)
+module _ (rec : List ℕ) {j x y : ℕ} (h : 1 ≤ j) (e : x ≡ clause_constructor rec j) (f : y ≡ clause_constructor rec (j - 1)) where
+  next_clause : suc (j - 1) ≡ j
+  next_clause = omega (arith, h)
 
-pub clauses_rise_here : (rec : List ℕ) (j x y : ℕ) → x ≡ clause_constructor rec (j + 1) → y ≡ clause_constructor rec j → y < x
-    → ltb (clause_constructor rec j) (clause_constructor rec (suc j)) ≡ true
-clauses_rise_here rec j x y e f h = rw (← f, ← (rw add-one at e)) (lt-ltb y x h)
+  pub clauses_fall : x ≤ y → ltb (clause_constructor rec (j - 1)) (clause_constructor rec (suc (j - 1))) ≡ false
+  clauses_fall l = rw (next_clause, ← f, ← e) (le-ltb y x l)
+
+  pub clauses_rise_here : y < x → ltb (clause_constructor rec (j - 1)) (clause_constructor rec (suc (j - 1))) ≡ true
+  clauses_rise_here l = rw (next_clause, ← f, ← e) (lt-ltb y x l)
 
 -- the rules of node k, by what the tests answered
 module _ (b : List ℕ) {rec : List ℕ} (k : ℕ) (er : rec ≡ node_record b k) {t : Bool}

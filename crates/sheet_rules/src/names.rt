@@ -4,19 +4,20 @@ ghost use Rattle.definitions.specs.Records.{record_of, field_count};
 ghost use Rattle.definitions.specs.Layouts.{first_node, due, owner_of};
 ghost use Rattle.definitions.specs.References.{parameters, names_in_range, references};
 ghost use Rattle.definitions.specs.SheetRules.{arguments_match, arguments};
+ghost use Rattle.definitions.specs.Refusals.{as_verdict};
 ghost use Rattle.definitions.specs.Verdicts.{◌and_then◌, first_of};
 ghost use Rattle.definitions.specs.declared.Layout.TheVariants.{Sheet};
 ghost use Rattle.file_records.specs.Index.{Opened};
 ghost use Rattle.file_runs.specs.Runs.{Owners};
 ghost use Rattle.sheet_rules.specs.Nodes.{NamesAt};
 
+use definitions::refusals::{Reason, Refusal};
 use definitions::sizes::{Owners, Starts};
-use definitions::{Layout, Verdict, numbers, sheet_kinds};
+use definitions::{Layout, sheet_kinds};
 use file_layout::layout::{due, first_function, first_node, functions, items, nodes, readings};
 use file_records::declared_counts::{arity, parameters};
 use file_records::records::{field, field_count, indexed, kind};
 use file_references::references::{children_below, constructors_below};
-use widths::{wide, wide8};
 
 // The parameter count of the function that owns the node of record `r`.
 fn owner_parameters(b: &[u8], starts: &Starts, owners: &Owners, r: usize) -> u16
@@ -25,9 +26,9 @@ fn owner_parameters(b: &[u8], starts: &Starts, owners: &Owners, r: usize) -> u16
 {
     let first = first_node(b);
     if r < first {
-        parameters(b, starts, wide8(owners[0]))
+        parameters(b, starts, usize::from(owners[0]))
     } else {
-        parameters(b, starts, wide8(owners[r - first]))
+        parameters(b, starts, usize::from(owners[r - first]))
     }
 }
 
@@ -51,7 +52,7 @@ fn names_in_range(b: &[u8], starts: &Starts, owners: &Owners, r: usize, rec: &[u
         return x < items(b);
     }
     if k == sheet_kinds::CASE {
-        return constructors_below(rec, wide(items(b)));
+        return constructors_below(rec, usize::from(items(b)));
     }
     true
 }
@@ -74,52 +75,50 @@ fn arguments_match(b: &[u8], starts: &Starts, r: usize, rec: &[u8]) -> bool
     }
     let k = kind(rec);
     if k == sheet_kinds::CALL {
-        return argument_count(rec) == wide(parameters(b, starts, wide(field(rec, 0))));
+        return argument_count(rec)
+            == usize::from(parameters(b, starts, usize::from(field(rec, 0))));
     }
     if k == sheet_kinds::BUILD {
-        return argument_count(rec) == wide(arity(b, starts, wide(field(rec, 0))));
+        return argument_count(rec) == usize::from(arity(b, starts, usize::from(field(rec, 0))));
     }
     true
 }
 
 // The checks 5 and 7 of record `r`.
-fn names_at(b: &[u8], starts: &Starts, owners: &Owners, r: usize) -> Verdict
+fn names_at(b: &[u8], starts: &Starts, owners: &Owners, r: usize) -> Result<(), Refusal>
     requires { NamesAt b.now starts.now owners.now r }
-    ensures { result ≡ (references b.now r and_then arguments b.now r) }
+    ensures { as_verdict result ≡ (references b.now r and_then arguments b.now r) }
 {
     let rec = indexed(b, starts, r);
-    if !children_below(rec, wide(nodes(b))) {
-        return Verdict::Refused {
-            number: numbers::OUT_OF_RANGE,
+    if !children_below(rec, usize::from(nodes(b))) {
+        return Err(Refusal {
+            reason: Reason::OutOfRange,
             place: r,
-        };
+        });
     }
     if !names_in_range(b, starts, owners, r, rec) {
-        return Verdict::Refused {
-            number: numbers::OUT_OF_RANGE,
+        return Err(Refusal {
+            reason: Reason::OutOfRange,
             place: r,
-        };
+        });
     }
     if !arguments_match(b, starts, r, rec) {
-        return Verdict::Refused {
-            number: numbers::BAD_ARGUMENTS,
+        return Err(Refusal {
+            reason: Reason::BadArguments,
             place: r,
-        };
+        });
     }
-    Verdict::Accepted
+    Ok(())
 }
 
 // The checks 5 and 7 of every record.
-pub fn names(b: &[u8], starts: &Starts, owners: &Owners) -> Verdict
+pub fn names(b: &[u8], starts: &Starts, owners: &Owners) -> Result<(), Refusal>
     requires { Opened Sheet b.now starts.now × Owners b.now owners.now }
-    ensures { result ≡ first_of (due b.now) (λ r. references b.now r and_then arguments b.now r) }
+    ensures { as_verdict result ≡ first_of (due b.now) (λ r. references b.now r and_then arguments b.now r) }
 {
     let count = due(b);
     for r in 0..count {
-        let v = names_at(b, starts, owners, r);
-        let Verdict::Accepted = v else {
-            return v;
-        };
+        names_at(b, starts, owners, r)?;
     }
-    Verdict::Accepted
+    Ok(())
 }

@@ -6,31 +6,29 @@ ghost use Rattle.definitions.specs.References.{clauses};
 ghost use Rattle.definitions.specs.SheetRules.{clause_of, clause_within, pattern_right, pattern};
 ghost use Rattle.definitions.specs.Verdicts.{first_of};
 ghost use Rattle.definitions.specs.declared.Layout.TheVariants.{Sheet};
-ghost use Rattle.definitions.specs.Verdict.{Accepted};
+ghost use Rattle.definitions.specs.Refusals.{as_verdict};
 ghost use Rattle.file_records.specs.Index.{Opened};
 ghost use Rattle.sheet_rules.specs.Nodes.{NodeAt};
 ghost use Rattle.sheet_rules.specs.Seen.{ParentsOf, TreesAccepted};
 ghost use Rattle.sheet_rules.specs.Clauses.{entry_of, ClausesOf, ClausesFrom, Ruled};
 
 use crate::tree::is_body;
+use definitions::refusals::{Reason, Refusal};
+use definitions::sheet_kinds;
 use definitions::sizes::{Ends, MOST_NODES, Owners, Starts};
-use definitions::{Verdict, numbers, sheet_kinds};
 use file_layout::layout::{first_node, nodes};
 use file_records::declared_counts::arity;
 use file_records::records::{field, indexed, kind};
 use file_references::references::{child, clause_constructor, clauses};
-use widths::{wide, wide32};
 
 // One more than the constructor of the clause of a case's record that node `k` is, 0 where it is none.
 fn clause_of(rec: &[u8], k: usize) -> u32
     ensures { result ≡ entry_of (clause_of rec.now (clauses rec.now) k) }
 {
-    let mut j = clauses(rec);
-    while 0 < j {
-        if wide(child(rec, j)) == k {
-            return 1 + clause_constructor(rec, j - 1) as u32;
+    for j in (0..clauses(rec)).rev() {
+        if usize::from(child(rec, j + 1)) == k {
+            return 1 + u32::from(clause_constructor(rec, j));
         }
-        j -= 1;
     }
     0
 }
@@ -51,7 +49,7 @@ fn clause_at(
     if is_body(b, starts, ends, owners, k) {
         return 0;
     }
-    let p = wide(parents[k]);
+    let p = usize::from(parents[k]);
     let rec = indexed(b, starts, first_node(b) + p);
     if kind(rec) == sheet_kinds::CASE {
         return clause_of(rec, k);
@@ -71,11 +69,8 @@ pub fn fill_clauses(
     requires { Ruled b.now starts.now ends.now owners.now parents.now × (length held.old ≡ most_nodes) }
     ensures { ClausesOf b.now held.new }
 {
-    let mut k = wide(nodes(b));
-    while 0 < k {
-        k -= 1;
-        let entry = clause_at(b, starts, ends, owners, parents, held, k);
-        held[k] = entry;
+    for k in (0..usize::from(nodes(b))).rev() {
+        held[k] = clause_at(b, starts, ends, owners, parents, held, k);
     }
 }
 
@@ -92,23 +87,23 @@ fn pattern_right(b: &[u8], starts: &Starts, held: &[u32; MOST_NODES], k: usize) 
     if h < 1 {
         return false;
     }
-    wide(field(rec, 0)) < wide(arity(b, starts, wide32(h) - 1))
+    field(rec, 0) < arity(b, starts, h as usize - 1)
 }
 
 // The pattern rules of every node.
-pub fn patterns(b: &[u8], starts: &Starts, held: &[u32; MOST_NODES]) -> Verdict
+pub fn patterns(b: &[u8], starts: &Starts, held: &[u32; MOST_NODES]) -> Result<(), Refusal>
     requires { (Opened Sheet b.now starts.now) × ClausesOf b.now held.now × TreesAccepted b.now }
-    ensures { result ≡ first_of (nodes b.now) (pattern b.now) }
+    ensures { as_verdict result ≡ first_of (nodes b.now) (pattern b.now) }
 {
     let first = first_node(b);
-    let count = wide(nodes(b));
+    let count = usize::from(nodes(b));
     for k in 0..count {
         if !pattern_right(b, starts, held, k) {
-            return Verdict::Refused {
-                number: numbers::BAD_TREE,
+            return Err(Refusal {
+                reason: Reason::BadTree,
                 place: first + k,
-            };
+            });
         }
     }
-    Verdict::Accepted
+    Ok(())
 }

@@ -11,7 +11,6 @@ use definitions::sizes::{MOST_NODES, Starts};
 use file_layout::layout::{first_node, nodes};
 use file_records::records::{indexed, kind};
 use file_references::references::{child_inside, children};
-use widths::wide;
 
 // Once more: once, or more than once.
 fn once(n: u8) -> u8
@@ -46,7 +45,7 @@ fn note_children(rec: &[u8], p: u16, times: &mut [u8; MOST_NODES], parents: &mut
     let kind = kind(rec);
     let count = children(rec);
     for j in 0..count {
-        note_child(wide(child_inside(rec, kind, j)), p, times, parents);
+        note_child(usize::from(child_inside(rec, kind, j)), p, times, parents);
     }
 }
 
@@ -63,6 +62,11 @@ pub fn note_sheet(
     let first = first_node(b);
     let count = nodes(b);
     for p in 0..count {
-        note_children(indexed(b, starts, first + wide(p)), p, times, parents);
+        note_children(
+            indexed(b, starts, first + usize::from(p)),
+            p,
+            times,
+            parents,
+        );
     }
 }

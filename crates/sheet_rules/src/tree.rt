@@ -5,6 +5,7 @@ ghost use Rattle.definitions.specs.Sizes.{most_nodes};
 ghost use Rattle.definitions.specs.Layouts.{nodes};
 ghost use Rattle.definitions.specs.References.{children};
 ghost use Rattle.definitions.specs.SheetRules.{is_body, clauses_rise, tree_right, tree};
+ghost use Rattle.definitions.specs.Refusals.{as_verdict};
 ghost use Rattle.definitions.specs.Verdicts.{first_of};
 ghost use Rattle.definitions.specs.declared.Layout.TheVariants.{Sheet};
 ghost use Rattle.file_records.specs.Index.{Opened};
@@ -12,19 +13,19 @@ ghost use Rattle.file_runs.specs.Runs.{RunEndTable, Owners};
 ghost use Rattle.sheet_rules.specs.Nodes.{NodeAt, child_right};
 ghost use Rattle.sheet_rules.specs.Seen.{TimesOf};
 
+use definitions::refusals::{Reason, Refusal};
+use definitions::sheet_kinds;
 use definitions::sizes::{Ends, MOST_NODES, Owners, Starts};
-use definitions::{Verdict, numbers, sheet_kinds};
 use file_layout::layout::{first_node, nodes};
 use file_records::records::{indexed, kind};
 use file_references::references::{child_inside, children, clause_constructor, clauses};
-use widths::{wide, wide8};
 
 // Whether node `k` is the body of its function.
 pub fn is_body(b: &[u8], starts: &Starts, ends: &Ends, owners: &Owners, k: usize) -> bool
     requires { NodeAt b.now starts.now ends.now owners.now k }
     ensures { result ≡ is_body b.now k }
 {
-    k + 1 == wide(ends[wide8(owners[k])])
+    k + 1 == usize::from(ends[usize::from(owners[k])])
 }
 
 // Whether the nodes that a record names are smaller than node `k` and in the same function.
@@ -35,7 +36,7 @@ fn children_right(b: &[u8], owners: &Owners, k: usize, rec: &[u8]) -> bool
     let kind = kind(rec);
     let count = children(rec);
     for j in 0..count {
-        let c = wide(child_inside(rec, kind, j));
+        let c = usize::from(child_inside(rec, kind, j));
         if k <= c {
             return false;
         }
@@ -50,13 +51,10 @@ fn children_right(b: &[u8], owners: &Owners, k: usize, rec: &[u8]) -> bool
 fn clauses_rise(rec: &[u8]) -> bool
     ensures { result ≡ clauses_rise rec.now }
 {
-    let count = clauses(rec);
-    let mut j: usize = 0;
-    while j + 1 < count {
-        if clause_constructor(rec, j + 1) <= clause_constructor(rec, j) {
+    for j in 1..clauses(rec) {
+        if clause_constructor(rec, j) <= clause_constructor(rec, j - 1) {
             return false;
         }
-        j += 1;
     }
     true
 }
@@ -83,7 +81,7 @@ fn tree_right(
         }
         return true;
     }
-    if wide8(times[k]) != 1 {
+    if times[k] != 1 {
         return false;
     }
     kind(rec) != sheet_kinds::CASE
@@ -96,19 +94,19 @@ pub fn trees(
     ends: &Ends,
     owners: &Owners,
     times: &[u8; MOST_NODES],
-) -> Verdict
+) -> Result<(), Refusal>
     requires { (Opened Sheet b.now starts.now) × RunEndTable Sheet b.now ends.now × Owners b.now owners.now × TimesOf b.now times.now }
-    ensures { result ≡ first_of (nodes b.now) (tree b.now) }
+    ensures { as_verdict result ≡ first_of (nodes b.now) (tree b.now) }
 {
     let first = first_node(b);
-    let count = wide(nodes(b));
+    let count = usize::from(nodes(b));
     for k in 0..count {
         if !tree_right(b, starts, ends, owners, times, k) {
-            return Verdict::Refused {
-                number: numbers::BAD_TREE,
+            return Err(Refusal {
+                reason: Reason::BadTree,
                 place: first + k,
-            };
+            });
         }
     }
-    Verdict::Accepted
+    Ok(())
 }

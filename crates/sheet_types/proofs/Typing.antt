@@ -32,9 +32,9 @@ pub record Typing (b starts ends owners parents held types : List ℕ) (first co
   pub size : length types ≡ most_nodes
 
 pub typing_begins : {b starts ends owners parents held types : List ℕ} {first count : ℕ} → Ruled b starts ends owners parents → ClausesOf b held
-    → length types ≡ most_nodes → (first ≡ first_node b) × (first ≤ 131071) → count ≡ nodes b → count ≤ 65535
+    → length types ≡ most_nodes → (first ≡ first_node b) × (first ≤ 131071) → count ≡ nodes b
     → Typing b starts ends owners parents held types first count 0
-typing_begins u c l f n h = record { ruling = ruling_begins u.file f n h; ruled = u; clauses = c; table = types_none; size = l }
+typing_begins u c l f n = record { ruling = ruling_begins u.file f n; ruled = u; clauses = c; table = types_none; size = l }
 
 module _ {b starts ends owners parents held types : List ℕ} {first count k : ℕ} (w : Typing b starts ends owners parents held types first count k)
     (h : k < count) where

@@ -8,6 +8,7 @@ ghost use Rattle.definitions.specs.Layouts.{nodes, node_record, owner_of};
 ghost use Rattle.definitions.specs.References.{clauses, clause_constructor};
 ghost use Rattle.definitions.specs.SheetRules.{is_body, clause_within};
 ghost use Rattle.definitions.specs.Types.{own_type, result_type, pattern_type, type_by, arguments_typed, children_typed, is_clause, typing};
+ghost use Rattle.definitions.specs.Refusals.{as_verdict};
 ghost use Rattle.definitions.specs.Verdicts.{first_of};
 ghost use Rattle.definitions.specs.declared.Layout.TheVariants.{Sheet};
 ghost use Rattle.sheet_rules.specs.Nodes.{NodeAt};
@@ -15,14 +16,14 @@ ghost use Rattle.sheet_rules.specs.Seen.{ParentsOf, TreesAccepted};
 ghost use Rattle.sheet_rules.specs.Clauses.{ClausesOf, Ruled};
 ghost use Rattle.sheet_types.specs.Tables.{type_in, NamedAt, CaseAt, TypedAt};
 
+use definitions::refusals::{Reason, Refusal};
 use definitions::sizes::{Ends, MOST_NODES, OfNodes, Owners, Starts};
-use definitions::{Layout, Verdict, numbers, sheet_kinds};
+use definitions::{Layout, sheet_kinds};
 use file_layout::layout::{first_function, first_item, first_node, nodes};
 use file_records::declared_fields::{constructor_field, function_field};
 use file_records::records::{field, field_count, field_inside, indexed, kind};
 use file_references::references::{clause_constructor, clauses};
 use sheet_rules::tree::is_body;
-use widths::{wide, wide8, wide32};
 
 // A constructor's own type and the first of its field types, a function's result type and the first of its parameter types,
 // by field.
@@ -41,7 +42,7 @@ const NUMBER_TYPE: u16 = 0;
 fn type_in(types: &OfNodes, c: u16) -> u16
     ensures { result ≡ type_in types.now c }
 {
-    let c = wide(c);
+    let c = usize::from(c);
     if c < MOST_NODES {
         types[c]
     } else {
@@ -58,7 +59,7 @@ fn pattern_type(b: &[u8], starts: &Starts, held: &[u32; MOST_NODES], k: usize, i
     if h < 1 {
         return NUMBER_TYPE;
     }
-    constructor_field(b, starts, wide32(h) - 1, FIELD_TYPES + wide(i))
+    constructor_field(b, starts, h as usize - 1, FIELD_TYPES + usize::from(i))
 }
 
 // The type of node `k`, whose record is `rec`, where the table has those of smaller nodes.
@@ -77,7 +78,12 @@ fn type_at(
     let i = kind(rec);
     let x = field(rec, 0);
     if i == sheet_kinds::PARAMETER {
-        return function_field(b, starts, wide8(owners[k]), PARAMETER_TYPES + wide(x));
+        return function_field(
+            b,
+            starts,
+            usize::from(owners[k]),
+            PARAMETER_TYPES + usize::from(x),
+        );
     }
     if i == sheet_kinds::PATTERN_VARIABLE {
         return pattern_type(b, starts, held, k, x);
@@ -86,13 +92,13 @@ fn type_at(
         return type_in(types, field(rec, 1));
     }
     if i == sheet_kinds::CALL {
-        return function_field(b, starts, wide(x), RESULT_TYPE);
+        return function_field(b, starts, usize::from(x), RESULT_TYPE);
     }
     if i == sheet_kinds::BUILD {
-        return constructor_field(b, starts, wide(x), OWN_TYPE);
+        return constructor_field(b, starts, usize::from(x), OWN_TYPE);
     }
     if i == sheet_kinds::CASE {
-        return function_field(b, starts, wide8(owners[k]), RESULT_TYPE);
+        return function_field(b, starts, usize::from(owners[k]), RESULT_TYPE);
     }
     NUMBER_TYPE
 }
@@ -122,7 +128,7 @@ fn clauses_typed(b: &[u8], starts: &Starts, k: usize, rec: &[u8], t: u16) -> boo
 {
     let count = clauses(rec);
     for j in 0..count {
-        let c = wide(clause_constructor(rec, j));
+        let c = usize::from(clause_constructor(rec, j));
         if constructor_field(b, starts, c, OWN_TYPE) != t {
             return false;
         }
@@ -150,11 +156,11 @@ fn children_typed(b: &[u8], starts: &Starts, types: &OfNodes, k: usize, rec: &[u
         return type_in(types, field(rec, 1)) == type_in(types, field(rec, 2));
     }
     if i == sheet_kinds::CALL {
-        let callee = indexed(b, starts, first_function(Layout::Sheet, b) + wide(x));
+        let callee = indexed(b, starts, first_function(Layout::Sheet, b) + usize::from(x));
         return arguments_typed(types, rec, callee, PARAMETER_TYPES);
     }
     if i == sheet_kinds::BUILD {
-        let constructor = indexed(b, starts, first_item(Layout::Sheet, b) + wide(x));
+        let constructor = indexed(b, starts, first_item(Layout::Sheet, b) + usize::from(x));
         return arguments_typed(types, rec, constructor, FIELD_TYPES);
     }
     if i == sheet_kinds::CASE {
@@ -182,11 +188,11 @@ fn is_result(
     if is_body(b, starts, ends, owners, k) {
         return true;
     }
-    let rec = indexed(b, starts, first_node(b) + wide(parents[k]));
+    let rec = indexed(b, starts, first_node(b) + usize::from(parents[k]));
     if kind(rec) != sheet_kinds::CASE {
         return false;
     }
-    wide(field(rec, 0)) != k
+    usize::from(field(rec, 0)) != k
 }
 
 // Whether type `t` is the result type of node `k`'s function, where the node is a body or a clause's.
@@ -205,7 +211,7 @@ fn result_typed(
     if !is_result(b, starts, ends, owners, parents, k) {
         return true;
     }
-    t == function_field(b, starts, wide8(owners[k]), RESULT_TYPE)
+    t == function_field(b, starts, usize::from(owners[k]), RESULT_TYPE)
 }
 
 // The rules of types of every node.
@@ -216,29 +222,29 @@ pub fn types(
     owners: &Owners,
     parents: &[u16; MOST_NODES],
     held: &[u32; MOST_NODES],
-) -> Verdict
+) -> Result<(), Refusal>
     requires { Ruled b.now starts.now ends.now owners.now parents.now × ClausesOf b.now held.now }
-    ensures { result ≡ first_of (nodes b.now) (typing b.now) }
+    ensures { as_verdict result ≡ first_of (nodes b.now) (typing b.now) }
 {
     let mut types = [0u16; MOST_NODES];
     let first = first_node(b);
-    let count = wide(nodes(b));
+    let count = usize::from(nodes(b));
     for k in 0..count {
         let rec = indexed(b, starts, first + k);
         let t = type_at(b, starts, owners, held, &types, k, rec);
         types[k] = t;
         if !children_typed(b, starts, &types, k, rec) {
-            return Verdict::Refused {
-                number: numbers::ILL_TYPED,
+            return Err(Refusal {
+                reason: Reason::IllTyped,
                 place: first + k,
-            };
+            });
         }
         if !result_typed(b, starts, ends, owners, parents, k, t) {
-            return Verdict::Refused {
-                number: numbers::ILL_TYPED,
+            return Err(Refusal {
+                reason: Reason::IllTyped,
                 place: first + k,
-            };
+            });
         }
     }
-    Verdict::Accepted
+    Ok(())
 }

@@ -1,33 +1,18 @@
 -- `file_kinds::allows` meets its contract: the comparisons of a row, or a kind past the table.
 use Rattle.laws.proofs.KindRows.{past_table}
-use Rattle.file_kinds.proofs.KindTable.{length_below, length_above, length_by_four, length_by_two}
+use Rattle.file_kinds.proofs.KindTable.{step_known, length_outside, length_by_step}
+use native.Mathlib.Omega.{arith}
+use mathlib.Core.List.{[]}
 use Rattle.file_kinds.proofs.allows.Goals as goal
 
-pub returns-then-k-ge-KINDS : goal.returns-then-k-ge-KINDS
-returns-then-k-ge-KINDS c = past_table _ _ c.if-k-ge-KINDS.true
+pub returns-in_default : goal.returns-in_default
+returns-in_default c = let h = c.in_default.ensures.lookup in past_table _ _ (omega arith)
+
+pub nonzero_rem-result : goal.nonzero_rem-result
+nonzero_rem-result c = let h = c.in-Some.ensures.lookup in step_known c.requires c.from.ensures (omega arith) (h.3.1 [])
 
 pub returns-then-length-least : goal.returns-then-length-least
-returns-then-length-least c =
-    let pre = c.requires in
-    let if1 = c.if-k-ge-KINDS in
-    length_below (pre) if1.false c.if-length-least.true
-
-pub returns-then-row-length : goal.returns-then-row-length
-returns-then-row-length c =
-    let pre = c.requires in
-    let if1 = c.if-k-ge-KINDS in
-    length_above (pre) if1.false c.if-row-length.true
-
-pub returns-then-row-eq4 : goal.returns-then-row-eq4
-returns-then-row-eq4 c =
-    let pre = c.requires in
-    let if1 = c.if-k-ge-KINDS in
-    let if2 = c.if-length-least in
-    length_by_four (pre) if1.false if2.false c.if-row-length.false c.if-row-eq4.true
+returns-then-length-least c = let h = c.in-Some.ensures.lookup in length_outside c.requires c.from.ensures (omega arith) (h.3.1 []) c.then-length-least.either
 
 pub returns : goal.returns
-returns c =
-    let pre = c.requires in
-    let if1 = c.if-k-ge-KINDS in
-    let if2 = c.if-length-least in
-    length_by_two (pre) if1.false if2.false c.if-row-length.false c.if-row-eq4.false
+returns c = let h = c.in-Some.ensures.lookup in length_by_step c.requires c.from.ensures (omega arith) (h.3.1 []) (omega arith) (omega arith)

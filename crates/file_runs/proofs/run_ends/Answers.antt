@@ -16,12 +16,12 @@ overflow_cast-ends c =
     let loop = c.loop-f in
     let loop_test = c.loop-f-test in
     let indexed = c.indexed in
-    let wide = c.wide-total in
+    let from = c.from-total in
     record {
       fits = omega (
         arith,
-        next_fits loop.invariant wide.result loop_test.true
-            (wide.ensures.0 ∙ indexed_field _ _ _ _ _ _ _ loop.invariant.index (omega arith) indexed.ensures c.field.ensures),
+        next_fits loop.invariant from.result loop_test.true
+            (from.ensures ∙ indexed_field _ _ _ _ _ _ _ loop.invariant.index (omega arith) indexed.ensures c.field.ensures),
       );
     }
 
@@ -30,9 +30,9 @@ loop-f-preserved c =
     let loop = c.loop-f in
     let loop_test = c.loop-f-test in
     let indexed = c.indexed in
-    let wide = c.wide-total in
-    ending_goes_on loop.invariant wide.result loop_test.true
-    (wide.ensures.0 ∙ indexed_field _ _ _ _ _ _ _ loop.invariant.index (omega arith) indexed.ensures c.field.ensures)
+    let from = c.from-total in
+    ending_goes_on loop.invariant from.result loop_test.true
+    (from.ensures ∙ indexed_field _ _ _ _ _ _ _ loop.invariant.index (omega arith) indexed.ensures c.field.ensures)
 
 pub returns : goal.returns
 returns c =

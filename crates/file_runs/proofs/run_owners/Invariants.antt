@@ -1,6 +1,5 @@
 -- `file_runs::run_owners` meets its contract. The loop's invariant: the owners of the nodes passed are in the table.
 use Rattle.file_runs.proofs.RunTables.{Owning}
-use Prim.Native.Nat.{◌-◌}
 use Rattle.file_runs.proofs.run_owners.Given as goal
 
 abbrev pub invariant-loop-k : goal.invariant-loop-k

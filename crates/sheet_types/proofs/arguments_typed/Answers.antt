@@ -11,18 +11,6 @@ returns-then-n-lt1 c = arguments_tested _ _ _ (tests_end (tests_begin {n = 0} (o
 pub loop-i-init : goal.loop-i-init
 loop-i-init c = tests_begin (omega (arith, c.field_count-n.ensures))
 
-pub field_inside-requires : goal.field_inside-requires
-field_inside-requires c =
-    let loop = c.loop-i in
-    omega (arith, loop.invariant.count, c.loop-i-test.true)
-
-pub overflow_add-first : goal.overflow_add-first
-overflow_add-first c =
-    let pre = c.requires in
-    let field_count = c.field_count-n in
-    let loop_test = c.loop-i-test in
-    record { fits = omega (arith, pre.0, pre.1, field_count.ensures, loop_test.true) }
-
 pub returns-then-type_in-field : goal.returns-then-type_in-field
 returns-then-type_in-field c =
     let loop = c.loop-i in

@@ -1,5 +1,5 @@
 -- `sheet_types::children_typed` meets its contract, kind by kind.
-use mathlib.Core.Path.{refl, sym, ◌∙◌}
+use mathlib.Core.Path.{refl, ◌∙◌}
 use native.Mathlib.Omega.{arith}
 use Rattle.laws.proofs.Types.{left_no_number, right_tested, condition_no_number, arms_tested, call_tested, build_tested, scrutinee_number, clauses_tested, childless}
 use Rattle.sheet_types.proofs.TypeSteps.{few_arguments, callee_record, constructor_record}
@@ -54,9 +54,9 @@ returns-then-i-eq-CALL c =
     let field = c.field-x in
     let if5 = c.if-i-eq-CALL in
     let first_function = c.first_function in
-    let wide = c.wide in
+    let from = c.from in
     call_tested _ _ _ kind.ensures if5.true
-    (callee_record pre.0 pre.1 kind.ensures (wide.ensures.0 ∙ field.ensures) if5.true first_function.ensures.0 c.indexed-callee.ensures)
+    (callee_record pre.0 pre.1 kind.ensures (from.ensures ∙ field.ensures) if5.true first_function.ensures.0 c.indexed-callee.ensures)
     c.arguments_typed.ensures
 
 pub arguments_typed-requires-then-i-eq-BUILD : goal.arguments_typed-requires-then-i-eq-BUILD
@@ -73,9 +73,9 @@ returns-then-i-eq-BUILD c =
     let field = c.field-x in
     let if6 = c.if-i-eq-BUILD in
     let first_item = c.first_item in
-    let wide2 = c.wide-then-i-eq-BUILD in
+    let from2 = c.from-then-i-eq-BUILD in
     build_tested _ _ _ kind.ensures if6.true
-    (constructor_record pre.0 pre.1 kind.ensures (wide2.ensures.0 ∙ field.ensures) if6.true first_item.ensures.0 c.indexed-constructor.ensures)
+    (constructor_record pre.0 pre.1 kind.ensures (from2.ensures ∙ field.ensures) if6.true first_item.ensures.0 c.indexed-constructor.ensures)
     c.arguments_typed-then-i-eq-BUILD.ensures
 
 pub returns-then-t-lt1 : goal.returns-then-t-lt1
@@ -84,13 +84,6 @@ returns-then-t-lt1 c =
     let field = c.field-x in
     let if7 = c.if-i-eq-CASE in
     scrutinee_number _ _ _ kind.ensures if7.true (c.type_in-t.ensures ∙ rw field.ensures refl) c.if-t-lt1.true
-
-pub clauses_typed-requires : goal.clauses_typed-requires
-clauses_typed-requires c =
-    let pre = c.requires in
-    let kind = c.kind-i in
-    let if7 = c.if-i-eq-CASE in
-    record { node = pre.0; is = pre.1; kind = sym kind.ensures ∙ if7.true }
 
 pub returns-then-i-eq-CASE : goal.returns-then-i-eq-CASE
 returns-then-i-eq-CASE c =

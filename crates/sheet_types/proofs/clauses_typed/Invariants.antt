@@ -1,5 +1,4 @@
 -- `sheet_types::clauses_typed` meets its contract. The loop's invariant: the clauses so far are of the type.
-use Prim.Native.Nat.{◌-◌}
 use lib.Dec.{eqb}
 use Rattle.definitions.specs.References.{clauses, clause_constructor}
 use Rattle.definitions.specs.Types.{own_type}

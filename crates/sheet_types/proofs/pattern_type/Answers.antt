@@ -1,6 +1,5 @@
 -- `sheet_types::pattern_type` meets its contract: the type is that of the field, by the clause's constructor.
-use mathlib.Core.Path.{refl, ◌∙◌}
-use native.Mathlib.Omega.{arith}
+use mathlib.Core.Path.{refl}
 use Rattle.sheet_types.proofs.TypeSteps.{node_in_table, pattern_outside, pattern_inside}
 use Rattle.sheet_types.proofs.pattern_type.Goals as goal
 
@@ -15,7 +14,4 @@ returns-then-h-lt1 c =
 pub returns : goal.returns
 returns c =
     let pre = c.requires in
-    let if1 = c.if-h-lt1 in
-    let wide32 = c.wide32 in
-    pattern_inside pre.0 pre.1 wide32.ensures.0 _ (omega (arith, wide32.ensures.0, if1.false))
-    (c.constructor_field.ensures ∙ rw c.wide.ensures.0 refl)
+    pattern_inside pre.0 pre.1 refl _ c.if-h-lt1.false (rw c.from.ensures at c.constructor_field.ensures)

@@ -1,10 +1,7 @@
 -- `sheet_types::result_typed` meets its contract.
 use Rattle.sheet_rules.proofs.TreeSteps.{node_in_table}
-use Rattle.sheet_types.proofs.TypeSteps.{result_elsewhere, result_compared}
+use Rattle.sheet_types.proofs.TypeSteps.{result_compared}
 use Rattle.sheet_types.proofs.result_typed.Goals as goal
-
-pub returns-then-not-is_result : goal.returns-then-not-is_result
-returns-then-not-is_result c = result_elsewhere _ c.is_result.ensures c.if-not-is_result.true
 
 pub bounds-owners-k : goal.bounds-owners-k
 bounds-owners-k c =
@@ -16,4 +13,4 @@ returns c =
     let pre = c.requires in
     let is_result = c.is_result in
     let if1 = c.if-not-is_result in
-    result_compared pre.0 pre.2 is_result.ensures if1.false c.wide8.ensures.0 _ c.function_field.ensures
+    result_compared pre.0 pre.2 is_result.ensures if1.false c.from.ensures _ c.function_field.ensures

@@ -15,14 +15,8 @@ returns-then-i-eq-PARAMETER c =
     let kind = c.kind-i in
     let field = c.field-x in
     let if1 = c.if-i-eq-PARAMETER in
-    let wide8 = c.wide8 in
     parameter_by _ _ _ _ kind.ensures if1.true
-    (owner_field pre.0.node pre.0.owned wide8.ensures.0 _ (c.function_field.ensures ∙ rw (c.wide.ensures.0, field.ensures) refl))
-
-pub pattern_type-requires : goal.pattern_type-requires
-pattern_type-requires c =
-    let pre = c.requires in
-    (pre.0.node, pre.0.clauses)
+    (owner_field pre.0.node pre.0.owned c.from.ensures _ (c.function_field.ensures ∙ rw (c.from-then-i-eq-PARAMETER.ensures, field.ensures) refl))
 
 pub returns-then-i-eq-PATTERN_VARIABLE : goal.returns-then-i-eq-PATTERN_VARIABLE
 returns-then-i-eq-PATTERN_VARIABLE c =
@@ -43,7 +37,7 @@ returns-then-i-eq-CALL c =
     let field = c.field-x in
     let if4 = c.if-i-eq-CALL in
     call_by _ _ _ _ kind.ensures if4.true
-    (callee_field pre.0.node pre.1 kind.ensures (c.wide-then-i-eq-CALL.ensures.0 ∙ field.ensures) if4.true 2 c.function_field-then-i-eq-CALL.ensures)
+    (callee_field pre.0.node pre.1 kind.ensures (c.from-then-i-eq-CALL.ensures ∙ field.ensures) if4.true 2 c.function_field-then-i-eq-CALL.ensures)
 
 pub returns-then-i-eq-BUILD : goal.returns-then-i-eq-BUILD
 returns-then-i-eq-BUILD c =
@@ -52,7 +46,7 @@ returns-then-i-eq-BUILD c =
     let field = c.field-x in
     let if5 = c.if-i-eq-BUILD in
     build_by _ _ _ _ kind.ensures if5.true
-    (constructor_field pre.0.node pre.1 kind.ensures (c.wide-then-i-eq-BUILD.ensures.0 ∙ field.ensures) if5.true 1 c.constructor_field.ensures)
+    (constructor_field pre.0.node pre.1 kind.ensures (c.from-then-i-eq-BUILD.ensures ∙ field.ensures) if5.true 1 c.constructor_field.ensures)
 
 pub bounds-owners-k-then-i-eq-CASE : goal.bounds-owners-k-then-i-eq-CASE
 bounds-owners-k-then-i-eq-CASE c =
@@ -65,7 +59,7 @@ returns-then-i-eq-CASE c =
     let kind = c.kind-i in
     let if6 = c.if-i-eq-CASE in
     case_by _ _ _ _ kind.ensures if6.true
-    (owner_field pre.0.node pre.0.owned c.wide8-then-i-eq-CASE.ensures.0 2 c.function_field-then-i-eq-CASE.ensures)
+    (owner_field pre.0.node pre.0.owned c.from-then-i-eq-CASE.ensures 2 c.function_field-then-i-eq-CASE.ensures)
 
 pub returns : goal.returns
 returns c =

@@ -4,8 +4,8 @@ use Rattle.sheet_types.proofs.type_in.Goals as goal
 
 pub returns-then-c-lt-MOST_NODES : goal.returns-then-c-lt-MOST_NODES
 returns-then-c-lt-MOST_NODES c =
-    let wide = c.wide-c in
-    type_inside _ wide.ensures.0 c.if-c-lt-MOST_NODES.true
+    let from = c.from-c in
+    type_inside _ from.ensures c.if-c-lt-MOST_NODES.true
 
 pub returns-else-c-lt-MOST_NODES : goal.returns-else-c-lt-MOST_NODES
-returns-else-c-lt-MOST_NODES c = type_past _ c.wide-c.ensures.0 c.if-c-lt-MOST_NODES.false
+returns-else-c-lt-MOST_NODES c = type_past _ c.from-c.ensures c.if-c-lt-MOST_NODES.false

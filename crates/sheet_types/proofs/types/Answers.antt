@@ -1,8 +1,6 @@
 -- `sheet_types::types` meets its contract. The loop's invariant: the nodes passed keep the rules, and their types are in the table.
 use mathlib.Core.Path.{◌∙◌}
-use native.Mathlib.Omega.{arith}
-use Rattle.sheet_rules.proofs.Ruling.{ruling_done}
-use Rattle.sheet_types.proofs.Typing.{typing_begins, named_at, typed_at, node_at, typing_room, typing_record, children_refused, result_refused, typing_goes_on}
+use Rattle.sheet_types.proofs.Typing.{typing_begins, named_at, typed_at, typing_room, typing_record, children_refused, result_refused, typing_goes_on}
 use borrow.Author.Rules.{rules}
 use Rattle.sheet_types.proofs.types.Goals as goal
 
@@ -10,20 +8,13 @@ pub loop-k-init : goal.loop-k-init
 loop-k-init c =
     let pre = c.requires in
     let first_node = c.first_node-first in
-    typing_begins pre.0 pre.1 (search rules) first_node.ensures (c.wide-count.ensures.0 ∙ c.nodes.ensures) c.wide-count.ensures.1
+    typing_begins pre.0 pre.1 (search rules) first_node.ensures (c.from-count.ensures ∙ c.nodes.ensures)
 
 pub type_at-t-requires : goal.type_at-t-requires
 type_at-t-requires c =
     let loop = c.loop-k in
     let loop_test = c.loop-k-test in
     (typed_at loop.invariant loop_test.true, typing_record loop.invariant loop_test.true c.indexed-rec.ensures)
-
-pub offset_bounds-types-k : goal.offset_bounds-types-k
-offset_bounds-types-k c =
-    let loop = c.loop-k in
-    let loop_test = c.loop-k-test in
-    let room = typing_room loop.invariant loop_test.true in
-    record { fits = omega (arith, room) }
 
 pub bounds-types-k : goal.bounds-types-k
 bounds-types-k c =
@@ -46,12 +37,6 @@ returns-then-not-children_typed c =
     let type_at = c.type_at-t in
     children_refused loop.invariant loop_test.true indexed.ensures type_at.ensures c.children_typed.ensures c.if-not-children_typed.true
 
-pub result_typed-requires : goal.result_typed-requires
-result_typed-requires c =
-    let loop = c.loop-k in
-    let loop_test = c.loop-k-test in
-    (node_at loop.invariant loop_test.true, loop.invariant.ruled.parents_right, loop.invariant.ruled.checks)
-
 pub returns-then-not-result_typed : goal.returns-then-not-result_typed
 returns-then-not-result_typed c =
     let loop = c.loop-k in
@@ -73,8 +58,3 @@ loop-k-preserved c =
     let if1 = c.if-not-children_typed in
     typing_goes_on loop.invariant loop_test.true indexed.ensures type_at.ensures children_typed.ensures
     if1.false c.result_typed.ensures c.if-not-result_typed.false
-
-pub returns : goal.returns
-returns c =
-    let loop = c.loop-k in
-    ruling_done loop.invariant.ruling c.loop-k-test.false

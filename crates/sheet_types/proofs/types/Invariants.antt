@@ -1,5 +1,4 @@
 -- `sheet_types::types` meets its contract. The loop's invariant: the nodes passed keep the rules, and their types are in the table.
-use Prim.Native.Nat.{◌-◌}
 use Rattle.sheet_types.proofs.Typing.{Typing}
 use Rattle.sheet_types.proofs.types.Given as goal
 

@@ -1,15 +1,14 @@
--- `file_fields::bytes::word32` meets its contract: where the upper half is past the end, the lower half is the whole.
+-- `file_fields::bytes::word32` meets its contract: where the place of the upper half is no number, the lower half is the whole.
 use Rattle.laws.proofs.Bytes.{word32_words, word32_low}
-use borrow.Author.Rules.{rules}
+use Rattle.definitions.specs.Bytes.{word}
+use mathlib.Core.Path.{ap, ◌∙◌}
+use native.Mathlib.Omega.{arith}
 use Rattle.file_fields.proofs.bytes.word32.Goals as goal
 
-pub returns-then-at-b-2 : goal.returns-then-at-b-2
-returns-then-at-b-2 c =
-    let word = c.word-low in
-    word32_words _ _ _ _ word.ensures c.word-high.ensures
+pub returns-in-Some : goal.returns-in-Some
+returns-in-Some c =
+    word32_words _ _ _ _ (c.from-low.ensures ∙ c.word.ensures)
+    (c.from.ensures ∙ c.word-in-Some.ensures ∙ ap (word c.args.b.now) c.in-Some.ensures.1)
 
-pub returns-else-at-b-2 : goal.returns-else-at-b-2
-returns-else-at-b-2 c = word32_low _ _ _ (search rules) c.word-low.ensures
-
-pub returns-else-at-b : goal.returns-else-at-b
-returns-else-at-b c = word32_low _ _ _ (search rules) c.word-low.ensures
+pub returns-in-None : goal.returns-in-None
+returns-in-None c = let past = c.in-None.ensures in word32_low _ _ _ (omega arith) (c.from-low.ensures ∙ c.word.ensures)

@@ -1,25 +1,24 @@
 -- `format::translation::fill_translation` meets its contract: a refused shape, or the verdict on the references.
 use Rattle.format.proofs.Readings.{opened, translation_refused, translation_read}
+use mathlib.Core.Path.{refl}
+use Rattle.laws.proofs.Refusals.{passed_on}
 use Rattle.format.proofs.translation.fill_translation.Goals as goal
 
-pub returns-in_default : goal.returns-in_default
-returns-in_default c =
-    let file_shape = c.file_shape-shape in
-    translation_refused file_shape.ensures c.in_default.is
+pub returns-in_err-file_shape : goal.returns-in_err-file_shape
+returns-in_err-file_shape c =
+    let refusal = c.in_err-file_shape in
+    rw (passed_on c.from_residual.result refusal.field-0.0 c.from_residual.ensures.1) (translation_refused refusal.ensures refl)
 
 pub run_ends-requires : goal.run_ends-requires
 run_ends-requires c =
     let pre = c.requires in
-    let file_shape = c.file_shape-shape in
-    (opened file_shape.ensures c.in-Accepted.is, pre.ends_length)
+    (opened c.in_ok-file_shape.ensures refl, pre.ends_length)
 
 pub references-requires : goal.references-requires
 references-requires c =
-    let file_shape = c.file_shape-shape in
-    opened file_shape.ensures c.in-Accepted.is
+    opened c.in_ok-file_shape.ensures refl
 
 pub returns : goal.returns
 returns c =
-    let file_shape = c.file_shape-shape in
     let run_ends = c.run_ends in
-    translation_read (opened file_shape.ensures c.in-Accepted.is) run_ends.ensures c.references.ensures
+    translation_read (opened c.in_ok-file_shape.ensures refl) run_ends.ensures c.references.ensures

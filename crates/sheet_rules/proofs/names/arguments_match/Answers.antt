@@ -16,11 +16,11 @@ returns-then-k-eq-CALL c =
     let if2 = c.if-k-eq-CALL in
     let argument_count = c.argument_count in
     let field2 = c.field-then-k-eq-CALL in
-    let wide = c.wide in
+    let from = c.from in
     match_call _ _ _ _ first_function.ensures.0 if1.false _ kind.ensures if2.true argument_count.ensures
-    (wide.ensures.0 ∙ field2.ensures)
-    (c.wide-then-k-eq-CALL.ensures.0 ∙ opened_parameters _ _ _ _ pre.0
-    (callee_below _ _ _ _ _ kind.ensures (wide.ensures.0 ∙ field2.ensures) pre.1 if2.true) c.parameters.ensures)
+    (from.ensures ∙ field2.ensures)
+    (c.from-then-k-eq-CALL.ensures ∙ opened_parameters _ _ _ _ pre.0
+    (callee_below _ _ _ _ _ kind.ensures (from.ensures ∙ field2.ensures) pre.1 if2.true) c.parameters.ensures)
 
 pub returns-then-k-eq-BUILD : goal.returns-then-k-eq-BUILD
 returns-then-k-eq-BUILD c =
@@ -31,11 +31,11 @@ returns-then-k-eq-BUILD c =
     let if3 = c.if-k-eq-BUILD in
     let argument_count2 = c.argument_count-then-k-eq-BUILD in
     let field3 = c.field-then-k-eq-BUILD in
-    let wide3 = c.wide-then-k-eq-BUILD in
+    let from3 = c.from-then-k-eq-BUILD in
     match_build _ _ _ _ first_function.ensures.0 if1.false _ kind.ensures if3.true argument_count2.ensures
-    (wide3.ensures.0 ∙ field3.ensures)
-    (c.wide-then-k-eq-BUILD-2.ensures.0 ∙ opened_constructor _ _ _ 0 pre.0
-    (constructor_below _ _ _ _ _ kind.ensures (wide3.ensures.0 ∙ field3.ensures) pre.1 if3.true) c.arity.ensures)
+    (from3.ensures ∙ field3.ensures)
+    (c.from-then-k-eq-BUILD-2.ensures ∙ opened_constructor _ _ _ 0 pre.0
+    (constructor_below _ _ _ _ _ kind.ensures (from3.ensures ∙ field3.ensures) pre.1 if3.true) c.arity.ensures)
 
 pub returns : goal.returns
 returns c = search match_other

@@ -8,7 +8,7 @@ use Rattle.definitions.specs.SheetRules.{arguments}
 use Rattle.definitions.specs.References.{references}
 use Rattle.definitions.specs.Layouts.{due}
 use mathlib.Core.Path.{◌≡◌}
-use Prim.Native.Nat.{◌≤◌, ◌-◌}
+use Prim.Native.Nat.{◌≤◌}
 use Rattle.sheet_rules.proofs.names.names.Given as goal
 
 abbrev pub invariant-loop-r : goal.invariant-loop-r

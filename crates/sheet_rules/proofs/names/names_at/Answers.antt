@@ -2,7 +2,7 @@
 use Rattle.file_records.proofs.Indices.{opened_record}
 use Rattle.laws.proofs.Arguments.{out_of_range_law, mismatched, matched}
 use Rattle.laws.proofs.Names.{children_out, names_out, all_in}
-use mathlib.Core.Path.{sym, ◌∙◌}
+use mathlib.Core.Path.{◌∙◌}
 use Rattle.sheet_rules.proofs.names.names_at.Goals as goal
 
 pub returns-then-not-children_below : goal.returns-then-not-children_below
@@ -10,9 +10,9 @@ returns-then-not-children_below c =
     let pre = c.requires in
     let indexed = c.indexed-rec in
     let nodes = c.nodes in
-    let wide = c.wide in
+    let from = c.from in
     out_of_range_law _ _ (children_out _ _ (opened_record _ _ _ _ _ pre.file pre.below indexed.ensures)
-    (wide.ensures.0 ∙ nodes.ensures) c.children_below.ensures c.if-not-children_below.true)
+    (from.ensures ∙ nodes.ensures) c.children_below.ensures c.if-not-children_below.true)
 
 pub names_in_range-requires : goal.names_in_range-requires
 names_in_range-requires c =
@@ -25,30 +25,25 @@ returns-then-not-names_in_range c =
     let pre = c.requires in
     let indexed = c.indexed-rec in
     let nodes = c.nodes in
-    let wide = c.wide in
+    let from = c.from in
     let children_below = c.children_below in
     let if1 = c.if-not-children_below in
-    out_of_range_law _ _ (names_out _ _ (opened_record _ _ _ _ _ pre.file pre.below indexed.ensures) (wide.ensures.0 ∙ nodes.ensures)
+    out_of_range_law _ _ (names_out _ _ (opened_record _ _ _ _ _ pre.file pre.below indexed.ensures) (from.ensures ∙ nodes.ensures)
     children_below.ensures if1.false c.names_in_range.ensures c.if-not-names_in_range.true)
-
-pub arguments_match-requires : goal.arguments_match-requires
-arguments_match-requires c =
-    let pre = c.requires in
-    (pre.file, sym c.names_in_range.ensures ∙ c.if-not-names_in_range.false)
 
 pub returns-then-not-arguments_match : goal.returns-then-not-arguments_match
 returns-then-not-arguments_match c =
     let pre = c.requires in
     let indexed = c.indexed-rec in
     let nodes = c.nodes in
-    let wide = c.wide in
+    let from = c.from in
     let children_below = c.children_below in
     let if1 = c.if-not-children_below in
     let names_in_range = c.names_in_range in
     let if2 = c.if-not-names_in_range in
     let own = opened_record _ _ _ _ _ pre.file pre.below indexed.ensures in
     mismatched _ _ _ own
-    (all_in _ _ own (wide.ensures.0 ∙ nodes.ensures)
+    (all_in _ _ own (from.ensures ∙ nodes.ensures)
     children_below.ensures if1.false names_in_range.ensures if2.false) _
     c.arguments_match.ensures c.if-not-arguments_match.true
 
@@ -57,13 +52,13 @@ returns c =
     let pre = c.requires in
     let indexed = c.indexed-rec in
     let nodes = c.nodes in
-    let wide = c.wide in
+    let from = c.from in
     let children_below = c.children_below in
     let if1 = c.if-not-children_below in
     let names_in_range = c.names_in_range in
     let if2 = c.if-not-names_in_range in
     let own = opened_record _ _ _ _ _ pre.file pre.below indexed.ensures in
     matched _ _ _ own
-    (all_in _ _ own (wide.ensures.0 ∙ nodes.ensures)
+    (all_in _ _ own (from.ensures ∙ nodes.ensures)
     children_below.ensures if1.false names_in_range.ensures if2.false) _
     c.arguments_match.ensures c.if-not-arguments_match.false

@@ -21,7 +21,7 @@ returns-then-k-eq-CASE c =
     let kind = c.kind-k in
     let if5 = c.if-k-eq-CASE in
     let items2 = c.items-then-k-eq-CASE in
-    names_clauses _ _ _ _ kind.ensures _ _ if5.true (c.wide.ensures.0 ∙ items2.ensures) c.constructors_below.ensures
+    names_clauses _ _ _ _ kind.ensures _ _ if5.true (c.from.ensures ∙ items2.ensures) c.constructors_below.ensures
 
 pub returns : goal.returns
 returns c =

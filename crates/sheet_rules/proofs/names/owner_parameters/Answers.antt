@@ -11,9 +11,9 @@ bounds-owners-r c =
 pub returns-then-r-first : goal.returns-then-r-first
 returns-then-r-first c =
     let pre = c.requires in
-    owner_parameters (pre) 0 (omega arith) c.wide8.ensures.0 c.parameters.ensures
+    owner_parameters (pre) 0 (omega arith) c.from.ensures c.parameters.ensures
 
 pub returns-else-r-first : goal.returns-else-r-first
 returns-else-r-first c =
     let pre = c.requires in
-    owner_parameters (pre) _ (omega arith) c.wide8-else-r-first.ensures.0 c.parameters-else-r-first.ensures
+    owner_parameters (pre) _ (omega arith) c.from-else-r-first.ensures c.parameters-else-r-first.ensures

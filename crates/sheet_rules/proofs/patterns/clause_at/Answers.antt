@@ -3,9 +3,6 @@ use Rattle.sheet_rules.proofs.PatternSteps.{body_entry, parent_in_table, clause_
 use Rattle.sheet_rules.proofs.TreeSteps.{node_in_table}
 use Rattle.sheet_rules.proofs.patterns.clause_at.Goals as goal
 
-pub is_body-requires : goal.is_body-requires
-is_body-requires c = c.requires.0
-
 pub returns-then-is_body : goal.returns-then-is_body
 returns-then-is_body c =
     let pre = c.requires in
@@ -21,11 +18,11 @@ returns-then-kind-eq-CASE c =
     let pre = c.requires in
     let is_IsBody = c.is_body in
     let if1 = c.if-is_body in
-    let wide = c.wide-p in
+    let from = c.from-p in
     let first_node = c.first_node in
     let indexed = c.indexed-rec in
     let kind = c.kind in
-    clause_entry pre.0 pre.1 pre.2 is_IsBody.ensures if1.false wide.ensures.0 first_node.ensures.0
+    clause_entry pre.0 pre.1 pre.2 is_IsBody.ensures if1.false from.ensures first_node.ensures.0
     indexed.ensures kind.ensures c.if-kind-eq-CASE.true c.clause_of.ensures
 
 pub bounds-held-p : goal.bounds-held-p
@@ -33,17 +30,17 @@ bounds-held-p c =
     let pre = c.requires in
     let is_IsBody = c.is_body in
     let if1 = c.if-is_body in
-    let wide = c.wide-p in
-    parent_in_table pre.0 pre.1 pre.2 is_IsBody.ensures if1.false wide.ensures.0
+    let from = c.from-p in
+    parent_in_table pre.0 pre.1 pre.2 is_IsBody.ensures if1.false from.ensures
 
 pub returns : goal.returns
 returns c =
     let pre = c.requires in
     let is_IsBody = c.is_body in
     let if1 = c.if-is_body in
-    let wide = c.wide-p in
+    let from = c.from-p in
     let first_node = c.first_node in
     let indexed = c.indexed-rec in
     let kind = c.kind in
-    parent_entry pre.0 pre.1 pre.2 is_IsBody.ensures if1.false wide.ensures.0 first_node.ensures.0
+    parent_entry pre.0 pre.1 pre.2 is_IsBody.ensures if1.false from.ensures first_node.ensures.0
     indexed.ensures kind.ensures pre.3 c.if-kind-eq-CASE.false

@@ -4,6 +4,3 @@ use Rattle.sheet_rules.proofs.patterns.clause_of.Given as goal
 
 abbrev pub invariant-loop-j : goal.invariant-loop-j
 invariant-loop-j l = ClauseLeft l.rec l.k l.j
-
-abbrev pub decreases-loop-j : goal.decreases-loop-j
-decreases-loop-j l = l.j

@@ -4,6 +4,3 @@ use Rattle.sheet_rules.proofs.patterns.fill_clauses.Given as goal
 
 abbrev pub invariant-loop-k : goal.invariant-loop-k
 invariant-loop-k l = FillingClauses l.b l.starts l.ends l.owners l.parents l.held l.k
-
-abbrev pub decreases-loop-k : goal.decreases-loop-k
-decreases-loop-k l = l.k

@@ -1,8 +1,7 @@
 -- `sheet_rules::patterns::pattern_right` meets its contract: the position is below the arity of the clause's constructor.
 use Rattle.sheet_rules.proofs.PatternSteps.{entry_in_table, constructor_there, pattern_other, pattern_outside, pattern_held}
 use Rattle.sheet_rules.proofs.SheetTables.{opened_constructor}
-use native.Mathlib.Omega.{arith}
-use mathlib.Core.Path.{refl, ◌∙◌}
+use mathlib.Core.Path.{refl}
 use Rattle.sheet_rules.proofs.patterns.pattern_right.Goals as goal
 
 pub returns-then-kind-ne-PATTERN_VARIABLE : goal.returns-then-kind-ne-PATTERN_VARIABLE
@@ -34,11 +33,5 @@ returns c =
     let kind = c.kind in
     let if1 = c.if-kind-ne-PATTERN_VARIABLE in
     let if2 = c.if-h-lt1 in
-    let field = c.field in
-    let wide = c.wide in
-    let wide32 = c.wide32 in
-    pattern_held pre.0 pre.1 pre.2 pre.3 first_node.ensures.0 indexed.ensures kind.ensures if1.false
-    wide32.ensures.0 (omega (arith, wide32.ensures.0, if2.false)) (wide.ensures.0 ∙ field.ensures)
-    (c.wide-2.ensures.0 ∙ opened_constructor _ _ _ 0 pre.0
-    (constructor_there pre.0 pre.1 pre.2 pre.3 _ wide32.ensures.0 (omega (arith, wide32.ensures.0, if2.false)))
-    c.arity.ensures)
+    pattern_held pre.0 pre.1 pre.2 pre.3 first_node.ensures.0 indexed.ensures kind.ensures if1.false refl if2.false c.field.ensures
+    (opened_constructor _ _ _ 0 pre.0 (constructor_there pre.0 pre.1 pre.2 pre.3 _ refl if2.false) c.arity.ensures)

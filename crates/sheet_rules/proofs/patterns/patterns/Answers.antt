@@ -1,6 +1,6 @@
 -- `sheet_rules::patterns::patterns` meets its contract. The loop's invariant: the rules of the nodes passed are accepted.
 use Rattle.sheet_rules.proofs.PatternSteps.{pattern_refused, pattern_accepted}
-use Rattle.sheet_rules.proofs.Ruling.{ruling_begins, ruling_below, ruling_more, ruling_refused, ruling_done}
+use Rattle.sheet_rules.proofs.Ruling.{ruling_begins, ruling_more, ruling_refused}
 use mathlib.Core.Path.{◌∙◌, refl}
 use Rattle.sheet_rules.proofs.patterns.patterns.Goals as goal
 
@@ -8,13 +8,7 @@ pub loop-k-init : goal.loop-k-init
 loop-k-init c =
     let pre = c.requires in
     let first_node = c.first_node-first in
-    let wide = c.wide-count in
-    (ruling_begins pre.0 first_node.ensures (wide.ensures.0 ∙ c.nodes.ensures) wide.ensures.1, pre.2, pre.1)
-
-pub pattern_right-requires : goal.pattern_right-requires
-pattern_right-requires c =
-    let loop = c.loop-k in
-    (loop.invariant.0.file, loop.invariant.2, loop.invariant.1, ruling_below loop.invariant.0 c.loop-k-test.true)
+    (ruling_begins pre.0 first_node.ensures (c.from-count.ensures ∙ c.nodes.ensures), pre.2, pre.1)
 
 pub returns-then-not-pattern_right : goal.returns-then-not-pattern_right
 returns-then-not-pattern_right c =
@@ -32,6 +26,3 @@ loop-k-preserved c =
       loop.invariant.1,
       loop.invariant.2,
     )
-
-pub returns : goal.returns
-returns c = ruling_done c.loop-k.invariant.0 c.loop-k-test.false

@@ -3,7 +3,6 @@ use Rattle.sheet_rules.proofs.Ruling.{Ruling}
 use Rattle.sheet_rules.specs.Clauses.{ClausesOf}
 use Rattle.sheet_rules.specs.Seen.{TreesAccepted}
 use Rattle.definitions.specs.SheetRules.{pattern}
-use Prim.Native.Nat.{◌-◌}
 use Rattle.sheet_rules.proofs.patterns.patterns.Given as goal
 
 abbrev pub invariant-loop-k : goal.invariant-loop-k

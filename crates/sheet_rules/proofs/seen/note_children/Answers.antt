@@ -1,5 +1,5 @@
 -- `sheet_rules::seen::note_children` meets its contract. The loop's invariant: the nodes named so far are noted.
-use Rattle.sheet_rules.proofs.SeenTables.{noted_none, noted_more, noted_all}
+use Rattle.sheet_rules.proofs.SeenTables.{noted_none, noted_more}
 use native.Mathlib.Omega.{arith}
 use mathlib.Core.Path.{◌∙◌}
 use borrow.Author.Rules.{rules}
@@ -8,19 +8,9 @@ use Rattle.sheet_rules.proofs.seen.note_children.Goals as goal
 pub loop-j-init : goal.loop-j-init
 loop-j-init c = (search rules, c.children-count.ensures, noted_none c.requires)
 
-pub child_inside-requires : goal.child_inside-requires
-child_inside-requires c =
-    let kind = c.kind-kind in
-    (omega (arith, c.loop-j.invariant.1, c.loop-j-test.true), kind.ensures)
-
 pub loop-j-preserved : goal.loop-j-preserved
 loop-j-preserved c =
     let loop = c.loop-j in
     let child_inside = c.child_inside in
-    let wide = c.wide in
-    (omega arith, loop.invariant.1, noted_more loop.invariant.2 (wide.ensures.0 ∙ child_inside.ensures) c.note_child.ensures)
-
-pub returns : goal.returns
-returns c =
-    let loop = c.loop-j in
-    noted_all loop.invariant.1 loop.invariant.0 c.loop-j-test.false loop.invariant.2
+    let from = c.from in
+    (omega arith, loop.invariant.1, noted_more loop.invariant.2 (from.ensures ∙ child_inside.ensures) c.note_child.ensures)

@@ -2,7 +2,7 @@
 use Rattle.sheet_rules.specs.Seen.{Noted}
 use Rattle.definitions.specs.References.{children}
 use mathlib.Core.Path.{◌≡◌}
-use Prim.Native.Nat.{◌≤◌, ◌-◌}
+use Prim.Native.Nat.{◌≤◌}
 use Rattle.sheet_rules.proofs.seen.note_children.Given as goal
 
 abbrev pub invariant-loop-j : goal.invariant-loop-j

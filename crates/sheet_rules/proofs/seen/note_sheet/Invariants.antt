@@ -1,6 +1,5 @@
 -- `sheet_rules::seen::note_sheet` meets its contract. The loop's invariant: the children of the nodes passed are noted.
 use Rattle.sheet_rules.proofs.SeenTables.{Seeing}
-use Prim.Native.Nat.{◌-◌}
 use Rattle.sheet_rules.proofs.seen.note_sheet.Given as goal
 
 abbrev pub invariant-loop-p : goal.invariant-loop-p

@@ -2,7 +2,6 @@
 use Rattle.sheet_rules.specs.Nodes.{child_right}
 use Rattle.laws.proofs.Tests.{Testing}
 use Rattle.definitions.specs.References.{children}
-use Prim.Native.Nat.{◌-◌}
 use Rattle.sheet_rules.proofs.tree.children_right.Given as goal
 
 abbrev pub invariant-loop-j : goal.invariant-loop-j

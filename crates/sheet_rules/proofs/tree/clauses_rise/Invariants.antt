@@ -6,7 +6,4 @@ use Prim.Native.Nat.{◌-◌, suc}
 use Rattle.sheet_rules.proofs.tree.clauses_rise.Given as goal
 
 abbrev pub invariant-loop-j : goal.invariant-loop-j
-invariant-loop-j l = Testing (λ i. ltb (clause_constructor l.rec i) (clause_constructor l.rec (suc i))) (clauses l.rec - 1) (l.count - 1) l.j
-
-abbrev pub decreases-loop-j : goal.decreases-loop-j
-decreases-loop-j l = l.count - l.j
+invariant-loop-j l = Testing (λ i. ltb (clause_constructor l.rec i) (clause_constructor l.rec (suc i))) (clauses l.rec - 1) (l.j-end - 1) (l.j - 1)

@@ -5,13 +5,12 @@ use Rattle.sheet_rules.proofs.tree.is_body.Goals as goal
 pub bounds-owners-k : goal.bounds-owners-k
 bounds-owners-k c = node_in_table c.requires
 
-pub bounds-ends-wide8 : goal.bounds-ends-wide8
-bounds-ends-wide8 c =
+pub bounds-ends-from : goal.bounds-ends-from
+bounds-ends-from c =
     let pre = c.requires in
-    owner_in_table (pre) c.wide8.ensures.0
+    owner_in_table pre c.from.ensures
 
 pub returns : goal.returns
 returns c =
     let pre = c.requires in
-    let wide8 = c.wide8 in
-    body_test (pre) wide8.ensures.0 c.wide.ensures.0
+    body_test pre c.from.ensures c.from-2.ensures

@@ -1,4 +1,5 @@
 -- `sheet_rules::tree::tree_right` meets its contract: the rules in the definition's order.
+use mathlib.Core.Path.{refl}
 use Rattle.sheet_rules.proofs.TreeSteps.{node_in_table, node_record_law, tree_child_wrong, tree_case_body, tree_body, tree_times_wrong, tree_inner}
 use Rattle.sheet_rules.proofs.tree.tree_right.Goals as goal
 
@@ -45,8 +46,8 @@ bounds-times-k c =
     let pre = c.requires in
     node_in_table pre.0
 
-pub returns-then-wide8-ne1 : goal.returns-then-wide8-ne1
-returns-then-wide8-ne1 c =
+pub returns-then-times-k-ne1 : goal.returns-then-times-k-ne1
+returns-then-times-k-ne1 c =
     let pre = c.requires in
     let first_node = c.first_node in
     let indexed = c.indexed-rec in
@@ -55,7 +56,7 @@ returns-then-wide8-ne1 c =
     let is_IsBody = c.is_body in
     let if2 = c.if-is_body in
     tree_times_wrong _ _ (node_record_law pre.0 first_node.ensures.0 indexed.ensures) children_right.ensures
-    if1.false is_IsBody.ensures pre.1 pre.0.below c.wide8.ensures.0 if2.false c.if-wide8-ne1.true
+    if1.false is_IsBody.ensures pre.1 pre.0.below refl if2.false c.if-times-k-ne1.true
 
 pub returns : goal.returns
 returns c =
@@ -66,7 +67,6 @@ returns c =
     let if1 = c.if-not-children_right in
     let is_IsBody = c.is_body in
     let if2 = c.if-is_body in
-    let wide8 = c.wide8 in
     tree_inner _ _ (node_record_law pre.0 first_node.ensures.0 indexed.ensures) children_right.ensures
-    if1.false is_IsBody.ensures pre.1 pre.0.below wide8.ensures.0 if2.false c.if-wide8-ne1.false
+    if1.false is_IsBody.ensures pre.1 pre.0.below refl if2.false c.if-times-k-ne1.false
     c.kind-2.ensures

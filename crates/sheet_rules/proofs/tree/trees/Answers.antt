@@ -1,5 +1,5 @@
 -- `sheet_rules::tree::trees` meets its contract. The loop's invariant: the rules of the nodes passed are accepted.
-use Rattle.sheet_rules.proofs.Ruling.{ruling_begins, ruling_below, ruling_more, ruling_refused, ruling_done}
+use Rattle.sheet_rules.proofs.Ruling.{ruling_begins, ruling_more, ruling_refused}
 use Rattle.sheet_rules.proofs.TreeSteps.{tree_refused, tree_accepted}
 use mathlib.Core.Path.{◌∙◌, refl}
 use Rattle.sheet_rules.proofs.tree.trees.Goals as goal
@@ -8,13 +8,7 @@ pub loop-k-init : goal.loop-k-init
 loop-k-init c =
     let pre = c.requires in
     let first_node = c.first_node-first in
-    let wide = c.wide-count in
-    (ruling_begins pre.0 first_node.ensures (wide.ensures.0 ∙ c.nodes.ensures) wide.ensures.1, pre.1, pre.2, pre.3)
-
-pub tree_right-requires : goal.tree_right-requires
-tree_right-requires c =
-    let loop = c.loop-k in
-    (record { file = loop.invariant.0.file; runs = loop.invariant.1; owned = loop.invariant.2; below = ruling_below loop.invariant.0 c.loop-k-test.true }, loop.invariant.3)
+    (ruling_begins pre.0 first_node.ensures (c.from-count.ensures ∙ c.nodes.ensures), pre.1, pre.2, pre.3)
 
 pub returns-then-not-tree_right : goal.returns-then-not-tree_right
 returns-then-not-tree_right c =
@@ -33,6 +27,3 @@ loop-k-preserved c =
       loop.invariant.2,
       loop.invariant.3,
     )
-
-pub returns : goal.returns
-returns c = ruling_done c.loop-k.invariant.0 c.loop-k-test.false

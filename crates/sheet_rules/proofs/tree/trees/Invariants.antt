@@ -4,7 +4,6 @@ use Rattle.file_runs.specs.Runs.{RunEndTable, Owners}
 use Rattle.sheet_rules.specs.Seen.{TimesOf}
 use Rattle.definitions.specs.declared.Layout.TheVariants.{Sheet}
 use Rattle.definitions.specs.SheetRules.{tree}
-use Prim.Native.Nat.{◌-◌}
 use Rattle.sheet_rules.proofs.tree.trees.Given as goal
 
 abbrev pub invariant-loop-k : goal.invariant-loop-k
