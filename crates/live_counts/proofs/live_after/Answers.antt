@@ -1,5 +1,5 @@
 -- `live_counts::live_after` meets its contract.
-use Rattle.live_counts.proofs.Counts.{cells_given_back, cells_kept, not_given_back}
+use Rattle.live_counts.proofs.GivingBack.{cells_given_back, cells_kept, not_given_back}
 use Rattle.live_counts.proofs.live_after.Goals as goal
 
 pub returns-then-own-oldest : goal.returns-then-own-oldest
