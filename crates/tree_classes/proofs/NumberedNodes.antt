@@ -1,23 +1,26 @@
 -- One node more is numbered: by an earlier node with its key, or anew.
 use mathlib.Core.Path.{◌≡◌, refl, sym, ap, ◌∙◌}
-use Prim.Native.Nat.{ℕ, suc, ◌+◌, ◌-◌, ◌≤◌, ◌<◌}
+use Prim.Native.Nat.{ℕ, ◌+◌, ◌≤◌, ◌<◌}
 use mathlib.Core.List.{List}
 use mathlib.Core.Bool.{Bool, true, false, cond, true≢false}
 use native.Mathlib.Omega.{arith}
 use native.Mathlib.Nat.{not-suc-le-zero}
-use native.Mathlib.Decide.{ℕ_discrete}
 use lib.ListN.{length, get_or, set, replicate, length-set, get_or-replicate}
 use lib.Seq.{get_or-set_same, get_or-set_other}
 use lib.Dec.{eqb}
-use borrow.Author.Tests.{eq-eqb, ne_eqb, eqb-true, eqb-false}
+use borrow.Author.Tests.{eq-eqb, eqb-true}
 use Rattle.definitions.specs.Sizes.{most_nodes}
-use Rattle.definitions.specs.Layouts.{nodes, node_record}
+use Rattle.definitions.specs.Records.{record_at}
+use Rattle.definitions.specs.Layouts.{nodes, first_node, node_record}
 use Rattle.definitions.specs.Checks.{sheet_verdict}
+use Rattle.definitions.specs.declared.Layout.TheVariants.{Sheet}
 use Rattle.definitions.specs.Verdict.{Accepted}
+use Rattle.file_records.specs.Index.{start_in}
+use Rattle.file_records.proofs.Indices.{node_reached}
 use Rattle.laws.proofs.Lists.{below_suc}
 use Rattle.tree_classes.specs.Keys.{entry_of, buckets, bucket_of, SameKey}
 use Rattle.tree_classes.specs.Classes.{Numbered}
-use Rattle.tree_classes.specs.Chains.{last_with, node_bucket, Numbering, NodeToNumber, Chain, FoundSame, class_by}
+use Rattle.tree_classes.specs.Chains.{last_with, node_bucket, Numbering, NodeToNumber, Chain}
 use Rattle.tree_classes.proofs.SameKeys.{key_itself, key_swap, key_then}
 use Rattle.tree_classes.proofs.KeptKeys.{node_bucket_kept, key_kept}
 use Rattle.tree_classes.proofs.Chains.{last_more, last_kept}
@@ -26,34 +29,6 @@ use Rattle.tree_classes.proofs.Chains.{last_more, last_kept}
 pub data Chosen (class place : ℕ → ℕ) (b : List ℕ) (k : ℕ) : ℕ → Type 0 where
   anew : ((j : ℕ) → j < k → SameKey class place b j k → ⊥) → Chosen class place b k k
   likewise : {j : ℕ} → j < k → SameKey class place b j k → Chosen class place b k (class j)
-
--- it is by what was found
-module _ (class : ℕ → ℕ) {r : ℕ} (k : ℕ) where
-  pub class_anew : {x : ℕ} → r ≡ 0 → x ≡ k → x ≡ class_by class r k
-  unfolding class_by
-  class_anew e f = rw (e, f) refl
-
-  pub class_likewise : {x : ℕ} → (r ≡ 0 → ⊥) → x ≡ class (r - 1) → x ≡ class_by class r k
-  unfolding class_by
-  class_likewise e f = rw (ne_eqb r 0 e, f) refl
-
-module _ {b places classes : List ℕ} {k r : ℕ} (f : FoundSame b places classes k r) where
-  chosen_by : (t : Bool) → eqb r 0 ≡ t → Chosen (entry_of classes) (entry_of places) b k (cond t k (entry_of classes (r - 1)))
-  chosen_by true e = anew (f.none (eqb-true r 0 e))
-  chosen_by false e =
-      let h : r ≡ suc (r - 1) = omega (arith, eqb-false r 0 e) in
-      let j = f.found (r - 1) h in
-      likewise j.0 j.1
-
-  pub chosen_found : {x : ℕ} → x ≡ class_by (entry_of classes) r k → Chosen (entry_of classes) (entry_of places) b k x
-  unfolding class_by
-  chosen_found e = rw e (chosen_by (eqb r 0) refl)
-
-  pub found_limit : r ≤ k
-  found_limit = elim (ℕ_discrete r 0) [
-    | yes e ↦ omega (arith, e)
-    | no e ↦ let h : r ≡ suc (r - 1) = omega (arith, e) in omega (arith, h, (f.found (r - 1) h).0)
-  ]
 
 module _ {b : List ℕ} (accepted : sheet_verdict b ≡ Accepted) {place : ℕ → ℕ} {classes : List ℕ} {k : ℕ} (w : Numbered b place classes k)
     (h : k < nodes b) (narrow : k < most_nodes) where
@@ -194,6 +169,9 @@ numbering_begins s =
 
 -- node k, with its record and its bucket
 module _ {b starts places classes lasts earlier : List ℕ} {k : ℕ} (w : NodeToNumber b starts places classes lasts earlier k) where
+  pub node_there : {first : ℕ} {rec : List ℕ} → first ≡ first_node b → rec ≡ record_at b (start_in starts (first + k)) → rec ≡ node_record b k
+  node_there = node_reached Sheet b starts k _ _ w.sheet.file w.below
+
   pub chain_begins : {rec : List ℕ} {h last : ℕ} → rec ≡ node_record b k → h ≡ bucket_of (entry_of classes) rec (entry_of places k) → h < buckets → last ≡ get_or lasts h 0
       → Chain b starts places classes earlier rec k last
   chain_begins e g l z =
@@ -207,11 +185,7 @@ module _ {b starts places classes lasts earlier : List ℕ} {k : ℕ} (w : NodeT
         begins = z ∙ w.before.last _ l ∙ rw (g, e) refl;
       }
 
-  pub node_numbered : {rec : List ℕ} {h last r x : ℕ} → rec ≡ node_record b k → h ≡ bucket_of (entry_of classes) rec (entry_of places k) → h < buckets → last ≡ get_or lasts h 0
-      → FoundSame b places classes k r → x ≡ class_by (entry_of classes) r k
+  pub node_numbered : {rec : List ℕ} {h last x : ℕ} → rec ≡ node_record b k → h ≡ bucket_of (entry_of classes) rec (entry_of places k) → h < buckets → last ≡ get_or lasts h 0
+      → Chosen (entry_of classes) (entry_of places) b k x
       → Numbering b places (set classes k x) (set lasts h (k + 1)) (set earlier k last) (k + 1)
-  node_numbered e g l z f c = numbering_more w.sheet.accepted w.before w.below w.narrow _ (chosen_found f c) _ _ (g ∙ rw e refl) l z
-
-pub numbered_all : {b places classes lasts earlier : List ℕ} {k n : ℕ} → n ≡ nodes b → k ≤ n → n ≤ k → Numbering b places classes lasts earlier k
-    → Numbered b (entry_of places) classes (nodes b)
-numbered_all {b} {k} e h l w = let q : k ≡ nodes b = omega (arith, e, h, l) in rw q at w.numbered
+  node_numbered e g l z c = numbering_more w.sheet.accepted w.before w.below w.narrow _ c _ _ (g ∙ rw e refl) l z

@@ -1,15 +1,12 @@
 -- Laws of the tables of places and of scrutinees' classes while they are filled.
 use mathlib.Core.Path.{◌≡◌, refl, sym, ◌∙◌}
-use Prim.Native.Nat.{ℕ, suc, ◌+◌, ◌-◌, ◌≤◌, ◌<◌}
+use Prim.Native.Nat.{ℕ, suc, ◌+◌, ◌-◌, ◌<◌}
 use mathlib.Core.List.{List}
 use native.Mathlib.Omega.{arith}
-use native.Mathlib.Nat.{not-suc-le-zero}
-use lib.ListN.{length, get_or, set, length-set}
-use borrow.Author.Tests.{ne_eqb}
+use lib.ListN.{get_or, set, length-set}
 use Rattle.definitions.specs.Sizes.{most_functions, most_nodes}
 use Rattle.definitions.specs.Records.{record_at, kind_of, field}
 use Rattle.definitions.specs.Layouts.{functions, nodes, first_node, node_record, body_of, owner_of}
-use Rattle.definitions.specs.SheetKinds
 use Rattle.definitions.specs.declared.Layout.TheVariants.{Sheet}
 use Rattle.accepted.proofs.Head.{nodes_limit, functions_limit}
 use Rattle.accepted.proofs.Owners.{owner_below, body_before_end, body_below}
@@ -18,23 +15,6 @@ use Rattle.file_records.proofs.Indices.{node_reached}
 use Rattle.file_runs.proofs.RunTables.{entry_more}
 use Rattle.tree_classes.specs.Classes.{OwnedSheet, EndedSheet}
 use Rattle.tree_classes.specs.Places.{place_of, Placed, ScrutineeClasses}
-
--- a place by its kind
-module _ (scrutinee : ℕ → ℕ) {kind : ℕ} (f : ℕ) where
-  pub place_parameter : kind ≡ SheetKinds.parameter → f ≡ place_of scrutinee kind f
-  unfolding place_of
-  place_parameter e = rw e refl
-
-  pub place_pattern : {x : ℕ} → kind ≡ SheetKinds.pattern_variable → x ≡ scrutinee f → x ≡ place_of scrutinee kind f
-  unfolding place_of
-  place_pattern e g = rw (e, g) refl
-
-  pub place_other : (kind ≡ SheetKinds.parameter → ⊥) → (kind ≡ SheetKinds.pattern_variable → ⊥) → 0 ≡ place_of scrutinee kind f
-  unfolding place_of
-  place_other p q = rw (ne_eqb kind SheetKinds.parameter p, ne_eqb kind SheetKinds.pattern_variable q) refl
-
-pub placed_none : {b places : List ℕ} {scrutinee : ℕ → ℕ} → length places ≡ most_nodes → Placed b scrutinee places 0
-placed_none s = record { size = s; entry = λ k h. absurd (not-suc-le-zero h) }
 
 -- node k, whose owner and kind are read through the tables
 module _ {b starts owners : List ℕ} {k count : ℕ} (w : OwnedSheet b starts owners) (h : k < count) (e : count ≡ nodes b) where
@@ -60,13 +40,6 @@ module _ {b starts owners : List ℕ} {k count : ℕ} (w : OwnedSheet b starts o
         entry = entry_more (λ i v. v ≡ place_of scrutinee (kind_of (node_record b i)) (owner_of Sheet b i)) places k x (omega (arith, d.size, place_narrow)) d.entry here;
       }
 
-pub placed_all : {b places : List ℕ} {scrutinee : ℕ → ℕ} {k count : ℕ} → count ≡ nodes b → k ≤ count → count ≤ k → Placed b scrutinee places k
-    → Placed b scrutinee places (nodes b)
-placed_all {b} {k} e h l d = let q : k ≡ nodes b = omega (arith, e, h, l) in rw q at d
-
-pub classed_none : {b scrutinees : List ℕ} {class : ℕ → ℕ} → length scrutinees ≡ most_functions → ScrutineeClasses b class scrutinees 0
-classed_none s = record { size = s; entry = λ k h. absurd (not-suc-le-zero h) }
-
 -- function f, whose body is read through the table of ends
 module _ {b starts ends : List ℕ} {f count : ℕ} (w : EndedSheet b starts ends) (h : f < count) (e : count ≡ functions b) where
   among : f < functions b
@@ -89,7 +62,3 @@ module _ {b starts ends : List ℕ} {f count : ℕ} (w : EndedSheet b starts end
         size = length-set scrutinees f y ∙ d.size;
         entry = entry_more (λ g v. v ≡ class (field (node_record b (body_of Sheet b g)) 0)) scrutinees f y (omega (arith, d.size, function_narrow)) d.entry here;
       }
-
-pub classed_all : {b scrutinees : List ℕ} {class : ℕ → ℕ} {f count : ℕ} → count ≡ functions b → f ≤ count → count ≤ f → ScrutineeClasses b class scrutinees f
-    → ScrutineeClasses b class scrutinees (functions b)
-classed_all {b} {f} e h l d = let q : f ≡ functions b = omega (arith, e, h, l) in rw q at d

@@ -1,20 +1,21 @@
 -- Laws of keys: nodes with one key are an equivalence, keys are found equal by comparing, and nodes with one key have one bucket.
 use mathlib.Core.Path.{◌≡◌, refl, sym, ◌∙◌}
-use Prim.Native.Nat.{ℕ, zero, suc, ◌+◌, ◌*◌, ◌%◌, ◌≤◌, ◌<◌}
+use Prim.Native.Nat.{ℕ, zero, suc, ◌<◌}
 use mathlib.Core.List.{List}
 use mathlib.Core.Bool.{Bool, true, false, cond, and-eq-true_iff, and-false}
 use native.Mathlib.Omega.{arith}
-use native.Mathlib.Numerals.{add-one}
-use lib.ListN.{length, get_or-eq_default}
+use lib.ListN.{length, get_or}
 use lib.Dec.{eqb}
-use borrow.Author.Tests.{eqb-true, eq-eqb, ne_eqb}
-use Rattle.definitions.specs.Sizes.{most_nodes}
+use borrow.Author.Tests.{eqb-true, eq-eqb}
+use Rattle.std.specs.Bool.{MatchBool}
+use Rattle.std.specs.List.{AllWithin, HoldsAt, range_with_len}
+use Rattle.std.proofs.lemmas.List.FromFn.{length-range_with_len, get_or-range_with_len}
 use Rattle.definitions.specs.Records.{kind_of, field, field_count}
 use Rattle.definitions.specs.Lists.{all_of}
 use Rattle.definitions.specs.Layouts.{node_record}
 use Rattle.definitions.specs.Trees.{names_node}
-use Rattle.laws.proofs.Lists.{all_each, all_pass}
-use Rattle.tree_classes.specs.Keys.{entry_of, value_of, same_values, equal_keys, buckets, weight, bucket_after, bucket_of, SameKey}
+use Rattle.laws.proofs.Lists.{all_each, all_pass, all_not}
+use Rattle.tree_classes.specs.Keys.{value_of, same_values, equal_keys, bucket_after, bucket_of, SameKey}
 
 pub key_itself : {class place : ℕ → ℕ} {b : List ℕ} {k : ℕ} → SameKey class place b k k
 key_itself = record { kinds = refl; counts = refl; places = refl; values = λ i h. refl }
@@ -64,44 +65,40 @@ module _ {class place : ℕ → ℕ} {b : List ℕ} {j k : ℕ} where
       let each = all_pass (field_count x) (λ i. eqb (value_of class x i) (value_of class y i)) (λ i h. eq-eqb _ _ (s.values i h)) in
       rw (eq-eqb _ _ s.places, eq-eqb _ _ s.kinds, eq-eqb _ _ s.counts, each) refl
 
--- by what the tests answered
+-- nodes of one place have one key where their values are the same
 module _ (class place : ℕ → ℕ) (b : List ℕ) (j k : ℕ) where
-  pub places_differ : {x y : ℕ} → x ≡ place j → y ≡ place k → (x ≡ y → ⊥) → false ≡ equal_keys class place b j k
+  pub places_same : {x y : List ℕ} {t : Bool} → place j ≡ place k → x ≡ node_record b j → y ≡ node_record b k → t ≡ same_values class x y → t ≡ equal_keys class place b j k
   unfolding equal_keys
-  places_differ p q d = rw (ne_eqb (place j) (place k) (λ e. d (p ∙ e ∙ sym q))) refl
+  places_same e p q h = h ∙ rw (p, q, eq-eqb (place j) (place k) e) refl
 
-  pub places_same : {x y : ℕ} {t : Bool} → x ≡ place j → y ≡ place k → x ≡ y → t ≡ same_values class (node_record b j) (node_record b k) → t ≡ equal_keys class place b j k
-  unfolding equal_keys
-  places_same p q e h = h ∙ rw (eq-eqb (place j) (place k) (sym p ∙ e ∙ q)) refl
+-- what `all` answers over the numbers below n, by a test of each
+module _ (n : ℕ) (test : ℕ → Bool) where
+  entry : (i : ℕ) → i < n → get_or (range_with_len 0 n) i 0 ≡ i
+  entry i l = omega (arith, get_or-range_with_len 0 n i 0 l)
+
+  pub all_tested : (t : Bool)
+      → MatchBool t (AllWithin (λ i. test i ≡ true) (range_with_len 0 n) 0 (length (range_with_len 0 n)))
+      ((i : ℕ) × (i < length (range_with_len 0 n)) × HoldsAt (λ i. test i ≡ false) (range_with_len 0 n) i)
+      → t ≡ all_of n test
+  all_tested true h = sym (all_pass n test (λ i l. rw (entry i l) at (h i 0 (omega arith) (rw length-range_with_len l))))
+  all_tested false (i, l, h) =
+      let below : i < n = rw length-range_with_len at l in
+      sym (all_not i n test below (rw (entry i below) at (h 0)))
 
 -- the tests of a comparison, by what they answered
-module _ (class : ℕ → ℕ) (x y : List ℕ) where
-  pub kinds_differ : {k l : ℕ} → k ≡ kind_of x → l ≡ kind_of y → (k ≡ l → ⊥) → false ≡ same_values class x y
+module _ (class : ℕ → ℕ) (x y : List ℕ) {k l m : ℕ} {t : Bool} (p : k ≡ kind_of x) (q : l ≡ kind_of y) (p' : m ≡ field_count x) where
+  pub kinds_differ : t ≡ eqb k l → t ≡ false → t ≡ same_values class x y
   unfolding same_values
-  kinds_differ p q d = rw (ne_eqb (kind_of x) (kind_of y) (λ e. d (p ∙ e ∙ sym q))) refl
+  kinds_differ e h = h ∙ rw (← p, ← q, ← e, h) refl
 
-  pub counts_differ : {m n : ℕ} → m ≡ field_count x → n ≡ field_count y → (m ≡ n → ⊥) → false ≡ same_values class x y
+  pub counts_differ : {n : ℕ} → n ≡ field_count y → t ≡ eqb m n → t ≡ false → t ≡ same_values class x y
   unfolding same_values
-  counts_differ p q d = rw (ne_eqb (field_count x) (field_count y) (λ e. d (p ∙ e ∙ sym q)), and-false) refl
+  counts_differ q' e h = h ∙ rw (← p', ← q', ← e, h, and-false) refl
 
-  pub values_tested : {k l m n : ℕ} {t : Bool} → k ≡ kind_of x → l ≡ kind_of y → k ≡ l → m ≡ field_count x → n ≡ field_count y → m ≡ n
-      → t ≡ all_of (field_count x) (λ i. eqb (value_of class x i) (value_of class y i)) → t ≡ same_values class x y
+  pub values_tested : {n : ℕ} {s : Bool} → n ≡ field_count y → k ≡ l → s ≡ eqb m n → s ≡ true
+      → t ≡ all_of m (λ i. eqb (value_of class x i) (value_of class y i)) → t ≡ same_values class x y
   unfolding same_values
-  values_tested p q e p' q' e' h = h ∙ rw (eq-eqb _ _ (sym p ∙ e ∙ q), eq-eqb _ _ (sym p' ∙ e' ∙ q')) refl
-
--- past a table there is no entry
-pub entry_past : (table : List ℕ) {n at : ℕ} → length table ≡ most_nodes → at ≡ n → most_nodes ≤ at → 0 ≡ entry_of table n
-entry_past table s e h = sym (get_or-eq_default table 0 (omega (arith, s, e, h)))
-
--- a value, by whether the field names a node
-module _ (class : ℕ → ℕ) (rec : List ℕ) (i : ℕ) {kind : ℕ} (k : kind ≡ kind_of rec) {t : Bool} (e : t ≡ names_node kind i) where
-  pub value_named : {x y : ℕ} → t ≡ true → x ≡ field rec i → y ≡ class x → y ≡ value_of class rec i
-  unfolding value_of
-  value_named h f g = rw (← k, ← e, h, g, f) refl
-
-  pub value_plain : {x : ℕ} → t ≡ false → x ≡ field rec i → x ≡ value_of class rec i
-  unfolding value_of
-  value_plain h f = rw (← k, ← e, h, f) refl
+  values_tested q' e f g h = h ∙ rw (← p', ← q', ← f, g, eq-eqb _ _ (sym p ∙ e ∙ q)) refl
 
 -- the bucket by equal values
 bucket_after_law : (class class' : ℕ → ℕ) (x y : List ℕ) (p q n : ℕ) → kind_of x ≡ kind_of y → p ≡ q
@@ -111,19 +108,6 @@ unfolding bucket_after
 bucket_after_law class class' x y p q zero e f h = rw (e, f) refl
 bucket_after_law class class' x y p q (suc n) e f h =
     rw (bucket_after_law class class' x y p q n e f (λ i l. h i (omega arith)), h n (omega arith)) refl
-
-pub bucket_begins : (class : ℕ → ℕ) (rec : List ℕ) {place k p : ℕ} → k ≡ kind_of rec → p ≡ place → (k + p) % buckets ≡ bucket_after class rec place 0
-unfolding bucket_after
-bucket_begins class rec e f = rw (e, f) refl
-
-pub bucket_more : (class : ℕ → ℕ) (rec : List ℕ) (place n : ℕ) {h v : ℕ} → h ≡ bucket_after class rec place n → v ≡ value_of class rec n
-    → (h * weight + v) % buckets ≡ bucket_after class rec place (n + 1)
-unfolding bucket_after
-bucket_more class rec place n e f = rw (add-one n, e, f) refl
-
-pub bucket_done : (class : ℕ → ℕ) (rec : List ℕ) (place : ℕ) {h n : ℕ} → h ≡ bucket_after class rec place n → n ≡ field_count rec → h ≡ bucket_of class rec place
-unfolding bucket_of
-bucket_done class rec place e f = e ∙ rw f refl
 
 pub bucket_same : {class place : ℕ → ℕ} {b : List ℕ} {j k : ℕ} → SameKey class place b j k
     → bucket_of class (node_record b j) (place j) ≡ bucket_of class (node_record b k) (place k)

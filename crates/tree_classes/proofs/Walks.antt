@@ -6,9 +6,9 @@ use mathlib.Core.Bool.{Bool, false, true≢false}
 use native.Mathlib.Omega.{arith}
 use native.Mathlib.Decide.{dec_lt, ℕ_discrete}
 use lib.ListN.{get_or}
-use Rattle.definitions.specs.Sizes.{most_nodes}
+use Rattle.std.proofs.Common.{Some}
 use Rattle.tree_classes.specs.Keys.{entry_of, equal_keys, SameKey}
-use Rattle.tree_classes.specs.Chains.{last_with, node_bucket, Chain, TwoNodes, FoundSame}
+use Rattle.tree_classes.specs.Chains.{last_with, node_bucket, Chain, FoundSame}
 use Rattle.tree_classes.proofs.SameKeys.{key_passes, bucket_same}
 use Rattle.tree_classes.proofs.Chains.{last_with_law}
 
@@ -34,12 +34,8 @@ module _ {b starts places classes earlier rec : List ℕ} {k last : ℕ} (c : Ch
     one_before : next ≡ suc (next - 1)
     one_before = omega (arith, h)
 
-    pub walk_finds : SameKey (entry_of classes) (entry_of places) b (next - 1) k → FoundSame b places classes k next
-    walk_finds s =
-        record {
-          found = λ j e. let z : next - 1 ≡ j = omega (arith, e) in (omega (arith, e, w.limit), rw z at s);
-          none = λ e. absurd (omega (arith, e, h));
-        }
+    pub walk_finds : SameKey (entry_of classes) (entry_of places) b (next - 1) k → FoundSame b places classes k (Some (next - 1))
+    walk_finds s = record { found = (step_below, s); none = λ e. absurd (true≢false e) }
 
     -- the node is another: on to the one before it in the bucket
     pub walk_goes_on : {before : ℕ} → (SameKey (entry_of classes) (entry_of places) b (next - 1) k → ⊥) → before ≡ get_or earlier (next - 1) 0
@@ -63,16 +59,7 @@ module _ {b starts places classes earlier rec : List ℕ} {k last : ℕ} (c : Ch
         let j = next - 1 in
         omega (arith, e, c.chained.entry j step_below, (last_with_law bucket_at (bucket_at j) j).limit, h)
 
-    pub step_narrow : next - 1 < most_nodes
-    step_narrow = omega (arith, step_below, c.narrow)
-
-    pub two_nodes : TwoNodes b starts classes rec (next - 1) k
-    two_nodes = record { sheet = c.sheet; size = c.size; narrow = c.narrow; below = c.below; earlier = step_below; there = c.there }
-
     -- so it is where comparing says so
     pub other_key : {t : Bool} → t ≡ equal_keys (entry_of classes) (entry_of places) b (next - 1) k → t ≡ false
         → SameKey (entry_of classes) (entry_of places) b (next - 1) k → ⊥
     other_key f g s = true≢false (sym (key_passes s) ∙ sym f ∙ g)
-
-  pub walk_ends : {next : ℕ} → Walking b places classes k next → next ≤ 0 → FoundSame b places classes k 0
-  walk_ends w h = record { found = λ j e. absurd (omega (arith, e)); none = λ e j g. w.others j (omega (arith, h)) g }

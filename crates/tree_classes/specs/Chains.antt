@@ -1,5 +1,5 @@
 -- The chains of nodes with one bucket, while nodes are numbered.
-use Rattle.std.specs.Prelude.{◌≡◌, ℕ, zero, suc, ◌-◌, ◌<◌, List, cond, length, get_or, eqb}
+use Rattle.std.specs.Prelude.{◌≡◌, ℕ, zero, suc, ◌<◌, List, Option, IfSome, IsNone, cond, length, get_or, eqb}
 use Rattle.definitions.specs.Sizes.{most_nodes}
 use Rattle.definitions.specs.Layouts.{nodes, node_record}
 use Rattle.tree_classes.specs.Keys.{entry_of, buckets, bucket_of, SameKey}
@@ -52,11 +52,7 @@ pub record TwoNodes (b starts classes rec : List ℕ) (j k : ℕ) : Type 0 where
   pub earlier : j < k
   pub there : rec ≡ node_record b k
 
--- one above an earlier node with the key of node k, or 0 where there is none
-pub record FoundSame (b places classes : List ℕ) (k r : ℕ) : Type 0 where
-  pub found : (j : ℕ) → r ≡ suc j → (j < k) × SameKey (entry_of classes) (entry_of places) b j k
-  pub none : r ≡ 0 → (j : ℕ) → j < k → SameKey (entry_of classes) (entry_of places) b j k → ⊥
-
--- the class of node k by what was found
-unfoldable pub class_by : (ℕ → ℕ) → ℕ → ℕ → ℕ
-class_by class r k = cond (eqb r 0) k (class (r - 1))
+-- an earlier node with the key of node k, or none where there is none
+pub record FoundSame (b places classes : List ℕ) (k : ℕ) (r : Option ℕ) : Type 0 where
+  pub found : IfSome r (λ j. (j < k) × SameKey (entry_of classes) (entry_of places) b j k)
+  pub none : IsNone r → (j : ℕ) → j < k → SameKey (entry_of classes) (entry_of places) b j k → ⊥

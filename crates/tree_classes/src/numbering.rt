@@ -1,22 +1,22 @@
 // The numbering of trees by their keys. Nodes with one bucket are chained: `lasts` has one above the last node of each bucket, and
 // `earlier` one above the node before each in its bucket; 0 is none.
-ghost use Rattle.std.specs.Prelude.{◌≡◌, ◌+◌, ◌≤◌, ◌<◌, length};
+ghost use Rattle.std.specs.Prelude.{◌≡◌, ◌+◌, length};
 ghost use Rattle.definitions.specs.Sizes.{most_nodes};
 ghost use Rattle.definitions.specs.Layouts.{nodes};
 ghost use Rattle.tree_classes.specs.Keys.{entry_of, equal_keys};
 ghost use Rattle.tree_classes.specs.Classes.{AcceptedSheet, Numbered};
-ghost use Rattle.tree_classes.specs.Chains.{Numbering, NodeToNumber, TwoNodes, Chain, FoundSame, class_by};
+ghost use Rattle.tree_classes.specs.Chains.{Numbering, NodeToNumber, TwoNodes, Chain, FoundSame};
 
 use crate::keys::{BUCKETS, bucket, same_values};
 use definitions::sizes::{MOST_NODES, OfNodes, Starts};
 use file_layout::layout::{first_node, nodes};
 use file_records::records::indexed;
-use widths::wide;
 
 // One above the last node of each bucket.
 type Lasts = [u16; BUCKETS];
 
 // Whether nodes `j` and `k`, whose record is `rec`, have one key.
+#[tactic(auto, unfolding(crate::specs::Keys::equal_keys))]
 fn same_key(
     b: &[u8],
     starts: &Starts,
@@ -29,13 +29,10 @@ fn same_key(
     requires { TwoNodes b.now starts.now classes.now rec.now j k }
     ensures { result ≡ equal_keys (entry_of classes.now) (entry_of places.now) b.now j k }
 {
-    if places[j] != places[k] {
-        return false;
-    }
-    same_values(indexed(b, starts, first_node(b) + j), rec, classes)
+    places[j] == places[k] && same_values(indexed(b, starts, first_node(b) + j), rec, classes)
 }
 
-// One above the last node before node `k` with the same key, among those of the chain from `last` on; 0 where there is none.
+// The last node before node `k` with the same key, among those of the chain from `last` on.
 fn find_same(
     b: &[u8],
     starts: &Starts,
@@ -45,7 +42,7 @@ fn find_same(
     rec: &[u8],
     k: usize,
     last: usize,
-) -> usize
+) -> Option<usize>
     requires { Chain b.now starts.now places.now classes.now earlier.now rec.now k last }
     ensures { FoundSame b.now places.now classes.now k result }
 {
@@ -53,22 +50,11 @@ fn find_same(
     while 0 < next {
         let j = next - 1;
         if same_key(b, starts, places, classes, rec, j, k) {
-            return next;
+            return Some(j);
         }
-        next = wide(earlier[j]);
+        next = usize::from(earlier[j]);
     }
-    0
-}
-
-// The class of node `k`: that of the node that was found with its key, or its own number.
-fn class(classes: &OfNodes, found: usize, k: usize) -> u16
-    requires { (found ≤ most_nodes) × (k < most_nodes) }
-    ensures { result ≡ class_by (entry_of classes.now) found k }
-{
-    if found == 0 {
-        return k as u16;
-    }
-    classes[found - 1]
+    None
 }
 
 // Numbers node `k`.
@@ -87,8 +73,20 @@ fn number_node(
     let rec = indexed(b, starts, first_node(b) + k);
     let h = bucket(rec, places[k], classes);
     let last = lasts[h];
-    let found = find_same(b, starts, places, classes, earlier, rec, k, wide(last));
-    classes[k] = class(classes, found, k);
+    let found = find_same(
+        b,
+        starts,
+        places,
+        classes,
+        earlier,
+        rec,
+        k,
+        usize::from(last),
+    );
+    classes[k] = match found {
+        Some(j) => classes[j],
+        None => k as u16,
+    };
     earlier[k] = last;
     lasts[h] = (k + 1) as u16;
 }
@@ -98,7 +96,7 @@ pub(crate) fn number_nodes(b: &[u8], starts: &Starts, places: &OfNodes, classes:
     requires { AcceptedSheet b.now starts.now × (length classes.old ≡ most_nodes) }
     ensures { Numbered b.now (entry_of places.now) classes.new (nodes b.now) }
 {
-    let count = wide(nodes(b));
+    let count = usize::from(nodes(b));
     let mut lasts = [0u16; BUCKETS];
     let mut earlier = [0u16; MOST_NODES];
     for k in 0..count {

@@ -12,20 +12,18 @@ use definitions::sheet_kinds;
 use definitions::sizes::{Ends, OfFunctions, OfNodes, Owners, Starts};
 use file_layout::layout::{first_node, functions, nodes};
 use file_records::records::{field, indexed, kind};
-use widths::{wide, wide8};
 
 // The place of a node of kind `kind` in function `owner`.
+#[tactic(auto, unfolding(crate::specs::Places::place_of))]
 fn place(kind: u16, owner: u8, scrutinees: &OfFunctions) -> u16
     requires { owner < most_functions }
     ensures { result ≡ place_of (entry_of scrutinees.now) kind owner }
 {
-    if kind == sheet_kinds::PARAMETER {
-        return owner as u16;
+    match kind {
+        sheet_kinds::PARAMETER => u16::from(owner),
+        sheet_kinds::PATTERN_VARIABLE => scrutinees[usize::from(owner)],
+        _ => 0,
     }
-    if kind == sheet_kinds::PATTERN_VARIABLE {
-        return scrutinees[wide8(owner)];
-    }
-    0
 }
 
 // Fills the table of places.
@@ -40,7 +38,7 @@ pub(crate) fn place_nodes(
     ensures { Placed b.now (entry_of scrutinees.now) places.new (nodes b.now) }
 {
     let first = first_node(b);
-    let count = wide(nodes(b));
+    let count = usize::from(nodes(b));
     for k in 0..count {
         places[k] = place(kind(indexed(b, starts, first + k)), owners[k], scrutinees);
     }
@@ -59,9 +57,9 @@ pub(crate) fn class_scrutinees(
     ensures { ScrutineeClasses b.now (entry_of classes.now) scrutinees.new (functions b.now) }
 {
     let first = first_node(b);
-    let count = wide(functions(b));
+    let count = usize::from(functions(b));
     for f in 0..count {
-        let body = wide(ends[f]) - 1;
+        let body = usize::from(ends[f]) - 1;
         scrutinees[f] = entry(classes, field(indexed(b, starts, first + body), 0));
     }
 }

@@ -1,6 +1,6 @@
 -- `tree_classes::keys::bucket` meets its contract. The loop's invariant: the bucket by the fields so far.
 use mathlib.Core.Path.{◌≡◌}
-use Prim.Native.Nat.{◌-◌, ◌≤◌, ◌<◌}
+use Prim.Native.Nat.{◌≤◌, ◌<◌}
 use Rattle.tree_classes.specs.Keys.{entry_of, bucket_after, buckets}
 use Rattle.tree_classes.proofs.keys.bucket.Given as goal
 

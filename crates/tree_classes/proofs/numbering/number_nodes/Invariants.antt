@@ -1,5 +1,5 @@
 -- `tree_classes::numbering::number_nodes` meets its contract. The loop's invariant: the nodes passed are numbered and chained.
-use Prim.Native.Nat.{◌-◌, ◌≤◌}
+use Prim.Native.Nat.{◌≤◌}
 use Rattle.tree_classes.specs.Chains.{Numbering}
 use Rattle.tree_classes.proofs.numbering.number_nodes.Given as goal
 

@@ -1,5 +1,5 @@
 -- `tree_classes::places::place_nodes` meets its contract. The loop's invariant: the nodes passed have their places in the table.
-use Prim.Native.Nat.{◌-◌, ◌≤◌}
+use Prim.Native.Nat.{◌≤◌}
 use Rattle.tree_classes.specs.Keys.{entry_of}
 use Rattle.tree_classes.specs.Places.{Placed}
 use Rattle.tree_classes.proofs.places.place_nodes.Given as goal
