@@ -8,6 +8,7 @@ use native.Mathlib.Omega.{arith}
 use lib.IntN.{ℤ}
 use lib.ListN.{length, get_or}
 use denote.MutBor.{MutBor}
+use Rattle.std.specs.Prelude.{Ok, Err}
 use Rattle.definitions.specs.Sizes.{most_nodes}
 use Rattle.definitions.specs.Numbers.{number_wanted, constructor_wanted, no_clause}
 use Rattle.definitions.specs.TranslationKinds as kinds
@@ -20,13 +21,13 @@ use Rattle.definitions.specs.Rule as Rule
 use Rattle.definitions.specs.Rule.{Ending, Reached, reach, ended, number_due, constructor_due, node_due, result_of, selected, evaluated}
 use Rattle.accepted.specs.Mention as Mention
 use Rattle.accepted.proofs.TranslationNames.{mention_below}
+use Rattle.live_counts.specs.declared.Counts.{Counts}
 use Rattle.run.specs.declared.state.Value.{Value}
 use Rattle.run.specs.declared.state.Value.TheVariants.{Number, Constructor}
-use Rattle.run.specs.declared.state.Outcome.{Outcome}
-use Rattle.run.specs.declared.state.Outcome.TheVariants as outcomes
 use Rattle.lent_rule.specs.Lent.{Lent}
 use Rattle.run.specs.NodeTable.{first_part, second_part, third_part}
-use Rattle.run.specs.Packed.{outcome_in}
+use Rattle.run.specs.declared.state.End.{End}
+use Rattle.run.specs.Packed.{Outcome, outcome_in}
 use Rattle.run.specs.States.{below, above, ending_of, reached_of, counted_state, visits, evaluates, NodeIs, InContext, Visitable, Evaluable, Visits, Evaluates}
 use Rattle.run.proofs.Endings.{number_ended, number_constructor, number_there, constructor_ended, constructor_number, constructor_there}
 use Rattle.run.proofs.NodeKinds.{is_select, is_operator, is_conditional, is_case_law}
@@ -54,11 +55,11 @@ pub data Unwanted : Wanted → Value → ℕ → Type 0 where
   no_number : {go : ℤ → Rule.State Lent → Reached ℕ Lent} {m u : ℕ} → Unwanted (a_number go) (Constructor m u) number_wanted
   no_constructor : {go : ℕ → ℕ → Rule.State Lent → Reached ℕ Lent} {z : ℤ} → Unwanted (a_constructor go) (Number z) constructor_wanted
 
-due_ended : (d : Wanted) (o : Outcome) (s : Rule.State Lent) {n : ℕ} → o ≡ outcomes.Ended n → goes_on d (ending_of o) s ≡ reach (ending_of o) s
+due_ended : (d : Wanted) (o : Outcome) (s : Rule.State Lent) {n : End} → o ≡ Err n → goes_on d (ending_of o) s ≡ reach (ending_of o) s
 due_ended (a_number go) o s e = number_ended o s go e
 due_ended (a_constructor go) o s e = constructor_ended o s go e
 
-due_unwanted : (o : Outcome) (s : Rule.State Lent) {d : Wanted} {v : Value} {fault : ℕ} → Unwanted d v fault → o ≡ outcomes.Value v
+due_unwanted : (o : Outcome) (s : Rule.State Lent) {d : Wanted} {v : Value} {fault : ℕ} → Unwanted d v fault → o ≡ Ok v
     → goes_on d (ending_of o) s ≡ reach (ended fault) s
 due_unwanted o s no_number e = number_constructor o s _ e
 due_unwanted o s no_constructor e = constructor_number o s _ e
@@ -107,7 +108,7 @@ pub record Named (b : List ℕ) (k i x : ℕ) : Type 0 where
   pub is : x ≡ field (node_record b k) i
   pub there : x < nodes b
 
-module _ {b tab : List ℕ} {limits at : ℕ} {counts bytes : List ℕ} {x : ℕ} where
+module _ {b tab : List ℕ} {limits at : ℕ} {counts : Counts} {bytes : List ℕ} {x : ℕ} where
   named_by : {kind i : ℕ} {nd : TranslationNode} → Evaluable b tab limits at counts bytes kind → x ≡ field (node_record b (below at)) i
       → translation_node_of b (below at) ≡ nd → Mention.Mention nd (field (node_record b (below at)) i) → Named b (below at) i x
   named_by a e is m = record { is = e; there = rw e (mention_below b a.equipped.accepted (below at) a.node.below is m) }
@@ -124,35 +125,35 @@ module _ {b tab : List ℕ} {limits at : ℕ} {counts bytes : List ℕ} {x : ℕ
     right_named a f g = named_by a (third_read a f plain_operator g) (is_operator a.node) Mention.right
 
 -- a node of a kind waits for the visit of its operand k under context w
-pub record Awaits (b tab : List ℕ) (t limits at : ℕ) (counts : List ℕ) (cells : MutBor (List ℕ)) (counts' : List ℕ) (cells' : MutBor (List ℕ))
+pub record Awaits (b tab : List ℕ) (t limits at : ℕ) (counts : Counts) (cells : MutBor (List ℕ)) (counts' : Counts) (cells' : MutBor (List ℕ))
     (kind k w : ℕ) (d : List ℤ → Wanted) : Type 0 where
   pub node : Evaluable b tab limits at counts cells.now kind
   pub remains : Remains b tab t limits at counts cells counts' cells'
       (λ rs. awaited (d rs) (visits b rs (above limits) (below limits) k w (counted_state counts' cells'.now)))
   pub there : k < nodes b
-  pub written : w ≤ get_or counts' 2 0
+  pub written : w ≤ counts'.most
 
 -- an operand was visited for a node of a kind, and x returned: what remains, and that a constructor is a tuple's, under a context of the cells written
-pub record OperandVisited (b tab : List ℕ) (t limits at : ℕ) (counts : List ℕ) (cells : MutBor (List ℕ)) (x : ℕ) (counts' : List ℕ)
+pub record OperandVisited (b tab : List ℕ) (t limits at : ℕ) (counts : Counts) (cells : MutBor (List ℕ)) (x : ℕ) (counts' : Counts)
     (cells' : MutBor (List ℕ)) (kind : ℕ) (d : List ℤ → Wanted) : Type 0 where
   pub node : Evaluable b tab limits at counts cells.now kind
   pub remains : Remains b tab t limits at counts cells counts' cells'
       (λ rs. goes_on (d rs) (ending_of (outcome_in x)) (counted_state counts' cells'.now))
-  pub tuple : {m u : ℕ} → outcome_in x ≡ outcomes.Value (Constructor m u) → TupleAt b m × (u ≤ get_or counts' 2 0)
+  pub tuple : {m u : ℕ} → outcome_in x ≡ Ok (Constructor m u) → TupleAt b m × (u ≤ counts'.most)
 
 -- and x is the value v
-pub record Gives (b tab : List ℕ) (t limits at : ℕ) (counts : List ℕ) (cells : MutBor (List ℕ)) (x : ℕ) (counts' : List ℕ)
+pub record Gives (b tab : List ℕ) (t limits at : ℕ) (counts : Counts) (cells : MutBor (List ℕ)) (x : ℕ) (counts' : Counts)
     (cells' : MutBor (List ℕ)) (kind : ℕ) (d : List ℤ → Wanted) (v : Value) : Type 0 where
   pub visited : OperandVisited b tab t limits at counts cells x counts' cells' kind d
-  pub told : outcome_in x ≡ outcomes.Value v
+  pub told : outcome_in x ≡ Ok v
 
 -- the operand that is visited first
-abbrev pub AwaitsBy : {b tab : List ℕ} {t limits at : ℕ} {counts bytes : List ℕ} {kind i : ℕ} (op : Operand kind i)
+abbrev pub AwaitsBy : {b tab : List ℕ} {t limits at : ℕ} {counts : Counts} {bytes : List ℕ} {kind i : ℕ} (op : Operand kind i)
     → Asked b tab t limits at counts bytes kind → MutBor (List ℕ) → ℕ → Type 0
 AwaitsBy {b} {tab} {t} {limits} {at} {counts} {kind = kind} op a cells k =
     Awaits b tab t limits at counts cells counts cells kind k (above at) (λ rs. way b rs limits at op)
 
-pub operand_awaits : {b tab : List ℕ} {t limits at : ℕ} {counts : List ℕ} {cells : MutBor (List ℕ)} {kind i e k : ℕ} (op : Operand kind i)
+pub operand_awaits : {b tab : List ℕ} {t limits at : ℕ} {counts : Counts} {cells : MutBor (List ℕ)} {kind i e k : ℕ} (op : Operand kind i)
     → (a : Asked b tab t limits at counts cells.now kind) → e ≡ get_or tab (below at) 0 → k ≡ part_in op e → AwaitsBy op a cells k
 operand_awaits {b} {limits = limits} {at = at} {counts = counts} {cells = cells} op a f g =
     let n = operand_named op a.1 f g in
@@ -169,20 +170,20 @@ operand_awaits {b} {limits = limits} {at = at} {counts = counts} {cells = cells}
       written = a.1.context.written;
     }
 
-awaits_context : {b tab : List ℕ} {t limits at : ℕ} {counts : List ℕ} {cells : MutBor (List ℕ)} {counts' : List ℕ} {cells' : MutBor (List ℕ)} {kind k w : ℕ}
+awaits_context : {b tab : List ℕ} {t limits at : ℕ} {counts : Counts} {cells : MutBor (List ℕ)} {counts' : Counts} {cells' : MutBor (List ℕ)} {kind k w : ℕ}
     {d : List ℤ → Wanted} → Awaits b tab t limits at counts cells counts' cells' kind k w d → InContext b (above limits) w counts' cells'.now
 awaits_context a = at_context a.remains.context a.written
 
 -- the visit of an operand: what it asks, and what is known after it
-module _ {b tab : List ℕ} {t limits at : ℕ} {counts : List ℕ} {cells : MutBor (List ℕ)} {counts' : List ℕ} {cells' : MutBor (List ℕ)} {kind k w p : ℕ}
+module _ {b tab : List ℕ} {t limits at : ℕ} {counts : Counts} {cells : MutBor (List ℕ)} {counts' : Counts} {cells' : MutBor (List ℕ)} {kind k w p : ℕ}
     {d : List ℤ → Wanted} (a : Awaits b tab t limits at counts cells counts' cells' kind k w d) (q : (below p ≡ k) × (above p ≡ w)) where
-  pub operand_asked : (2 * get_or counts' 0 0 < t) × Visitable b tab limits p counts' cells'.now
+  pub operand_asked : (2 * counts'.left < t) × Visitable b tab limits p counts' cells'.now
   operand_asked = (a.remains.falls, visitable_at q a.remains.equipped a.there (awaits_context a))
 
-  abbrev pub VisitedBy : {x : ℕ} {counts'' : List ℕ} {cells'' : MutBor (List ℕ)} → Visits b tab limits p counts' cells' x counts'' cells'' → Type 0
+  abbrev pub VisitedBy : {x : ℕ} {counts'' : Counts} {cells'' : MutBor (List ℕ)} → Visits b tab limits p counts' cells' x counts'' cells'' → Type 0
   VisitedBy {x} {counts''} {cells''} v = OperandVisited b tab t limits at counts cells x counts'' cells'' kind d
 
-  pub operand_visited : {x : ℕ} {counts'' : List ℕ} {cells'' : MutBor (List ℕ)} (v : Visits b tab limits p counts' cells' x counts'' cells'') → VisitedBy v
+  pub operand_visited : {x : ℕ} {counts'' : Counts} {cells'' : MutBor (List ℕ)} (v : Visits b tab limits p counts' cells' x counts'' cells'') → VisitedBy v
   unfolding reached_of reach
   operand_visited v =
       record {
@@ -197,15 +198,15 @@ module _ {b tab : List ℕ} {t limits at : ℕ} {counts : List ℕ} {cells : Mut
         tuple = visit_tuple a.remains.equipped q a.there (awaits_context a) v;
       }
 
-module _ {b tab : List ℕ} {t limits at : ℕ} {counts : List ℕ} {cells : MutBor (List ℕ)} {x : ℕ} {counts' : List ℕ} {cells' : MutBor (List ℕ)}
+module _ {b tab : List ℕ} {t limits at : ℕ} {counts : Counts} {cells : MutBor (List ℕ)} {x : ℕ} {counts' : Counts} {cells' : MutBor (List ℕ)}
     {kind : ℕ} where
   module _ {d : List ℤ → Wanted} (v : OperandVisited b tab t limits at counts cells x counts' cells' kind d) where
     -- it ended: what it returned is returned
-    pub operand_ended : {n : ℕ} → outcome_in x ≡ outcomes.Ended n → Evaluates b tab limits at counts cells x counts' cells'
+    pub operand_ended : {n : End} → outcome_in x ≡ Err n → Evaluates b tab limits at counts cells x counts' cells'
     operand_ended f = remains_ends (remains_as v.remains (λ rs. due_ended (d rs) (outcome_in x) _ f)) refl refl
 
     -- it gave what is not due
-    pub operand_unwanted : {y fault : ℕ} {u : Value} {o : Outcome} → ((rs : List ℤ) → Unwanted (d rs) u fault) → outcome_in x ≡ outcomes.Value u
+    pub operand_unwanted : {y fault : ℕ} {u : Value} {o : Outcome} → ((rs : List ℤ) → Unwanted (d rs) u fault) → outcome_in x ≡ Ok u
         → outcome_in y ≡ o → ending_of o ≡ ended fault → Evaluates b tab limits at counts cells y counts' cells'
     operand_unwanted w f g h = remains_ends (remains_as v.remains (λ rs. due_unwanted (outcome_in x) _ (w rs) f)) g h
 
@@ -229,7 +230,7 @@ module _ {b tab : List ℕ} {t limits at : ℕ} {counts : List ℕ} {cells : Mut
     pub given_tuple : TupleAt b m
     given_tuple = (g.visited.tuple g.told).0
 
-    pub given_context : u ≤ get_or counts' 2 0
+    pub given_context : u ≤ counts'.most
     given_context = (g.visited.tuple g.told).1
 
     pub tuple_room : m < most_nodes

@@ -5,16 +5,15 @@ ghost use Rattle.definitions.specs.TranslationKinds as kinds;
 ghost use Rattle.run.specs.States.{Visitable, Evaluable, Visits, Evaluates};
 
 use crate::formal_places::POSITIONS;
-use crate::look_up::{Found, branch, cell_in, clause, found_at, listed};
+use crate::look_up::{branch, cell_in, clause, found_at, listed};
 use crate::memory::{is_own, recall, remember};
 use crate::node_table::{Table, entry, first_in, kind_in, number_in, reading, second_in, third_in};
 use crate::packed::{is_value, opened, packed};
-use crate::state::{Outcome, Value, constructor, ended, given, number, tag};
+use crate::state::{Value, constructor, ended, given, number, tag};
 use cells::cell::{add_cell, pair_of};
 use definitions::{numbers, translation_kinds};
-use live_counts::{Counts, LEFT, LIVE, MOST, OLDEST, close_call, note_constructor, open_call};
+use live_counts::Counts;
 use operators::compute;
-use widths::wide32;
 
 // Visits a node under a context: the two stops, the step counted, and the node by its kind.
 #[cycle(visits)]
@@ -29,14 +28,14 @@ pub(crate) fn visit(
     requires { Visitable b.now.now tab.now limits at counts.old cells.old.now }
     ensures { Visits b.now.now tab.now limits at counts.old cells.old result counts.new cells.new }
 {
-    let left = counts[LEFT];
+    let left = counts.left;
     if left == 0 {
         return packed(ended(numbers::NO_STEP));
     }
     if limits % 0x1_0000 == 0 {
         return packed(ended(numbers::NO_NESTING));
     }
-    counts[LEFT] = left - 1;
+    counts.left = left - 1;
     let limits = limits - 1;
     let k = (at % 0x1_0000) as u16;
     let node = entry(tab, k);
@@ -95,14 +94,13 @@ fn visit_formal(
     }
     let cell = cell_in(*cells, w);
     let label = (cell % 0x1_0000) as u16;
-    let found = listed(*b, second_in(node), third_in(node), label);
-    let Found::Node(n) = found else {
+    let Some(n) = listed(*b, second_in(node), third_in(node), label) else {
         return packed(ended(numbers::NO_ACTUAL));
     };
     let tail = (cell / 0x1_0000) as u16;
     let x = visit(b, tab, cells, counts, limits, pair_of(n, tail));
     remember(*cells, own, w, place % POSITIONS, x);
-    note_constructor(counts, own, w, kind_in(x));
+    counts.note_constructor(own, w, kind_in(x));
     x
 }
 
@@ -123,9 +121,9 @@ fn visit_select(
     let w = (at / 0x1_0000) as u16;
     let n = first_in(entry(tab, k));
     let tuple = visit(b, tab, cells, counts, limits, pair_of(n, w));
-    let state = opened(tuple, counts[LEFT], counts[MOST]);
+    let state = opened(tuple, counts.left, counts.most);
     let outcome = state.outcome;
-    let Outcome::Value(value) = outcome else {
+    let Ok(value) = outcome else {
         return tuple;
     };
     let Value::Constructor { node, context: v } = value else {
@@ -136,8 +134,7 @@ fn visit_select(
     if i == 0 {
         return packed(tag(first_in(fields)));
     }
-    let found = listed(*b, second_in(fields), third_in(fields), i);
-    let Found::Node(m) = found else {
+    let Some(m) = listed(*b, second_in(fields), third_in(fields), i) else {
         return packed(ended(numbers::NO_FIELD));
     };
     visit(b, tab, cells, counts, limits, pair_of(m, v))
@@ -160,9 +157,9 @@ fn visit_operator(
     let w = (at / 0x1_0000) as u16;
     let n = second_in(entry(tab, k));
     let first = visit(b, tab, cells, counts, limits, pair_of(n, w));
-    let state = opened(first, counts[LEFT], counts[MOST]);
+    let state = opened(first, counts.left, counts.most);
     let outcome = state.outcome;
-    let Outcome::Value(value) = outcome else {
+    let Ok(value) = outcome else {
         return first;
     };
     let Value::Number(x) = value else {
@@ -170,9 +167,9 @@ fn visit_operator(
     };
     let m = third_in(entry(tab, k));
     let second = visit(b, tab, cells, counts, limits, pair_of(m, w));
-    let state = opened(second, counts[LEFT], counts[MOST]);
+    let state = opened(second, counts.left, counts.most);
     let outcome = state.outcome;
-    let Outcome::Value(value) = outcome else {
+    let Ok(value) = outcome else {
         return second;
     };
     let Value::Number(y) = value else {
@@ -198,9 +195,9 @@ fn visit_conditional(
     let w = (at / 0x1_0000) as u16;
     let n = first_in(entry(tab, k));
     let condition = visit(b, tab, cells, counts, limits, pair_of(n, w));
-    let state = opened(condition, counts[LEFT], counts[MOST]);
+    let state = opened(condition, counts.left, counts.most);
     let outcome = state.outcome;
-    let Outcome::Value(value) = outcome else {
+    let Ok(value) = outcome else {
         return condition;
     };
     let Value::Number(z) = value else {
@@ -224,18 +221,18 @@ fn visit_call(
     requires { Evaluable b.now.now tab.now limits at counts.old cells.old.now kinds.call }
     ensures { Evaluates b.now.now tab.now limits at counts.old cells.old result counts.new cells.new }
 {
-    let live = counts[LIVE];
+    let live = counts.live;
     if limits / 0x1_0000 <= live {
         return packed(ended(numbers::NO_CELL));
     }
-    let oldest = counts[OLDEST];
+    let oldest = counts.oldest;
     let node = entry(tab, (at % 0x1_0000) as u16);
     let w = (at / 0x1_0000) as u16;
-    add_cell(*cells, wide32(live), first_in(node), w, second_in(node));
-    open_call(counts);
+    add_cell(*cells, live as usize, first_in(node), w, second_in(node));
+    counts.open_call();
     let body = pair_of(third_in(node), (live + 1) as u16);
     let x = visit(b, tab, cells, counts, limits, body);
-    close_call(counts, live, oldest, kind_in(x));
+    counts.close_call(live, oldest, kind_in(x));
     x
 }
 
@@ -256,9 +253,9 @@ fn visit_case(
     let w = (at / 0x1_0000) as u16;
     let n = first_in(entry(tab, k));
     let scrutinee = visit(b, tab, cells, counts, limits, pair_of(n, w));
-    let state = opened(scrutinee, counts[LEFT], counts[MOST]);
+    let state = opened(scrutinee, counts.left, counts.most);
     let outcome = state.outcome;
-    let Outcome::Value(value) = outcome else {
+    let Ok(value) = outcome else {
         return scrutinee;
     };
     let Value::Constructor { node, context: _ } = value else {
@@ -267,8 +264,7 @@ fn visit_case(
     let tag = first_in(entry(tab, node));
     let list = entry(tab, k);
     let place = clause(*b, second_in(list), third_in(list), tag);
-    let found = found_at(*b, place);
-    let Found::Node(m) = found else {
+    let Some(m) = found_at(*b, place) else {
         return packed(ended(numbers::NO_CLAUSE));
     };
     visit(b, tab, cells, counts, limits, pair_of(m, w))

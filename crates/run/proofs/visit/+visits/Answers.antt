@@ -119,21 +119,21 @@ pub visit_call-entry-node-requires : goal.visit_call-entry-node-requires
 visit_call-entry-node-requires t c = node_room c.requires
 
 pub visit_call-open_call-requires : goal.visit_call-open_call-requires
-visit_call-open_call-requires t c = (c.requires.context.size, live_below (c.decreases, c.requires) c.if-limits-live.false)
+visit_call-open_call-requires t c = live_below (c.decreases, c.requires) c.if-limits-live.false
 
 pub visit_call-visit-x-requires : goal.visit_call-visit-x-requires
 visit_call-visit-x-requires t c =
     let due = body_due c.args.cells.now (c.decreases, c.requires) c.if-limits-live.false c.entry-node.ensures
-    c.wide32.ensures.0 c.first_in.ensures c.second_in.ensures c.third_in.ensures c.add_cell.ensures c.open_call.ensures in
+    c.first_in.ensures c.second_in.ensures c.third_in.ensures c.add_cell.ensures c.open_call.ensures in
     body_asked due c.pair_of-body.ensures
 
 pub visit_call-close_call-requires : goal.visit_call-close_call-requires
-visit_call-close_call-requires t c = (c.visit-x.ensures.size, live_below (c.decreases, c.requires) c.if-limits-live.false)
+visit_call-close_call-requires t c = live_below (c.decreases, c.requires) c.if-limits-live.false
 
 pub visit_call-returns : goal.visit_call-returns
 visit_call-returns t c =
     let due = body_due c.args.cells.now (c.decreases, c.requires) c.if-limits-live.false c.entry-node.ensures
-    c.wide32.ensures.0 c.first_in.ensures c.second_in.ensures c.third_in.ensures c.add_cell.ensures c.open_call.ensures in
+    c.first_in.ensures c.second_in.ensures c.third_in.ensures c.add_cell.ensures c.open_call.ensures in
     body_returned due c.pair_of-body.ensures c.visit-x.ensures c.kind_in.ensures c.close_call.ensures
 
 -- A case meets its contract: its scrutinee is visited, gives a constructor, and the clause with its tag is sought.
@@ -156,56 +156,56 @@ visit_case-returns-in_default-value t c =
     let awaits = operand_awaits {cells = c.args.cells.now} of_case (c.decreases, c.requires) c.entry.ensures c.first_in-n.ensures in
     let operand = operand_visited awaits c.pair_of.ensures c.visit-scrutinee.ensures in
     operand_unwanted operand (λ rs. no_constructor)
-    (opens_value c.opened-state.ensures.0 c.in-Value.is c.in_default-value.is)
+    (opens_value c.opened-state.ensures.0 c.in-Ok.is c.in_default-value.is)
     c.packed.ensures c.ended.ensures
 
 pub visit_case-entry-requires-2 : goal.visit_case-entry-requires-2
 visit_case-entry-requires-2 t c =
     let awaits = operand_awaits {cells = c.args.cells.now} of_case (c.decreases, c.requires) c.entry.ensures c.first_in-n.ensures in
     let operand = operand_visited awaits c.pair_of.ensures c.visit-scrutinee.ensures in
-    let gives : GivesOf operand c.in-Constructor.is = record { visited = operand; told = opens_value c.opened-state.ensures.0 c.in-Value.is c.in-Constructor.is } in
+    let gives : GivesOf operand c.in-Constructor.is = record { visited = operand; told = opens_value c.opened-state.ensures.0 c.in-Ok.is c.in-Constructor.is } in
     tuple_room gives
 
 pub visit_case-entry-list-requires : goal.visit_case-entry-list-requires
 visit_case-entry-list-requires t c =
     let awaits = operand_awaits {cells = c.args.cells.now} of_case (c.decreases, c.requires) c.entry.ensures c.first_in-n.ensures in
     let operand = operand_visited awaits c.pair_of.ensures c.visit-scrutinee.ensures in
-    let gives : GivesOf operand c.in-Constructor.is = record { visited = operand; told = opens_value c.opened-state.ensures.0 c.in-Value.is c.in-Constructor.is } in
+    let gives : GivesOf operand c.in-Constructor.is = record { visited = operand; told = opens_value c.opened-state.ensures.0 c.in-Ok.is c.in-Constructor.is } in
     node_room gives.visited.node
 
 pub visit_case-clause-place-requires : goal.visit_case-clause-place-requires
 visit_case-clause-place-requires t c =
     let awaits = operand_awaits {cells = c.args.cells.now} of_case (c.decreases, c.requires) c.entry.ensures c.first_in-n.ensures in
     let operand = operand_visited awaits c.pair_of.ensures c.visit-scrutinee.ensures in
-    let gives : GivesOf operand c.in-Constructor.is = record { visited = operand; told = opens_value c.opened-state.ensures.0 c.in-Value.is c.in-Constructor.is } in
+    let gives : GivesOf operand c.in-Constructor.is = record { visited = operand; told = opens_value c.opened-state.ensures.0 c.in-Ok.is c.in-Constructor.is } in
     clauses_fit gives.visited.node c.entry-list.ensures c.second_in.ensures c.third_in.ensures
 
-pub visit_case-found_at-found-requires : goal.visit_case-found_at-found-requires
-visit_case-found_at-found-requires t c = c.clause-place.ensures.1
+pub visit_case-found_at-requires : goal.visit_case-found_at-requires
+visit_case-found_at-requires t c = c.clause-place.ensures.1
 
-pub visit_case-returns-in_default-found : goal.visit_case-returns-in_default-found
-visit_case-returns-in_default-found t c =
+pub visit_case-returns-in_default-found_at : goal.visit_case-returns-in_default-found_at
+visit_case-returns-in_default-found_at t c =
     let awaits = operand_awaits {cells = c.args.cells.now} of_case (c.decreases, c.requires) c.entry.ensures c.first_in-n.ensures in
     let operand = operand_visited awaits c.pair_of.ensures c.visit-scrutinee.ensures in
-    let gives : GivesOf operand c.in-Constructor.is = record { visited = operand; told = opens_value c.opened-state.ensures.0 c.in-Value.is c.in-Constructor.is } in
-    let sought = case_seeks _ gives c.entry-2.ensures c.first_in-tag.ensures c.entry-list.ensures c.second_in.ensures c.third_in.ensures c.clause-place.ensures c.found_at-found.ensures in
-    node_missed sought c.in_default-found.is c.packed-in_default-found.ensures c.ended-in_default-found.ensures
+    let gives : GivesOf operand c.in-Constructor.is = record { visited = operand; told = opens_value c.opened-state.ensures.0 c.in-Ok.is c.in-Constructor.is } in
+    let sought = case_seeks _ gives c.entry-2.ensures c.first_in-tag.ensures c.entry-list.ensures c.second_in.ensures c.third_in.ensures c.clause-place.ensures c.found_at.ensures in
+    node_missed sought c.in_default-found_at.is c.packed-in_default-found_at.ensures c.ended-in_default-found_at.ensures
 
 pub visit_case-visit-requires : goal.visit_case-visit-requires
 visit_case-visit-requires t c =
     let awaits = operand_awaits {cells = c.args.cells.now} of_case (c.decreases, c.requires) c.entry.ensures c.first_in-n.ensures in
     let operand = operand_visited awaits c.pair_of.ensures c.visit-scrutinee.ensures in
-    let gives : GivesOf operand c.in-Constructor.is = record { visited = operand; told = opens_value c.opened-state.ensures.0 c.in-Value.is c.in-Constructor.is } in
-    let sought = case_seeks _ gives c.entry-2.ensures c.first_in-tag.ensures c.entry-list.ensures c.second_in.ensures c.third_in.ensures c.clause-place.ensures c.found_at-found.ensures in
-    visit_asked (node_found sought c.in-Node.is) c.pair_of-2.ensures
+    let gives : GivesOf operand c.in-Constructor.is = record { visited = operand; told = opens_value c.opened-state.ensures.0 c.in-Ok.is c.in-Constructor.is } in
+    let sought = case_seeks _ gives c.entry-2.ensures c.first_in-tag.ensures c.entry-list.ensures c.second_in.ensures c.third_in.ensures c.clause-place.ensures c.found_at.ensures in
+    visit_asked (node_found sought c.in-Some.is) c.pair_of-2.ensures
 
 pub visit_case-returns : goal.visit_case-returns
 visit_case-returns t c =
     let awaits = operand_awaits {cells = c.args.cells.now} of_case (c.decreases, c.requires) c.entry.ensures c.first_in-n.ensures in
     let operand = operand_visited awaits c.pair_of.ensures c.visit-scrutinee.ensures in
-    let gives : GivesOf operand c.in-Constructor.is = record { visited = operand; told = opens_value c.opened-state.ensures.0 c.in-Value.is c.in-Constructor.is } in
-    let sought = case_seeks _ gives c.entry-2.ensures c.first_in-tag.ensures c.entry-list.ensures c.second_in.ensures c.third_in.ensures c.clause-place.ensures c.found_at-found.ensures in
-    visit_returned (node_found sought c.in-Node.is) c.pair_of-2.ensures
+    let gives : GivesOf operand c.in-Constructor.is = record { visited = operand; told = opens_value c.opened-state.ensures.0 c.in-Ok.is c.in-Constructor.is } in
+    let sought = case_seeks _ gives c.entry-2.ensures c.first_in-tag.ensures c.entry-list.ensures c.second_in.ensures c.third_in.ensures c.clause-place.ensures c.found_at.ensures in
+    visit_returned (node_found sought c.in-Some.is) c.pair_of-2.ensures
     c.visit.ensures
 
 -- An if meets its contract: its condition is visited, gives a number, and a branch is taken.
@@ -228,21 +228,21 @@ visit_conditional-returns-in_default-value t c =
     let awaits = operand_awaits {cells = c.args.cells.now} of_conditional (c.decreases, c.requires) c.entry.ensures c.first_in-n.ensures in
     let operand = operand_visited awaits c.pair_of.ensures c.visit-condition.ensures in
     operand_unwanted operand (λ rs. no_number)
-    (opens_value c.opened-state.ensures.0 c.in-Value.is c.in_default-value.is)
+    (opens_value c.opened-state.ensures.0 c.in-Ok.is c.in_default-value.is)
     c.packed.ensures c.ended.ensures
 
 pub visit_conditional-entry-node-requires : goal.visit_conditional-entry-node-requires
 visit_conditional-entry-node-requires t c =
     let awaits = operand_awaits {cells = c.args.cells.now} of_conditional (c.decreases, c.requires) c.entry.ensures c.first_in-n.ensures in
     let operand = operand_visited awaits c.pair_of.ensures c.visit-condition.ensures in
-    let gives : GivesOf operand c.in-Number.is = record { visited = operand; told = opens_value c.opened-state.ensures.0 c.in-Value.is c.in-Number.is } in
+    let gives : GivesOf operand c.in-Number.is = record { visited = operand; told = opens_value c.opened-state.ensures.0 c.in-Ok.is c.in-Number.is } in
     node_room gives.visited.node
 
 pub visit_conditional-visit-requires : goal.visit_conditional-visit-requires
 visit_conditional-visit-requires t c =
     let awaits = operand_awaits {cells = c.args.cells.now} of_conditional (c.decreases, c.requires) c.entry.ensures c.first_in-n.ensures in
     let operand = operand_visited awaits c.pair_of.ensures c.visit-condition.ensures in
-    let gives : GivesOf operand c.in-Number.is = record { visited = operand; told = opens_value c.opened-state.ensures.0 c.in-Value.is c.in-Number.is } in
+    let gives : GivesOf operand c.in-Number.is = record { visited = operand; told = opens_value c.opened-state.ensures.0 c.in-Ok.is c.in-Number.is } in
     let taken = conditional_onward gives (to_z-of_z w32 _ (record { sfits = search rules })) c.entry-node.ensures c.second_in.ensures c.third_in.ensures c.branch-m.ensures in
     visit_asked taken c.pair_of-2.ensures
 
@@ -250,7 +250,7 @@ pub visit_conditional-returns : goal.visit_conditional-returns
 visit_conditional-returns t c =
     let awaits = operand_awaits {cells = c.args.cells.now} of_conditional (c.decreases, c.requires) c.entry.ensures c.first_in-n.ensures in
     let operand = operand_visited awaits c.pair_of.ensures c.visit-condition.ensures in
-    let gives : GivesOf operand c.in-Number.is = record { visited = operand; told = opens_value c.opened-state.ensures.0 c.in-Value.is c.in-Number.is } in
+    let gives : GivesOf operand c.in-Number.is = record { visited = operand; told = opens_value c.opened-state.ensures.0 c.in-Ok.is c.in-Number.is } in
     let taken = conditional_onward gives (to_z-of_z w32 _ (record { sfits = search rules })) c.entry-node.ensures c.second_in.ensures c.third_in.ensures c.branch-m.ensures in
     visit_returned taken c.pair_of-2.ensures c.visit.ensures
 
@@ -266,29 +266,26 @@ visit_formal-returns-then-is_value t c =
     let read = cell_read {cells = c.args.cells.now} (c.decreases, c.requires) c.if-w-eq0.false c.entry-node.ensures c.first_in-place.ensures c.is_own-own.ensures c.recall-known.ensures in
     known_returned read (sym c.is_value.ensures ∙ c.if-is_value.true)
 
-pub visit_formal-listed-found-requires : goal.visit_formal-listed-found-requires
-visit_formal-listed-found-requires t c = actual_room c.requires c.entry-node.ensures c.second_in.ensures c.third_in.ensures
+pub visit_formal-listed-requires : goal.visit_formal-listed-requires
+visit_formal-listed-requires t c = actual_room c.requires c.entry-node.ensures c.second_in.ensures c.third_in.ensures
 
 pub visit_formal-returns-in_default : goal.visit_formal-returns-in_default
 visit_formal-returns-in_default t c =
     let read = cell_read {cells = c.args.cells.now} (c.decreases, c.requires) c.if-w-eq0.false c.entry-node.ensures c.first_in-place.ensures c.is_own-own.ensures c.recall-known.ensures in
-    let sought = formal_seeks read (sym c.is_value.ensures ∙ c.if-is_value.false) c.entry-node.ensures c.cell_in-cell.ensures c.second_in.ensures c.third_in.ensures c.listed-found.ensures in
+    let sought = formal_seeks read (sym c.is_value.ensures ∙ c.if-is_value.false) c.entry-node.ensures c.cell_in-cell.ensures c.second_in.ensures c.third_in.ensures c.listed.ensures in
     actual_missed sought c.in_default.is c.packed-in_default.ensures c.ended-in_default.ensures
 
 pub visit_formal-visit-x-requires : goal.visit_formal-visit-x-requires
 visit_formal-visit-x-requires t c =
     let read = cell_read {cells = c.args.cells.now} (c.decreases, c.requires) c.if-w-eq0.false c.entry-node.ensures c.first_in-place.ensures c.is_own-own.ensures c.recall-known.ensures in
-    let sought = formal_seeks read (sym c.is_value.ensures ∙ c.if-is_value.false) c.entry-node.ensures c.cell_in-cell.ensures c.second_in.ensures c.third_in.ensures c.listed-found.ensures in
-    actual_asked sought c.in-Node.is c.pair_of.ensures
-
-pub visit_formal-note_constructor-requires : goal.visit_formal-note_constructor-requires
-visit_formal-note_constructor-requires t c = c.visit-x.ensures.size
+    let sought = formal_seeks read (sym c.is_value.ensures ∙ c.if-is_value.false) c.entry-node.ensures c.cell_in-cell.ensures c.second_in.ensures c.third_in.ensures c.listed.ensures in
+    actual_asked sought c.in-Some.is c.pair_of.ensures
 
 pub visit_formal-returns : goal.visit_formal-returns
 visit_formal-returns t c =
     let read = cell_read {cells = c.args.cells.now} (c.decreases, c.requires) c.if-w-eq0.false c.entry-node.ensures c.first_in-place.ensures c.is_own-own.ensures c.recall-known.ensures in
-    let sought = formal_seeks read (sym c.is_value.ensures ∙ c.if-is_value.false) c.entry-node.ensures c.cell_in-cell.ensures c.second_in.ensures c.third_in.ensures c.listed-found.ensures in
-    actual_returned sought c.in-Node.is c.pair_of.ensures c.visit-x.ensures
+    let sought = formal_seeks read (sym c.is_value.ensures ∙ c.if-is_value.false) c.entry-node.ensures c.cell_in-cell.ensures c.second_in.ensures c.third_in.ensures c.listed.ensures in
+    actual_returned sought c.in-Some.is c.pair_of.ensures c.visit-x.ensures
     c.remember.ensures c.kind_in.ensures c.note_constructor.ensures
 
 -- An operator meets its contract: its left operand is visited and gives a number, and so its right one.
@@ -311,21 +308,21 @@ visit_operator-returns-in_default-value t c =
     let left_awaited = operand_awaits {cells = c.args.cells.now} of_operator (c.decreases, c.requires) c.entry.ensures c.second_in-n.ensures in
     let left = operand_visited left_awaited c.pair_of.ensures c.visit-first.ensures in
     operand_unwanted left (λ rs. no_number)
-    (opens_value c.opened-state.ensures.0 c.in-Value.is c.in_default-value.is)
+    (opens_value c.opened-state.ensures.0 c.in-Ok.is c.in_default-value.is)
     c.packed.ensures c.ended.ensures
 
 pub visit_operator-entry-requires-2 : goal.visit_operator-entry-requires-2
 visit_operator-entry-requires-2 t c =
     let left_awaited = operand_awaits {cells = c.args.cells.now} of_operator (c.decreases, c.requires) c.entry.ensures c.second_in-n.ensures in
     let left = operand_visited left_awaited c.pair_of.ensures c.visit-first.ensures in
-    let left_gives : GivesOf left c.in-Number.is = record { visited = left; told = opens_value c.opened-state.ensures.0 c.in-Value.is c.in-Number.is } in
+    let left_gives : GivesOf left c.in-Number.is = record { visited = left; told = opens_value c.opened-state.ensures.0 c.in-Ok.is c.in-Number.is } in
     node_room left_gives.visited.node
 
 pub visit_operator-visit-second-requires : goal.visit_operator-visit-second-requires
 visit_operator-visit-second-requires t c =
     let left_awaited = operand_awaits {cells = c.args.cells.now} of_operator (c.decreases, c.requires) c.entry.ensures c.second_in-n.ensures in
     let left = operand_visited left_awaited c.pair_of.ensures c.visit-first.ensures in
-    let left_gives : GivesOf left c.in-Number.is = record { visited = left; told = opens_value c.opened-state.ensures.0 c.in-Value.is c.in-Number.is } in
+    let left_gives : GivesOf left c.in-Number.is = record { visited = left; told = opens_value c.opened-state.ensures.0 c.in-Ok.is c.in-Number.is } in
     let right_awaited = right_awaits left_gives c.entry-2.ensures c.third_in-m.ensures in
     operand_asked right_awaited c.pair_of-2.ensures
 
@@ -333,7 +330,7 @@ pub visit_operator-returns-in_default-outcome : goal.visit_operator-returns-in_d
 visit_operator-returns-in_default-outcome t c =
     let left_awaited = operand_awaits {cells = c.args.cells.now} of_operator (c.decreases, c.requires) c.entry.ensures c.second_in-n.ensures in
     let left = operand_visited left_awaited c.pair_of.ensures c.visit-first.ensures in
-    let left_gives : GivesOf left c.in-Number.is = record { visited = left; told = opens_value c.opened-state.ensures.0 c.in-Value.is c.in-Number.is } in
+    let left_gives : GivesOf left c.in-Number.is = record { visited = left; told = opens_value c.opened-state.ensures.0 c.in-Ok.is c.in-Number.is } in
     let right_awaited = right_awaits left_gives c.entry-2.ensures c.third_in-m.ensures in
     let right = operand_visited right_awaited c.pair_of-2.ensures c.visit-second.ensures in
     operand_ended right (opens c.opened-state-2.ensures.0 c.in_default-outcome.is)
@@ -342,31 +339,31 @@ pub visit_operator-returns-in_default-value-2 : goal.visit_operator-returns-in_d
 visit_operator-returns-in_default-value-2 t c =
     let left_awaited = operand_awaits {cells = c.args.cells.now} of_operator (c.decreases, c.requires) c.entry.ensures c.second_in-n.ensures in
     let left = operand_visited left_awaited c.pair_of.ensures c.visit-first.ensures in
-    let left_gives : GivesOf left c.in-Number.is = record { visited = left; told = opens_value c.opened-state.ensures.0 c.in-Value.is c.in-Number.is } in
+    let left_gives : GivesOf left c.in-Number.is = record { visited = left; told = opens_value c.opened-state.ensures.0 c.in-Ok.is c.in-Number.is } in
     let right_awaited = right_awaits left_gives c.entry-2.ensures c.third_in-m.ensures in
     let right = operand_visited right_awaited c.pair_of-2.ensures c.visit-second.ensures in
     operand_unwanted right (λ rs. no_number)
-    (opens_value c.opened-state-2.ensures.0 c.in-Value-outcome.is c.in_default-value-2.is)
+    (opens_value c.opened-state-2.ensures.0 c.in-Ok-outcome.is c.in_default-value-2.is)
     c.packed-in_default-value-2.ensures c.ended-in_default-value-2.ensures
 
 pub visit_operator-entry-requires-3 : goal.visit_operator-entry-requires-3
 visit_operator-entry-requires-3 t c =
     let left_awaited = operand_awaits {cells = c.args.cells.now} of_operator (c.decreases, c.requires) c.entry.ensures c.second_in-n.ensures in
     let left = operand_visited left_awaited c.pair_of.ensures c.visit-first.ensures in
-    let left_gives : GivesOf left c.in-Number.is = record { visited = left; told = opens_value c.opened-state.ensures.0 c.in-Value.is c.in-Number.is } in
+    let left_gives : GivesOf left c.in-Number.is = record { visited = left; told = opens_value c.opened-state.ensures.0 c.in-Ok.is c.in-Number.is } in
     let right_awaited = right_awaits left_gives c.entry-2.ensures c.third_in-m.ensures in
     let right = operand_visited right_awaited c.pair_of-2.ensures c.visit-second.ensures in
-    let right_gives : GivesOf right c.in-Number-value.is = record { visited = right; told = opens_value c.opened-state-2.ensures.0 c.in-Value-outcome.is c.in-Number-value.is } in
+    let right_gives : GivesOf right c.in-Number-value.is = record { visited = right; told = opens_value c.opened-state-2.ensures.0 c.in-Ok-outcome.is c.in-Number-value.is } in
     node_room right_gives.visited.node
 
 pub visit_operator-returns : goal.visit_operator-returns
 visit_operator-returns t c =
     let left_awaited = operand_awaits {cells = c.args.cells.now} of_operator (c.decreases, c.requires) c.entry.ensures c.second_in-n.ensures in
     let left = operand_visited left_awaited c.pair_of.ensures c.visit-first.ensures in
-    let left_gives : GivesOf left c.in-Number.is = record { visited = left; told = opens_value c.opened-state.ensures.0 c.in-Value.is c.in-Number.is } in
+    let left_gives : GivesOf left c.in-Number.is = record { visited = left; told = opens_value c.opened-state.ensures.0 c.in-Ok.is c.in-Number.is } in
     let right_awaited = right_awaits left_gives c.entry-2.ensures c.third_in-m.ensures in
     let right = operand_visited right_awaited c.pair_of-2.ensures c.visit-second.ensures in
-    let right_gives : GivesOf right c.in-Number-value.is = record { visited = right; told = opens_value c.opened-state-2.ensures.0 c.in-Value-outcome.is c.in-Number-value.is } in
+    let right_gives : GivesOf right c.in-Number-value.is = record { visited = right; told = opens_value c.opened-state-2.ensures.0 c.in-Ok-outcome.is c.in-Number-value.is } in
     result_ends _ right_gives (to_z-of_z w32 _ (record { sfits = search rules }))
     (to_z-of_z w32 _ (record { sfits = search rules })) c.entry-3.ensures c.first_in.ensures
     c.compute.ensures c.packed-2.ensures c.given.ensures
@@ -391,59 +388,59 @@ visit_select-returns-in_default-value t c =
     let awaits = operand_awaits {cells = c.args.cells.now} of_select (c.decreases, c.requires) c.entry.ensures c.first_in-n.ensures in
     let operand = operand_visited awaits c.pair_of.ensures c.visit-tuple.ensures in
     operand_unwanted operand (λ rs. no_constructor)
-    (opens_value c.opened-state.ensures.0 c.in-Value.is c.in_default-value.is)
+    (opens_value c.opened-state.ensures.0 c.in-Ok.is c.in_default-value.is)
     c.packed.ensures c.ended.ensures
 
 pub visit_select-entry-requires-2 : goal.visit_select-entry-requires-2
 visit_select-entry-requires-2 t c =
     let awaits = operand_awaits {cells = c.args.cells.now} of_select (c.decreases, c.requires) c.entry.ensures c.first_in-n.ensures in
     let operand = operand_visited awaits c.pair_of.ensures c.visit-tuple.ensures in
-    let gives : GivesOf operand c.in-Constructor.is = record { visited = operand; told = opens_value c.opened-state.ensures.0 c.in-Value.is c.in-Constructor.is } in
+    let gives : GivesOf operand c.in-Constructor.is = record { visited = operand; told = opens_value c.opened-state.ensures.0 c.in-Ok.is c.in-Constructor.is } in
     node_room gives.visited.node
 
 pub visit_select-entry-fields-requires : goal.visit_select-entry-fields-requires
 visit_select-entry-fields-requires t c =
     let awaits = operand_awaits {cells = c.args.cells.now} of_select (c.decreases, c.requires) c.entry.ensures c.first_in-n.ensures in
     let operand = operand_visited awaits c.pair_of.ensures c.visit-tuple.ensures in
-    let gives : GivesOf operand c.in-Constructor.is = record { visited = operand; told = opens_value c.opened-state.ensures.0 c.in-Value.is c.in-Constructor.is } in
+    let gives : GivesOf operand c.in-Constructor.is = record { visited = operand; told = opens_value c.opened-state.ensures.0 c.in-Ok.is c.in-Constructor.is } in
     tuple_room gives
 
 pub visit_select-returns-then-i-eq0 : goal.visit_select-returns-then-i-eq0
 visit_select-returns-then-i-eq0 t c =
     let awaits = operand_awaits {cells = c.args.cells.now} of_select (c.decreases, c.requires) c.entry.ensures c.first_in-n.ensures in
     let operand = operand_visited awaits c.pair_of.ensures c.visit-tuple.ensures in
-    let gives : GivesOf operand c.in-Constructor.is = record { visited = operand; told = opens_value c.opened-state.ensures.0 c.in-Value.is c.in-Constructor.is } in
+    let gives : GivesOf operand c.in-Constructor.is = record { visited = operand; told = opens_value c.opened-state.ensures.0 c.in-Ok.is c.in-Constructor.is } in
     select_tag gives c.entry-2.ensures c.second_in-i.ensures c.entry-fields.ensures
     c.if-i-eq0.true c.first_in.ensures c.packed-then-i-eq0.ensures c.tag.ensures
 
-pub visit_select-listed-found-requires : goal.visit_select-listed-found-requires
-visit_select-listed-found-requires t c =
+pub visit_select-listed-requires : goal.visit_select-listed-requires
+visit_select-listed-requires t c =
     let awaits = operand_awaits {cells = c.args.cells.now} of_select (c.decreases, c.requires) c.entry.ensures c.first_in-n.ensures in
     let operand = operand_visited awaits c.pair_of.ensures c.visit-tuple.ensures in
-    let gives : GivesOf operand c.in-Constructor.is = record { visited = operand; told = opens_value c.opened-state.ensures.0 c.in-Value.is c.in-Constructor.is } in
+    let gives : GivesOf operand c.in-Constructor.is = record { visited = operand; told = opens_value c.opened-state.ensures.0 c.in-Ok.is c.in-Constructor.is } in
     fields_room gives c.entry-fields.ensures c.second_in.ensures c.third_in.ensures
 
-pub visit_select-returns-in_default-found : goal.visit_select-returns-in_default-found
-visit_select-returns-in_default-found t c =
+pub visit_select-returns-in_default-listed : goal.visit_select-returns-in_default-listed
+visit_select-returns-in_default-listed t c =
     let awaits = operand_awaits {cells = c.args.cells.now} of_select (c.decreases, c.requires) c.entry.ensures c.first_in-n.ensures in
     let operand = operand_visited awaits c.pair_of.ensures c.visit-tuple.ensures in
-    let gives : GivesOf operand c.in-Constructor.is = record { visited = operand; told = opens_value c.opened-state.ensures.0 c.in-Value.is c.in-Constructor.is } in
-    let sought = select_seeks gives c.entry-2.ensures c.second_in-i.ensures c.entry-fields.ensures c.if-i-eq0.false c.second_in.ensures c.third_in.ensures c.listed-found.ensures in
-    node_missed sought c.in_default-found.is c.packed-in_default-found.ensures c.ended-in_default-found.ensures
+    let gives : GivesOf operand c.in-Constructor.is = record { visited = operand; told = opens_value c.opened-state.ensures.0 c.in-Ok.is c.in-Constructor.is } in
+    let sought = select_seeks gives c.entry-2.ensures c.second_in-i.ensures c.entry-fields.ensures c.if-i-eq0.false c.second_in.ensures c.third_in.ensures c.listed.ensures in
+    node_missed sought c.in_default-listed.is c.packed-in_default-listed.ensures c.ended-in_default-listed.ensures
 
 pub visit_select-visit-requires : goal.visit_select-visit-requires
 visit_select-visit-requires t c =
     let awaits = operand_awaits {cells = c.args.cells.now} of_select (c.decreases, c.requires) c.entry.ensures c.first_in-n.ensures in
     let operand = operand_visited awaits c.pair_of.ensures c.visit-tuple.ensures in
-    let gives : GivesOf operand c.in-Constructor.is = record { visited = operand; told = opens_value c.opened-state.ensures.0 c.in-Value.is c.in-Constructor.is } in
-    let sought = select_seeks gives c.entry-2.ensures c.second_in-i.ensures c.entry-fields.ensures c.if-i-eq0.false c.second_in.ensures c.third_in.ensures c.listed-found.ensures in
-    visit_asked (node_found sought c.in-Node.is) c.pair_of-2.ensures
+    let gives : GivesOf operand c.in-Constructor.is = record { visited = operand; told = opens_value c.opened-state.ensures.0 c.in-Ok.is c.in-Constructor.is } in
+    let sought = select_seeks gives c.entry-2.ensures c.second_in-i.ensures c.entry-fields.ensures c.if-i-eq0.false c.second_in.ensures c.third_in.ensures c.listed.ensures in
+    visit_asked (node_found sought c.in-Some.is) c.pair_of-2.ensures
 
 pub visit_select-returns : goal.visit_select-returns
 visit_select-returns t c =
     let awaits = operand_awaits {cells = c.args.cells.now} of_select (c.decreases, c.requires) c.entry.ensures c.first_in-n.ensures in
     let operand = operand_visited awaits c.pair_of.ensures c.visit-tuple.ensures in
-    let gives : GivesOf operand c.in-Constructor.is = record { visited = operand; told = opens_value c.opened-state.ensures.0 c.in-Value.is c.in-Constructor.is } in
-    let sought = select_seeks gives c.entry-2.ensures c.second_in-i.ensures c.entry-fields.ensures c.if-i-eq0.false c.second_in.ensures c.third_in.ensures c.listed-found.ensures in
-    visit_returned (node_found sought c.in-Node.is) c.pair_of-2.ensures
+    let gives : GivesOf operand c.in-Constructor.is = record { visited = operand; told = opens_value c.opened-state.ensures.0 c.in-Ok.is c.in-Constructor.is } in
+    let sought = select_seeks gives c.entry-2.ensures c.second_in-i.ensures c.entry-fields.ensures c.if-i-eq0.false c.second_in.ensures c.third_in.ensures c.listed.ensures in
+    visit_returned (node_found sought c.in-Some.is) c.pair_of-2.ensures
     c.visit.ensures
