@@ -6,7 +6,7 @@ use borrow.Author.Rules.{rules}
 use Rattle.sheet_rules.proofs.seen.note_children.Goals as goal
 
 pub loop-j-init : goal.loop-j-init
-loop-j-init c = (search rules, c.children-count.ensures, noted_none c.requires)
+loop-j-init c = search (rules, noted_none)
 
 pub loop-j-preserved : goal.loop-j-preserved
 loop-j-preserved c =
