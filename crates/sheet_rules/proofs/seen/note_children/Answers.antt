@@ -11,6 +11,4 @@ loop-j-init c = search (rules, noted_none)
 pub loop-j-preserved : goal.loop-j-preserved
 loop-j-preserved c =
     let loop = c.loop-j in
-    let child_inside = c.child_inside in
-    let from = c.from in
-    (omega arith, loop.invariant.1, noted_more loop.invariant.2 (from.ensures ∙ child_inside.ensures) c.note_child.ensures)
+    (omega arith, loop.invariant.1, noted_more loop.invariant.2 (c.from.ensures ∙ c.child_inside.ensures) c.note_child.ensures)

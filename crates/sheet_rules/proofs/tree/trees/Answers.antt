@@ -8,8 +8,7 @@ use Rattle.sheet_rules.proofs.tree.trees.Goals as goal
 pub loop-k-init : goal.loop-k-init
 loop-k-init c =
     let pre = c.requires in
-    let first_node = c.first_node-first in
-    (ruling_begins pre.0 first_node.ensures (c.from-count.ensures ∙ c.nodes.ensures), pre.1, pre.2, pre.3)
+    (ruling_begins pre.0 c.first_node-first.ensures (c.from-count.ensures ∙ c.nodes.ensures), pre.1, pre.2, pre.3)
 
 pub returns-then-not-tree_right : goal.returns-then-not-tree_right
 returns-then-not-tree_right c = search (rules, ruling_refused, tree_refused)
