@@ -9,7 +9,7 @@ use native.Mathlib.Decide.{ℕ_discrete}
 use lib.ListN.{get_or, set, replicate, length-set, get_or-replicate}
 use lib.Seq.{get_or-set_same, get_or-set_other}
 use lib.Dec.{ltb, eqb}
-use borrow.Author.Tests.{eq-eqb, ne_eqb, eqb-true, ltb-true, ltb-false, lt-ltb, le-ltb}
+use borrow.Author.Tests.{eq-eqb, ne_eqb, eqb-true, ltb-true, ltb-false}
 use Rattle.definitions.specs.Sizes.{most_functions, most_nodes}
 use Rattle.definitions.specs.Records.{record_at, kind_of, field, field_count}
 use Rattle.definitions.specs.SheetKinds
@@ -38,7 +38,7 @@ use Rattle.format.specs.Readers.{ReadSheet}
 use Rattle.file_runs.proofs.RunTables.{entry_more}
 use Rattle.tree_classes.specs.Keys.{entry_of}
 use Rattle.tree_classes.specs.Classes.{AcceptedSheet, ReadTables, FirstNodes}
-use Rattle.call_labels.specs.Tables.{Labels, Counts, Classed, LabelledOne}
+use Rattle.call_labels.specs.Tables.{Labels, Counts, Classed}
 
 -- what a reader accepts
 pub reader_accepts : {b starts ends owners : List ℕ} {v : Verdict} → ReadSheet b v starts ends owners → v ≡ Accepted → ReadTables b starts ends owners
@@ -260,22 +260,3 @@ none_passed {b} w n =
       record { size = refl; entry = λ f k h. absurd (not-suc-le-zero h) },
       record { size = refl; entry = λ f h. get_or-replicate most_functions f 0 0 (omega (arith, h, few)) ∙ sym (count_none (is_first (equal_trees b) b f)) },
     )
-
--- all nodes are passed
-module _ (b : List ℕ) (table : List ℕ) (k n : ℕ) (e : n ≡ nodes b) (h : k ≤ n) (l : n ≤ k) where
-  passed : k ≡ nodes b
-  passed = omega (arith, e, h, l)
-
-  pub labels_all : Labels b table k → Labels b table (nodes b)
-  labels_all w = rw passed at w
-
-  pub counts_all : Counts b table k → Counts b table (nodes b)
-  counts_all w = rw passed at w
-
--- a call labelled, by the comparison that was made
-module _ (f : ℕ) {first k : ℕ} (labels counts : List ℕ) where
-  pub labelled_likewise : first < k → LabelledOne f first k labels counts (set labels k (get_or labels first 0)) counts
-  labelled_likewise h = let e = lt-ltb first k h in record { label = rw e refl; count = rw e refl }
-
-  pub labelled_anew : k ≤ first → LabelledOne f first k labels counts (set labels k (get_or counts f 0)) (set counts f (get_or counts f 0 + 1))
-  labelled_anew h = let e = le-ltb first k h in record { label = rw e refl; count = rw e refl }

@@ -9,7 +9,6 @@ use definitions::sheet_kinds;
 use definitions::sizes::{OfFunctions, OfNodes, Starts};
 use file_layout::layout::{first_node, nodes};
 use file_records::records::{field, indexed, kind};
-use widths::wide;
 
 // Labels the calls, and counts the labels of each function, by the first node with each node's tree.
 pub fn label_nodes(
@@ -22,7 +21,7 @@ pub fn label_nodes(
     requires { Classed b.now starts.now classes.now × Labels b.now labels.old 0 × Counts b.now counts.old 0 }
     ensures { Labels b.now labels.new (nodes b.now) × Counts b.now counts.new (nodes b.now) }
 {
-    let count = wide(nodes(b));
+    let count = usize::from(nodes(b));
     for k in 0..count {
         label_node(b, starts, classes, k, labels, counts);
     }
@@ -42,7 +41,13 @@ fn label_node(
 {
     let rec = indexed(b, starts, first_node(b) + k);
     if kind(rec) == sheet_kinds::CALL {
-        label_call(wide(field(rec, 0)), wide(classes[k]), k, labels, counts);
+        label_call(
+            usize::from(field(rec, 0)),
+            usize::from(classes[k]),
+            k,
+            labels,
+            counts,
+        );
     }
 }
 
@@ -54,8 +59,8 @@ fn label_call(f: usize, first: usize, k: usize, labels: &mut OfNodes, counts: &m
 {
     if first < k {
         labels[k] = labels[first];
-        return;
+    } else {
+        labels[k] = counts[f];
+        counts[f] += 1;
     }
-    labels[k] = counts[f];
-    counts[f] += 1;
 }

@@ -7,11 +7,11 @@ pub label_call-requires : goal.label_call-requires
 label_call-requires c =
     let pre = c.requires in
     let call = call_read pre.tables.sheet pre.below c.first_node.ensures.0 c.indexed-rec.ensures
-    c.kind.ensures c.if-kind-eq-CALL.true c.field.ensures c.wide.ensures.0 in
+    c.kind.ensures c.if-kind-eq-CALL.true c.field.ensures c.from.ensures in
     let limit = first_limit pre.tables.sheet.accepted pre.tables.found call in
     record {
       function = omega (arith, call.function, call.few);
-      earlier = omega (arith, c.wide-then-kind-eq-CALL.ensures.0, limit);
+      earlier = omega (arith, c.from-then-kind-eq-CALL.ensures, limit);
       narrow = call.narrow;
       room = count_small pre.tables.sheet.accepted pre.tables.found call pre.labelled pre.counted;
     }
@@ -20,9 +20,9 @@ pub returns-then-kind-eq-CALL : goal.returns-then-kind-eq-CALL
 returns-then-kind-eq-CALL c =
     let pre = c.requires in
     let call = call_read pre.tables.sheet pre.below c.first_node.ensures.0 c.indexed-rec.ensures
-    c.kind.ensures c.if-kind-eq-CALL.true c.field.ensures c.wide.ensures.0 in
+    c.kind.ensures c.if-kind-eq-CALL.true c.field.ensures c.from.ensures in
     let accepted = pre.tables.sheet.accepted in
-    let first = c.wide-then-kind-eq-CALL.ensures.0 in (
+    let first = c.from-then-kind-eq-CALL.ensures in (
       rw c.label_call.ensures.label (call_labelled accepted pre.tables.found call pre.labelled pre.counted first),
       rw c.label_call.ensures.count (call_counted accepted pre.tables.found call pre.labelled pre.counted first),
     )

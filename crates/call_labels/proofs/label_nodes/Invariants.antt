@@ -1,5 +1,5 @@
 -- `call_labels::label_nodes` meets its contract. The loop's invariant: the nodes passed are labelled and counted.
-use Prim.Native.Nat.{◌-◌, ◌≤◌}
+use Prim.Native.Nat.{◌≤◌}
 use Rattle.call_labels.specs.Tables.{Labels, Counts}
 use Rattle.call_labels.proofs.label_nodes.Given as goal
 
