@@ -6,7 +6,9 @@ use Rattle.driver_view.proofs.write_view.Goals as goal
 
 pub returns-in_err-check_view : goal.returns-in_err-check_view
 returns-in_err-check_view c =
-    refused c.from_residual.result c.in_err-check_view.field-0.0 c.from_residual.ensures.1 c.in_err-check_view.ensures
+    let from = c.from_residual in
+    let err = c.in_err-check_view in
+    refused from.result err.field-0.0 from.ensures.1 err.ensures
 
 pub returns : goal.returns
 returns c = view_written c.check_view.ensures (ap as_verdict c.in_ok-check_view.was) c.put_view.ensures
