@@ -1,31 +1,33 @@
 -- Laws of counting a translation's words: a sum while it is counted, the words of a part, and all parts together.
 use mathlib.Core.Path.{◌≡◌, refl, sym, ◌∙◌}
-use Prim.Native.Nat.{ℕ, ◌+◌, ◌*◌, ◌/◌, ◌≤◌, ◌<◌}
+use Prim.Native.Nat.{ℕ, ◌+◌, ◌*◌, ◌≤◌, ◌<◌}
 use mathlib.Core.List.{List}
 use native.Mathlib.Omega.{arith}
 use native.Mathlib.Nat.{mul-add}
 use lib.ListN.{length, get_or}
-use borrow.Author.Tests.{ne_eqb, le-leb, lt-leb}
+use lib.Dec.{leb}
+use Rattle.std.specs.Prelude.{Result}
+use Rattle.std.specs.Result.{IsErrAnd}
+use Rattle.std.proofs.lemmas.Result.{err_from_is_err_and}
 use Rattle.definitions.specs.Sizes.{translation_bytes}
 use Rattle.definitions.specs.Numbers.{short_output}
 use Rattle.definitions.specs.Verdicts.{◌and_then◌, require}
 use Rattle.definitions.specs.Output.{written_of}
-use Rattle.definitions.specs.Records.{record_at, kind_of, field}
-use Rattle.definitions.specs.SheetKinds
+use Rattle.definitions.specs.Records.{record_at, field}
 use Rattle.definitions.specs.Lists.{sum_of}
 use Rattle.definitions.specs.Layouts.{functions, nodes, first_function, first_node}
 use Rattle.definitions.specs.Checks.{sheet_verdict}
 use Rattle.definitions.specs.Trees.{equal_trees}
-use Rattle.definitions.specs.Translate.{translation, translation_refusal, translation_answer}
+use Rattle.definitions.specs.Translate.{translation, translation_refusal}
 use Rattle.definitions.specs.declared.Layout.TheVariants.{Sheet}
 use Rattle.definitions.specs.Verdict.{Verdict, Accepted, Refused}
-use Rattle.definitions.specs.Written as answers
+use Rattle.definitions.specs.Refusals.{number_of, as_written}
+use Rattle.definitions.specs.declared.refusals.Refusal.{Refusal}
 use Rattle.laws.proofs.Lists.{sum_more}
 use Rattle.accepted.proofs.Sums.{sum_term}
 use Rattle.readback.proofs.Size.{words_size, formal_size, node_length_law, translation_length, translation_limit}
 use Rattle.file_records.specs.Index.{start_in}
 use Rattle.file_records.proofs.Indices.{node_reached}
-use Rattle.format.specs.Readers.{ReadSheet}
 use Rattle.sheet_rules.proofs.SheetTables.{opened_parameters}
 use Rattle.tree_classes.specs.Classes.{AcceptedSheet}
 use Rattle.translation_length.specs.Words.{CountedLabels, formal_length, node_length, record_length}
@@ -49,20 +51,6 @@ module _ {at : ℕ → ℕ} where
 
   pub all_summed : {count total i n : ℕ} → Summed at count total i → count ≤ i → count ≡ n → total ≡ sum_of n at
   all_summed {i} {n} w h e = let f : i ≡ n = omega (arith, w.reached, h, e) in w.is ∙ rw f refl
-
--- a node's words, by its record
-module _ (rec : List ℕ) {kind : ℕ} (e : kind ≡ kind_of rec) where
-  pub call_length : kind ≡ SheetKinds.call → 4 ≡ record_length rec
-  unfolding record_length
-  call_length f = rw (← e, f) refl
-
-  pub pattern_length : kind ≡ SheetKinds.pattern_variable → 4 ≡ record_length rec
-  unfolding record_length
-  pattern_length f = rw (← e, f) refl
-
-  pub same_length : (kind ≡ SheetKinds.call → ⊥) → (kind ≡ SheetKinds.pattern_variable → ⊥) → length rec / 2 ≡ record_length rec
-  unfolding record_length
-  same_length f g = rw (← e, ne_eqb kind SheetKinds.call f, ne_eqb kind SheetKinds.pattern_variable g) refl
 
 -- the parts of an accepted sheet's translation
 module _ (b : List ℕ) (accepted : sheet_verdict b ≡ Accepted) where
@@ -92,23 +80,17 @@ module _ {b starts counts : List ℕ} (w : CountedLabels b starts counts) {f x y
   formal_counted =
       rw (p, opened_parameters b starts f x w.sheet.file h g, q, w.counted.entry f h) (mul-add _ 2 _ ∙ sym (formal_size (equal_trees b) b w.sheet.accepted f))
 
-  pub formal_limit : y * (2 + z) ≤ translation_bytes
-  formal_limit = omega (arith, formal_counted, sum_term f (functions b) (formal_length b) h, words_limit b w.sheet.accepted)
+-- what translating would answer: a refusal that is passed on, the reader's or 8, or the length
+pub refused_answer : {v : Verdict} (n : ℕ) (r : Result ℕ Refusal) (e : Refusal) → IsErrAnd r (λ d. d ≡ e) → Refused (number_of e.reason) e.place ≡ v
+    → as_written r ≡ written_of v n
+unfolding written_of
+refused_answer n r e h f = let p = err_from_is_err_and r h in rw (p.1, p.2, ← f) refl
 
--- what translating would answer: the reader's refusal, the length, or 8
-pub reader_refuses : {b starts ends owners : List ℕ} {v : Verdict} {n p : ℕ} (room : ℕ) → ReadSheet b v starts ends owners → v ≡ Refused n p
-    → answers.Refused n p ≡ translation_answer b room
-unfolding translation_answer translation_refusal written_of ◌and_then◌
-reader_refuses room w e = rw (← w.verdict, e) refl
+module _ (b : List ℕ) (room : ℕ) where
+  pub reader_refuses : {n p : ℕ} → Refused n p ≡ sheet_verdict b → Refused n p ≡ translation_refusal b room
+  unfolding translation_refusal ◌and_then◌
+  reader_refuses e = rw (← e) refl
 
-module _ (b : List ℕ) (accepted : sheet_verdict b ≡ Accepted) {n : ℕ} (e : n ≡ length (translation b)) where
-  pub some_bytes : 2 ≤ n
-  some_bytes = omega (arith, e, bytes_counted b accepted)
-
-  pub length_fits : {room : ℕ} → n ≤ room → answers.Length n ≡ translation_answer b room
-  unfolding translation_answer translation_refusal written_of ◌and_then◌ require
-  length_fits {room} h = rw (accepted, le-leb (length (translation b)) room (omega (arith, e, h)), e) refl
-
-  pub length_short : {room : ℕ} → room < n → answers.Refused short_output 0 ≡ translation_answer b room
-  unfolding translation_answer translation_refusal written_of ◌and_then◌ require
-  length_short {room} h = rw (accepted, lt-leb (length (translation b)) room (omega (arith, e, h))) refl
+  pub room_decides : {v : Verdict} → sheet_verdict b ≡ Accepted → v ≡ require (leb (length (translation b)) room) short_output 0 → v ≡ translation_refusal b room
+  unfolding translation_refusal ◌and_then◌
+  room_decides accepted e = rw accepted e

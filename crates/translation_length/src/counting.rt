@@ -12,7 +12,6 @@ use definitions::sizes::{OfFunctions, Starts};
 use file_layout::layout::{first_node, functions, nodes};
 use file_records::declared_counts::parameters;
 use file_records::records::{indexed, kind};
-use widths::wide;
 
 // The words of the head's record, and of a function's.
 const HEAD_WORDS: usize = 6;
@@ -24,7 +23,7 @@ pub fn count_bytes(b: &[u8], starts: &Starts, counts: &OfFunctions) -> usize
     requires { CountedLabels b.now starts.now counts.now }
     ensures { result ≡ length (translation b.now) }
 {
-    let sections = HEAD_WORDS + FUNCTION_WORDS * wide(functions(b));
+    let sections = HEAD_WORDS + FUNCTION_WORDS * usize::from(functions(b));
     2 * (sections + count_formals(b, starts, counts) + count_nodes(b, starts))
 }
 
@@ -33,7 +32,7 @@ fn count_formals(b: &[u8], starts: &Starts, counts: &OfFunctions) -> usize
     requires { CountedLabels b.now starts.now counts.now }
     ensures { (result ≡ sum_of (functions b.now) (formal_length b.now)) × (result ≤ translation_bytes) }
 {
-    let count = wide(functions(b));
+    let count = usize::from(functions(b));
     let mut total: usize = 0;
     for f in 0..count {
         total += count_function(b, starts, counts, f);
@@ -46,7 +45,7 @@ fn count_function(b: &[u8], starts: &Starts, counts: &OfFunctions, f: usize) -> 
     requires { CountedLabels b.now starts.now counts.now × (f < functions b.now) }
     ensures { result ≡ formal_length b.now f }
 {
-    wide(parameters(b, starts, f)) * (2 + wide(counts[f]))
+    usize::from(parameters(b, starts, f)) * (2 + usize::from(counts[f]))
 }
 
 // The words of all nodes.
@@ -55,7 +54,7 @@ fn count_nodes(b: &[u8], starts: &Starts) -> usize
     ensures { (result ≡ sum_of (nodes b.now) (node_length b.now)) × (result ≤ translation_bytes) }
 {
     let first = first_node(b);
-    let count = wide(nodes(b));
+    let count = usize::from(nodes(b));
     let mut total: usize = 0;
     for k in 0..count {
         total += count_node(indexed(b, starts, first + k));
@@ -64,15 +63,12 @@ fn count_nodes(b: &[u8], starts: &Starts) -> usize
 }
 
 // The words of the translation of a node with this record.
+#[tactic(auto, unfolding(crate::specs::Words::record_length))]
 fn count_node(rec: &[u8]) -> usize
     ensures { result ≡ record_length rec.now }
 {
-    let node_kind = kind(rec);
-    if node_kind == sheet_kinds::CALL {
-        return 4;
+    match kind(rec) {
+        sheet_kinds::CALL | sheet_kinds::PATTERN_VARIABLE => 4,
+        _ => rec.len() / 2,
     }
-    if node_kind == sheet_kinds::PATTERN_VARIABLE {
-        return 4;
-    }
-    rec.len() / 2
 }

@@ -3,6 +3,7 @@
 #![tactic(auto)]
 
 ghost use Rattle.std.specs.Prelude.{◌≡◌};
+ghost use Rattle.definitions.specs.Refusals.{as_written};
 ghost use Rattle.definitions.specs.Translate.{translation_answer};
 ghost use Rattle.tree_classes.specs.Classes.{ReadTables};
 
@@ -10,36 +11,29 @@ pub mod counting;
 
 use crate::counting::count_bytes;
 use call_labels::label_nodes;
-use definitions::numbers::SHORT_OUTPUT;
-use definitions::sizes::{Ends, MOST_FUNCTIONS, MOST_NODES, MOST_RECORDS, Owners, Starts};
-use definitions::{Verdict, Written};
-use format::sheet::fill_sheet;
+use definitions::refusals::{Reason, Refusal, require};
+use definitions::sizes::{Ends, MOST_FUNCTIONS, MOST_NODES, Owners, Starts};
+use format::sheet::read_sheet;
 use tree_classes::class_nodes;
 
 // What translating a sheet into an output of `room` bytes would answer: the translation's length, or the refusal.
-pub fn translated_length(sheet: &[u8], room: usize) -> Written
-    ensures { result ≡ translation_answer sheet.now room }
+pub fn translated_length(sheet: &[u8], room: usize) -> Result<usize, Refusal>
+    ensures { as_written result ≡ translation_answer sheet.now room }
 {
-    let mut starts = [0u16; MOST_RECORDS];
-    let mut ends = [0u16; MOST_FUNCTIONS];
-    let mut owners = [0u8; MOST_NODES];
-    let verdict = fill_sheet(sheet, &mut starts, &mut ends, &mut owners);
-    match verdict {
-        Verdict::Refused { number, place } => Written::Refused { number, place },
-        Verdict::Accepted => length_accepted(sheet, &starts, &ends, &owners, room),
-    }
+    let tables = read_sheet(sheet)?;
+    length_accepted(sheet, &tables.starts, &tables.ends, &tables.owners, room)
 }
 
-// The same of an accepted sheet: its length, where the last byte of the translation is inside the output.
+// The same of an accepted sheet: its length, where the output holds the translation.
 fn length_accepted(
     sheet: &[u8],
     starts: &Starts,
     ends: &Ends,
     owners: &Owners,
     room: usize,
-) -> Written
+) -> Result<usize, Refusal>
     requires { ReadTables sheet.now starts.now ends.now owners.now }
-    ensures { result ≡ translation_answer sheet.now room }
+    ensures { as_written result ≡ translation_answer sheet.now room }
 {
     let mut classes = [0u16; MOST_NODES];
     class_nodes(sheet, starts, ends, owners, &mut classes);
@@ -47,11 +41,6 @@ fn length_accepted(
     let mut counts = [0u16; MOST_FUNCTIONS];
     label_nodes(sheet, starts, &classes, &mut labels, &mut counts);
     let length = count_bytes(sheet, starts, &counts);
-    if length - 1 < room {
-        return Written::Length(length);
-    }
-    Written::Refused {
-        number: SHORT_OUTPUT,
-        place: 0,
-    }
+    require(length <= room, Reason::ShortOutput)?;
+    Ok(length)
 }

@@ -1,31 +1,23 @@
 -- `translation_length::length_accepted` meets its contract: the length that was counted, or 8.
-use native.Mathlib.Omega.{arith}
+use mathlib.Core.Path.{refl}
+use Rattle.definitions.specs.Output.{written_of}
+use Rattle.definitions.specs.Translate.{translation_answer}
 use Rattle.call_labels.proofs.CallLabels.{none_passed}
-use Rattle.translation_length.proofs.WordCounts.{some_bytes, length_fits, length_short}
+use Rattle.translation_length.proofs.WordCounts.{refused_answer, room_decides}
 use Rattle.translation_length.proofs.length_accepted.Goals as goal
 
 pub label_nodes-requires : goal.label_nodes-requires
-label_nodes-requires c =
-    none_passed c.requires c.class_nodes.ensures
+label_nodes-requires c = none_passed c.requires c.class_nodes.ensures
 
-pub count_bytes-length-requires : goal.count_bytes-length-requires
-count_bytes-length-requires c =
-    let pre = c.requires in
-    record { sheet = pre.sheet; counted = c.label_nodes.ensures.1 }
-
-pub overflow_sub-length : goal.overflow_sub-length
-overflow_sub-length c =
-    let pre = c.requires in
-    omega (arith, some_bytes _ pre.sheet.accepted c.count_bytes-length.ensures)
-
-pub returns-then-length-room : goal.returns-then-length-room
-returns-then-length-room c =
-    let pre = c.requires in
-    let counted = c.count_bytes-length.ensures in
-    length_fits _ pre.sheet.accepted counted (omega (arith, c.if-length-room.true))
+pub returns-in_err-require : goal.returns-in_err-require
+unfolding translation_answer
+returns-in_err-require c =
+    let error = c.in_err-require in
+    let refusal = room_decides _ _ c.requires.sheet.accepted (rw c.count_bytes-length.ensures at error.ensures) in
+    refused_answer _ c.from_residual.result error.field-0.0 c.from_residual.ensures.1 refusal
 
 pub returns : goal.returns
+unfolding translation_answer written_of
 returns c =
-    let accepted = c.requires.sheet.accepted in
-    let counted = c.count_bytes-length.ensures in
-    length_short _ accepted counted (omega (arith, c.if-length-room.false, some_bytes _ accepted counted))
+    let accepted = room_decides _ c.args.room c.requires.sheet.accepted (rw c.count_bytes-length.ensures at c.in_ok-require.ensures) in
+    rw (← accepted, c.count_bytes-length.ensures) refl

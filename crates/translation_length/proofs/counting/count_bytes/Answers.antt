@@ -10,7 +10,7 @@ returns c =
       arith,
       c.count_nodes.ensures.0,
       c.count_formals.ensures.0,
-      c.wide.ensures.0,
+      c.from.ensures,
       c.functions.ensures,
       bytes_counted _ pre.sheet.accepted,
     )

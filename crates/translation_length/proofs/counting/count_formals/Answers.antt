@@ -11,7 +11,7 @@ loop-f-init c = none_summed
 pub overflow_add-total : goal.overflow_add-total
 overflow_add-total c =
     let pre = c.requires in
-    let count = c.wide-count.ensures.0 ∙ c.functions.ensures in
+    let count = c.from-count.ensures ∙ c.functions.ensures in
     let within = sum_within c.loop-f.invariant c.loop-f-test.true c.count_function-total.ensures count in
     omega (arith, within, words_limit _ pre.sheet.accepted)
 
@@ -22,5 +22,5 @@ loop-f-preserved c =
 pub returns : goal.returns
 returns c =
     let pre = c.requires in
-    let sum = all_summed c.loop-f.invariant c.loop-f-test.false (c.wide-count.ensures.0 ∙ c.functions.ensures) in
+    let sum = all_summed c.loop-f.invariant c.loop-f-test.false (c.from-count.ensures ∙ c.functions.ensures) in
     (sum, omega (arith, sum, words_limit _ pre.sheet.accepted))

@@ -1,6 +1,5 @@
 -- `translation_length::counting::count_formals` meets its contract. The loop's invariant: the words of the formals of the functions passed are
 -- summed.
-use Prim.Native.Nat.{◌-◌}
 use Rattle.translation_length.specs.Words.{formal_length}
 use Rattle.translation_length.proofs.WordCounts.{Summed}
 use Rattle.translation_length.proofs.counting.count_formals.Given as goal

@@ -2,7 +2,7 @@
 use native.Mathlib.Omega.{arith}
 use Rattle.definitions.specs.declared.Layout.TheVariants.{Sheet}
 use Rattle.accepted.proofs.Head.{functions_limit}
-use Rattle.translation_length.proofs.WordCounts.{formal_counted, formal_limit}
+use Rattle.translation_length.proofs.WordCounts.{formal_counted}
 use Rattle.translation_length.proofs.counting.count_function.Goals as goal
 
 pub bounds-counts-f : goal.bounds-counts-f
@@ -10,12 +10,7 @@ bounds-counts-f c =
     let pre = c.requires in
     omega (arith, pre.1, functions_limit Sheet _ pre.0.sheet.file.accepted)
 
-pub overflow_mul-result : goal.overflow_mul-result
-overflow_mul-result c =
-    let pre = c.requires in
-    omega (arith, formal_limit pre.0 pre.1 c.parameters.ensures c.wide.ensures.0 c.wide-2.ensures.0)
-
 pub returns : goal.returns
 returns c =
     let pre = c.requires in
-    formal_counted pre.0 pre.1 c.parameters.ensures c.wide.ensures.0 c.wide-2.ensures.0
+    formal_counted pre.0 pre.1 c.parameters.ensures c.from.ensures c.from-2.ensures

@@ -1,5 +1,4 @@
 -- `translation_length::counting::count_nodes` meets its contract. The loop's invariant: the words of the nodes passed are summed.
-use Prim.Native.Nat.{◌-◌}
 use Rattle.translation_length.specs.Words.{node_length}
 use Rattle.translation_length.proofs.WordCounts.{Summed}
 use Rattle.translation_length.proofs.counting.count_nodes.Given as goal
