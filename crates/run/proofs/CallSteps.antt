@@ -119,7 +119,7 @@ module _ {b tab : List ℕ} {t limits at : ℕ} {counts : Counts} (cells : MutBo
   unfolding call_opened
   body_due {list} {label = label} {callee = callee} l f el ec ek added opened =
       let body = body_read a.1 f ek in
-      let first = first_read a.1 f (λ q. omega (arith, q)) el in
+      let first = first_read a.1.equipped a.1.node f (λ q. omega (arith, q)) el in
       let second = callee_read a.1 f ec in
       let falls = asked_falls a in
       record {

@@ -8,7 +8,7 @@ use native.Mathlib.Nat.{le_trans}
 use lib.IntN.{ℤ}
 use lib.ListN.{get_elem?}
 use denote.MutBor.{MutBor}
-use Rattle.std.specs.Prelude.{Ok, Some}
+use Rattle.std.specs.Prelude.{Some}
 use Rattle.definitions.specs.TranslationKinds as kinds
 use Rattle.definitions.specs.Records.{field}
 use Rattle.definitions.specs.Operators.{is_zero}
@@ -27,9 +27,8 @@ use Rattle.live_counts.specs.declared.Counts.{Counts}
 use Rattle.lent_rule.specs.Standing.{TupleAt, NarrowReadings, Standing, Inside, Good}
 use Rattle.lent_rule.proofs.Tuples.{member_below, clause_below, branch_below}
 use Rattle.lent_rule.proofs.Good.{visit_good}
-use Rattle.run.specs.declared.state.Value.TheVariants.{Constructor}
 use Rattle.run.specs.Packed.{outcome_in}
-use Rattle.run.specs.States.{Found, below, above, found_of, ending_of, value_of, state_of, lent_of, counted_state, reached_of, NodeIs, visits, Equipped, InContext, Visits}
+use Rattle.run.specs.States.{Found, below, above, found_of, ending_of, state_of, lent_of, counted_state, reached_of, NodeIs, visits, Equipped, InContext, Visits}
 use Rattle.run.proofs.Endings.{found_some}
 use Rattle.run.proofs.NodeKinds.{is_formal, is_conditional, is_call, is_case_law}
 
@@ -84,10 +83,6 @@ module _ (b : List ℕ) (accepted : translation_verdict b ≡ Accepted) (bytes :
   unfolding reached_of reach state_of
   reached_inside = reached_good.inside
 
-  reached_tuple : (m u : ℕ) → outcome_in x ≡ Ok (Constructor m u) → TupleAt b m × (u ≤ counts'.most)
-  unfolding ending_of value_of
-  reached_tuple m u e = rw e at reached_inside
-
 module _ {b tab : List ℕ} {limits p k w : ℕ} {counts : Counts} {cells : MutBor (List ℕ)} {x : ℕ} {counts' : Counts} {cells' : MutBor (List ℕ)}
     (q : Equipped b tab) (at : (below p ≡ k) × (above p ≡ w)) (there : k < nodes b) (c : InContext b (above limits) w counts cells.now)
     (v : Visits b tab limits p counts cells x counts' cells') where
@@ -111,6 +106,6 @@ module _ {b tab : List ℕ} {limits p k w : ℕ} {counts : Counts} {cells : MutB
         written = le_trans h grows;
       }
 
-  pub visit_tuple : {m u : ℕ} → outcome_in x ≡ Ok (Constructor m u) → TupleAt b m × (u ≤ counts'.most)
-  visit_tuple e =
-      reached_tuple b q.accepted q.bytes q.readings q.narrow _ _ _ _ counts _ x _ _ here c.standing under (v.same q.readings q.held) _ _ e
+  pub visit_inside : Inside b counts'.most (ending_of (outcome_in x))
+  visit_inside =
+      reached_inside b q.accepted q.bytes q.readings q.narrow _ _ _ _ counts _ x _ _ here c.standing under (v.same q.readings q.held)

@@ -53,7 +53,7 @@ module _ {b tab : List ℕ} {limits at : ℕ} {counts : Counts} {cells : MutBor 
       → outcome_in x ≡ o → ending_of o ≡ value (integer y) → Evaluates b tab limits at counts cells x counts cells
   reading_ends a f g ey ez =
       node_ends a (λ rs h. reading_as b rs limits at _ a.node ∙ ap (λ i. reach (value (integer i)) (counted_state counts cells.now))
-      (sym (ey ∙ reading_read a (first_read a f (λ q. omega (arith, q)) g) h ez)))
+      (sym (ey ∙ reading_read a (first_read a.equipped a.node f (λ q. omega (arith, q)) g) h ez)))
 
 pub tuple_ends : {b tab : List ℕ} {limits at : ℕ} {counts : Counts} {cells : MutBor (List ℕ)} {x : ℕ} {o : Outcome}
     → Evaluable b tab limits at counts cells.now kinds.tuple → outcome_in x ≡ o → ending_of o ≡ value (constructor (below at) (above at))

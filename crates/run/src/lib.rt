@@ -9,6 +9,7 @@ ghost use Rattle.run.specs.Promise.{Runs, RunsHeld};
 
 mod answers;
 mod formal_places;
+mod going_on;
 mod look_up;
 mod memory;
 pub mod node_table;

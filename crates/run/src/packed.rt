@@ -51,7 +51,7 @@ pub(crate) fn is_value(x: u64) -> bool
 }
 
 // The outcome of a number.
-fn outcome_in(x: u64) -> Outcome
+pub(crate) fn outcome_in(x: u64) -> Outcome
     ensures { result ≡ outcome_in x }
 {
     let kind = kind_in(x);
