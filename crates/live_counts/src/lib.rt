@@ -20,21 +20,21 @@ pub struct Counts {
 
 // How many cells are alive after a call, before which `before` were, by the kind of what its visit ended with and the oldest cell in which
 // a constructor was remembered since: with a number the cells made since are given back, unless that is older than the call.
+#[tactic(auto, unfolding(crate::specs::Counts::gives_back))]
 fn live_after(kind: u16, before: u32, oldest: u32, live: u32) -> u32
     requires { before < most_cells }
     ensures { result ≡ cond (gives_back kind (suc before) oldest) before live }
 {
     let own = before + 1;
-    if kind == entry::NUMBER {
-        if own <= oldest {
-            return before;
-        }
+    if kind == entry::NUMBER && own <= oldest {
+        return before;
     }
     live
 }
 
 impl Counts {
     // Opens a call: its own cell is alive.
+    #[tactic(auto, unfolding(crate::specs::Counts::call_opened))]
     pub fn open_call(&mut self)
         requires { self.old.live < most_cells }
         ensures { self.new ≡ call_opened self.old }
@@ -46,6 +46,7 @@ impl Counts {
     }
 
     // Closes a call, by how many cells were alive before it, the oldest before it, and the kind of what its visit ended with.
+    #[tactic(auto, unfolding(crate::specs::Counts::call_closed))]
     pub fn close_call(&mut self, before: u32, oldest: u32, kind: u16)
         requires { before < most_cells }
         ensures { self.new ≡ call_closed before oldest kind self.old }
@@ -56,13 +57,12 @@ impl Counts {
     }
 
     // Notes a constructor that was remembered in cell `c`, where the cell is the formal's own.
+    #[tactic(auto, unfolding(crate::specs::Counts::constructor_noted))]
     pub fn note_constructor(&mut self, own: bool, c: u16, kind: u16)
         ensures { self.new ≡ constructor_noted own c kind self.old }
     {
-        if own {
-            if kind == entry::CONSTRUCTOR {
-                self.oldest = self.oldest.min(u32::from(c));
-            }
+        if own && kind == entry::CONSTRUCTOR {
+            self.oldest = self.oldest.min(u32::from(c));
         }
     }
 }
