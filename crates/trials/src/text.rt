@@ -64,13 +64,11 @@ pub(crate) fn number_starts(text: &[u8], at: usize) -> bool {
 
 // A number with one digit more, where it fits into 32 bits. The lower half of a digit's byte is its value.
 fn with_digit(number: u32, digit: u8, printer: &mut Printer) -> u32 {
-    match u32::try_from(10 * u64::from(number) + u64::from(digit % 16)) {
-        Ok(longer) => longer,
-        Err(_) => {
-            show_misfit(printer);
-            u32::MAX
-        }
+    let longer = 10 * u64::from(number) + u64::from(digit % 16);
+    if 0x1_0000_0000 <= longer {
+        show_misfit(printer);
     }
+    (longer % 0x1_0000_0000) as u32
 }
 
 // The digits that a text starts with, and what follows them.
@@ -91,13 +89,11 @@ pub(crate) fn number(text: &[u8], printer: &mut Printer) -> u32 {
 
 // The word that a text starts with, where it fits into 16 bits.
 pub(crate) fn word(text: &[u8], printer: &mut Printer) -> u16 {
-    match u16::try_from(number(text, printer)) {
-        Ok(word) => word,
-        Err(_) => {
-            show_misfit(printer);
-            u16::MAX
-        }
+    let value = number(text, printer);
+    if 65536 <= value {
+        show_misfit(printer);
     }
+    (value % 65536) as u16
 }
 
 // What stands after one byte that follows the number that a text starts with, where that byte is as given; else nothing.
