@@ -1,12 +1,11 @@
 -- `sheet_types::clauses_typed` meets its contract. The loop's invariant: the clauses so far are of the type.
-use borrow.Author.Rules.{rules}
 use mathlib.Core.Path.{refl, ◌∙◌}
 use Rattle.laws.proofs.Tests.{tests_begin, tests_go_on, tests_fail, same_test, differ_test}
 use Rattle.sheet_types.proofs.TypeSteps.{clause_type}
 use Rattle.sheet_types.proofs.clauses_typed.Goals as goal
 
 pub loop-j-init : goal.loop-j-init
-loop-j-init c = search (rules, tests_begin)
+loop-j-init c = (tests_begin c.clauses-count.ensures, c.requires)
 
 pub returns-then-constructor_field-t : goal.returns-then-constructor_field-t
 returns-then-constructor_field-t c =

@@ -22,7 +22,11 @@ pub returns-then-not-children_typed : goal.returns-then-not-children_typed
 returns-then-not-children_typed c = search children_refused
 
 pub returns-then-not-result_typed : goal.returns-then-not-result_typed
-returns-then-not-result_typed c = search result_refused
+returns-then-not-result_typed c =
+    result_refused c.loop-k.invariant c.loop-k-test.true c.indexed-rec.ensures c.type_at-t.ensures c.children_typed.ensures
+    c.if-not-children_typed.false c.result_typed.ensures c.if-not-result_typed.true
 
 pub loop-k-preserved : goal.loop-k-preserved
-loop-k-preserved c = search typing_goes_on
+loop-k-preserved c =
+    typing_goes_on c.loop-k.invariant c.loop-k-test.true c.indexed-rec.ensures c.type_at-t.ensures c.children_typed.ensures
+    c.if-not-children_typed.false c.result_typed.ensures c.if-not-result_typed.false

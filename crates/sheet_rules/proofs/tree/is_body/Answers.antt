@@ -6,7 +6,7 @@ pub bounds-owners-k : goal.bounds-owners-k
 bounds-owners-k c = search node_in_table
 
 pub bounds-ends-from : goal.bounds-ends-from
-bounds-ends-from c = search owner_in_table
+bounds-ends-from c = owner_in_table c.requires c.from.ensures
 
 pub returns : goal.returns
-returns c = search body_test
+returns c = body_test c.requires c.from.ensures c.from-2.ensures
