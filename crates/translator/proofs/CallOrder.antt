@@ -120,9 +120,6 @@ module _ (b : List ℕ) where
             (λ q. absurd (true≢false (sym q ∙ p f))) i (omega (arith, n));
       }
 
-  pub order_all : {order : List ℕ} {k n : ℕ} → n ≡ nodes b → k ≤ n → n ≤ k → CallOrder b order k → CallOrder b order (nodes b)
-  order_all {k} e h l w = let q : k ≡ nodes b = omega (arith, e, h, l) in rw q at w
-
   -- the place of a first call, by the tables
   pub place_read : {starts classes labels firsts : List ℕ} {f k x y : ℕ} → Placing b starts classes labels firsts → CallOf b f k → {z : ℕ} → z ≡ entry_of classes k → k ≤ z
       → x ≡ get_or firsts f 0 → y ≡ get_or labels k 0 → x + y ≡ place f k

@@ -26,7 +26,7 @@ use Rattle.file_records.specs.Index.{start_in}
 use Rattle.file_records.proofs.Indices.{node_reached}
 use Rattle.call_labels.proofs.CallLabels.{calls_named}
 use Rattle.translation_words.specs.Writing.{field_words}
-use Rattle.translator.specs.Tables.{NodeTables, NodeRead, OwnerFormals}
+use Rattle.translator.specs.Tables.{NodeTables, NodeRead}
 use Rattle.translation_words.proofs.Writing.{fields_listed}
 
 -- a number that was read is written as its two fields
@@ -140,9 +140,6 @@ module _ {b starts ends owners labels formals rec : List ℕ} {k : ℕ} (w : Nod
       few r nd (is_call p l g) = omega arith
       few r nd (is_build p l g) = omega arith
       few r nd (is_case_law p c l g) = omega arith
-
-  pub owner_formals : OwnerFormals b owners formals k
-  owner_formals = record { shaped = w.tables.read.sheet.file.accepted; owned = w.tables.read.owned; summed = w.tables.summed; below = w.below }
 
 -- node k with its record
 pub node_read : {b starts ends owners labels formals : List ℕ} {k first : ℕ} {rec : List ℕ} → NodeTables b starts ends owners labels formals → k < nodes b → first ≡ first_node b

@@ -22,7 +22,7 @@ use Rattle.file_records.proofs.Indices.{node_reached}
 use Rattle.file_runs.proofs.RunTables.{entry_more}
 use Rattle.sheet_rules.proofs.SheetTables.{opened_parameters}
 use Rattle.tree_classes.specs.Classes.{ReadTables}
-use Rattle.translator.specs.Tables.{Sums, OwnerFormals}
+use Rattle.translator.specs.Tables.{OwnerFormals}
 
 -- a parameter count, of a function that the index shows
 module _ {b starts : List ℕ} {f count x : ℕ} (o : Opened Sheet b starts) (h : f < count) (e : count ≡ functions b)
@@ -76,9 +76,6 @@ module _ {at : ℕ → ℕ} where
         summed = s;
         entry = entry_more (λ i v. v ≡ sum_of i at) sums (f + 1) (total + x) (omega (arith, w.size, w.few, h)) w.entry s;
       }
-
-  pub summing_done : {sums : List ℕ} {count total f n : ℕ} → Summing at sums count total f → count ≤ f → count ≡ n → Sums n at sums
-  summing_done w h e = record { entry = λ i l. w.entry i (omega (arith, h, l, e)) }
 
 -- the formal of a parameter, by the tables of owners and of first formals
 module _ {b owners formals : List ℕ} {k : ℕ} (w : OwnerFormals b owners formals k) where

@@ -12,21 +12,18 @@ use definitions::sheet_kinds;
 use definitions::sizes::{MOST_FUNCTIONS, OfFunctions, OfNodes, Starts};
 use file_layout::layout::{first_node, functions, nodes};
 use file_records::records::{field, indexed, kind};
-use widths::wide;
 
 // Where the labels of each function start.
 pub(crate) fn first_calls(b: &[u8], counts: &OfFunctions) -> Sums
     requires { (file_shape Sheet b.now ≡ Accepted) × Counts b.now counts.now (nodes b.now) }
     ensures { Sums (functions b.now) (label_count b.now) result }
 {
-    let count = wide(functions(b));
+    let count = usize::from(functions(b));
     let mut firsts = [0u16; MOST_FUNCTIONS + 1];
     let mut total: u16 = 0;
-    let mut f: usize = 0;
-    while f < count {
+    for f in 0..count {
         total += counts[f];
-        f += 1;
-        firsts[f] = total;
+        firsts[f + 1] = total;
     }
     firsts
 }
@@ -44,13 +41,13 @@ fn place_node(
     requires { PlaceAt b.now starts.now classes.now labels.now firsts.now order.old k }
     ensures { CallOrder b.now order.new (k + 1) }
 {
-    if wide(classes[k]) < k {
+    if usize::from(classes[k]) < k {
         return;
     }
     let rec = indexed(b, starts, first_node(b) + k);
     if kind(rec) == sheet_kinds::CALL {
-        let f = wide(field(rec, 0));
-        order[wide(firsts[f]) + wide(labels[k])] = k as u16;
+        let f = usize::from(field(rec, 0));
+        order[usize::from(firsts[f]) + usize::from(labels[k])] = k as u16;
     }
 }
 
@@ -66,7 +63,7 @@ pub(crate) fn order_calls(
     requires { Placing b.now starts.now classes.now labels.now firsts.now × CallOrder b.now order.old 0 }
     ensures { CallOrder b.now order.new (nodes b.now) }
 {
-    let count = wide(nodes(b));
+    let count = usize::from(nodes(b));
     for k in 0..count {
         place_node(b, starts, classes, labels, firsts, k, order);
     }

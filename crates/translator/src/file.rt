@@ -23,19 +23,18 @@ use file_layout::layout::{first_function, functions, nodes, readings};
 use file_records::records::{field, indexed};
 use translation_length::counting::count_bytes;
 use translation_words::{put, put_start, put_two};
-use widths::wide;
 
 // Writes the head.
 fn put_head(b: &[u8], formals: &Sums, out: &mut [u8], at: usize) -> usize
     requires { (file_shape Sheet b.now ≡ Accepted) × Sums (functions b.now) (parameters b.now) formals.now }
     ensures { WroteWords out.old at (head_words b.now) result out.new }
 {
-    let count = wide(functions(b));
+    let count = usize::from(functions(b));
     let first = put_start(out, at, HEAD, 4);
-    let second = put(out, first, wide(readings(b)));
-    let third = put(out, second, wide(formals[count]));
+    let second = put(out, first, usize::from(readings(b)));
+    let third = put(out, second, usize::from(formals[count]));
     let fourth = put(out, third, count);
-    put(out, fourth, wide(nodes(b)))
+    put(out, fourth, usize::from(nodes(b)))
 }
 
 // Writes the record of every function.
@@ -44,7 +43,7 @@ fn put_functions(b: &[u8], starts: &Starts, out: &mut [u8], at: usize) -> usize
     ensures { WroteWords out.old at (joined (functions b.now) (function_words b.now)) result out.new }
 {
     let first = first_function(Layout::Sheet, b);
-    let count = wide(functions(b));
+    let count = usize::from(functions(b));
     let mut next = at;
     for f in 0..count {
         let rec = indexed(b, starts, first + f);
@@ -52,8 +51,8 @@ fn put_functions(b: &[u8], starts: &Starts, out: &mut [u8], at: usize) -> usize
             out,
             next,
             FUNCTION,
-            wide(field(rec, 1)),
-            wide(field(rec, 0)),
+            usize::from(field(rec, 1)),
+            usize::from(field(rec, 0)),
         );
     }
     next
@@ -86,8 +85,5 @@ pub(crate) fn fits(b: &[u8], starts: &Starts, counts: &OfFunctions, room: usize)
     requires { CountedLabels b.now starts.now counts.now }
     ensures { result ≡ leb (length (translation b.now)) room }
 {
-    if TRANSLATION_BYTES <= room {
-        return true;
-    }
-    count_bytes(b, starts, counts) <= room
+    TRANSLATION_BYTES <= room || count_bytes(b, starts, counts) <= room
 }

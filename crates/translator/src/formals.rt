@@ -16,7 +16,6 @@ use file_layout::layout::{first_node, functions};
 use file_records::declared_counts::parameters;
 use file_records::records::{field, indexed};
 use translation_words::{put, put_start};
-use widths::wide;
 
 // Writes the arguments at position `i` of the first calls of function `f`.
 fn put_actuals(
@@ -33,12 +32,12 @@ fn put_actuals(
     ensures { WroteWords out.old at (actuals (equal_trees b.now) b.now f i) result out.new }
 {
     let node = first_node(b);
-    let first = wide(firsts[f]);
-    let count = wide(firsts[f + 1]) - first;
+    let first = usize::from(firsts[f]);
+    let count = usize::from(firsts[f + 1]) - first;
     let mut next = at;
     for j in 0..count {
-        let rec = indexed(b, starts, node + wide(order[first + j]));
-        next = put(out, next, wide(field(rec, 1 + i)));
+        let rec = indexed(b, starts, node + usize::from(order[first + j]));
+        next = put(out, next, usize::from(field(rec, 1 + i)));
     }
     next
 }
@@ -57,7 +56,7 @@ fn put_formal(
     requires { FormalAt b.now starts.now firsts.now order.now f i }
     ensures { WroteWords out.old at (record_words formal_list (actuals (equal_trees b.now) b.now f i)) result out.new }
 {
-    let count = wide(firsts[f + 1]) - wide(firsts[f]);
+    let count = usize::from(firsts[f + 1]) - usize::from(firsts[f]);
     let fields = put_start(out, at, FORMAL_LIST, count);
     put_actuals(b, starts, firsts, order, f, i, out, fields)
 }
@@ -75,7 +74,7 @@ fn put_function_formals(
     requires { OrderedCalls b.now starts.now firsts.now order.now × (f < functions b.now) }
     ensures { WroteWords out.old at (formal_words (equal_trees b.now) b.now f) result out.new }
 {
-    let positions = wide(parameters(b, starts, f));
+    let positions = usize::from(parameters(b, starts, f));
     let mut next = at;
     for i in 0..positions {
         next = put_formal(b, starts, firsts, order, f, i, out, next);
@@ -95,7 +94,7 @@ pub(crate) fn put_formals(
     requires { OrderedCalls b.now starts.now firsts.now order.now }
     ensures { WroteWords out.old at (joined (functions b.now) (formal_words (equal_trees b.now) b.now)) result out.new }
 {
-    let count = wide(functions(b));
+    let count = usize::from(functions(b));
     let mut next = at;
     for f in 0..count {
         next = put_function_formals(b, starts, firsts, order, f, out, next);

@@ -1,6 +1,7 @@
 // The translator: a sheet's bytes in, its translation's bytes out (document 01, "Translation").
 #![tactic(auto)]
 
+ghost use Rattle.definitions.specs.Refusals.{as_written};
 ghost use Rattle.definitions.specs.Trees.{equal_trees};
 ghost use Rattle.definitions.specs.Translate.{translation_words};
 ghost use Rattle.translation_words.specs.Writing.{WroteWords};
@@ -19,27 +20,18 @@ use crate::calls::{first_calls, order_calls};
 use crate::file::{fits, put_file};
 use crate::tables::first_formals;
 use call_labels::label_nodes;
-use definitions::numbers::SHORT_OUTPUT;
-use definitions::sizes::{
-    Ends, MOST_FUNCTIONS, MOST_NODES, MOST_RECORDS, OfFunctions, OfNodes, Owners, Starts,
-};
-use definitions::{Verdict, Written};
-use format::sheet::fill_sheet;
+use definitions::refusals::{Reason, Refusal, require};
+use definitions::sizes::{Ends, MOST_FUNCTIONS, MOST_NODES, OfFunctions, OfNodes, Owners, Starts};
+use format::sheet::read_sheet;
 use tree_classes::class_nodes;
 
 // Translates a sheet into a lent output. The answer is the translation's length, and the output starts with the
 // translation and stays as it was past it; or it is the refusal, and the output stays as it was.
-pub fn translate(sheet: &[u8], out: &mut [u8]) -> Written
-    ensures { Translates sheet.now out.old result out.new }
+pub fn translate(sheet: &[u8], out: &mut [u8]) -> Result<usize, Refusal>
+    ensures { Translates sheet.now out.old (as_written result) out.new }
 {
-    let mut starts = [0u16; MOST_RECORDS];
-    let mut ends = [0u16; MOST_FUNCTIONS];
-    let mut owners = [0u8; MOST_NODES];
-    let verdict = fill_sheet(sheet, &mut starts, &mut ends, &mut owners);
-    match verdict {
-        Verdict::Refused { number, place } => Written::Refused { number, place },
-        Verdict::Accepted => translate_accepted(sheet, &starts, &ends, &owners, out),
-    }
+    let tables = read_sheet(sheet)?;
+    translate_accepted(sheet, &tables.starts, &tables.ends, &tables.owners, out)
 }
 
 // Translates an accepted sheet.
@@ -49,9 +41,9 @@ fn translate_accepted(
     ends: &Ends,
     owners: &Owners,
     out: &mut [u8],
-) -> Written
+) -> Result<usize, Refusal>
     requires { ReadTables sheet.now starts.now ends.now owners.now }
-    ensures { Translates sheet.now out.old result out.new }
+    ensures { Translates sheet.now out.old (as_written result) out.new }
 {
     let mut classes = [0u16; MOST_NODES];
     class_nodes(sheet, starts, ends, owners, &mut classes);
@@ -59,14 +51,9 @@ fn translate_accepted(
     let mut counts = [0u16; MOST_FUNCTIONS];
     label_nodes(sheet, starts, &classes, &mut labels, &mut counts);
     let room = out.len();
-    if fits(sheet, starts, &counts, room) {
-        let length = write(sheet, starts, ends, owners, &classes, &labels, &counts, out);
-        return Written::Length(length);
-    }
-    Written::Refused {
-        number: SHORT_OUTPUT,
-        place: 0,
-    }
+    require(fits(sheet, starts, &counts, room), Reason::ShortOutput)?;
+    let length = write(sheet, starts, ends, owners, &classes, &labels, &counts, out);
+    Ok(length)
 }
 
 // Writes the translation into an output; the answer is its length.

@@ -17,14 +17,13 @@ use definitions::sizes::{Ends, OfNodes, Owners, Starts};
 use file_layout::layout::{first_node, nodes};
 use file_records::records::{field, indexed, kind};
 use translation_words::{put_copy, put_one, put_two};
-use widths::{wide, wide8};
 
 // The scrutinee of the case that is the body of node `k`'s function.
 fn scrutinee(b: &[u8], starts: &Starts, ends: &Ends, owners: &Owners, k: usize) -> u16
     requires { ReadTables b.now starts.now ends.now owners.now × (k < nodes b.now) }
     ensures { result ≡ scrutinee_of b.now k }
 {
-    let end = wide(ends[wide8(owners[k])]);
+    let end = usize::from(ends[usize::from(owners[k])]);
     field(indexed(b, starts, first_node(b) + (end - 1)), 0)
 }
 
@@ -33,7 +32,7 @@ fn formal(b: &[u8], owners: &Owners, formals: &Sums, k: usize, i: u16) -> usize
     requires { OwnerFormals b.now owners.now formals.now k }
     ensures { result ≡ formal_of b.now (owner_of Sheet b.now k) i }
 {
-    wide(formals[wide8(owners[k])]) + wide(i)
+    usize::from(formals[usize::from(owners[k])]) + usize::from(i)
 }
 
 // Writes node `k`, whose record is `rec`.
@@ -52,27 +51,23 @@ fn put_read(
     requires { NodeRead b.now starts.now ends.now owners.now labels.now formals.now rec.now k }
     ensures { WroteWords out.old at (node_words (equal_trees b.now) b.now k) result out.new }
 {
-    let node_kind = kind(rec);
     let value = field(rec, 0);
-    if node_kind == sheet_kinds::NUMBER {
-        return put_two(out, at, NUMBER, wide(value), wide(field(rec, 1)));
-    }
-    if node_kind == sheet_kinds::PARAMETER {
-        return put_one(out, at, FORMAL, formal(b, owners, formals, k, value));
-    }
-    if node_kind == sheet_kinds::PATTERN_VARIABLE {
-        return put_two(
+    match kind(rec) {
+        sheet_kinds::NUMBER => put_two(
             out,
             at,
-            SELECT,
-            wide(scrutinee(b, starts, ends, owners, k)),
-            wide(value) + 1,
-        );
+            NUMBER,
+            usize::from(value),
+            usize::from(field(rec, 1)),
+        ),
+        sheet_kinds::PARAMETER => put_one(out, at, FORMAL, formal(b, owners, formals, k, value)),
+        sheet_kinds::PATTERN_VARIABLE => {
+            let tested = scrutinee(b, starts, ends, owners, k);
+            put_two(out, at, SELECT, usize::from(tested), usize::from(value) + 1)
+        }
+        sheet_kinds::CALL => put_two(out, at, CALL, usize::from(labels[k]), usize::from(value)),
+        _ => put_copy(out, at, rec),
     }
-    if node_kind == sheet_kinds::CALL {
-        return put_two(out, at, CALL, wide(labels[k]), wide(value));
-    }
-    put_copy(out, at, rec)
 }
 
 // Writes node `k`.
@@ -118,7 +113,7 @@ pub(crate) fn put_nodes(
     requires { NodeTables b.now starts.now ends.now owners.now labels.now formals.now }
     ensures { WroteWords out.old at (joined (nodes b.now) (node_words (equal_trees b.now) b.now)) result out.new }
 {
-    let count = wide(nodes(b));
+    let count = usize::from(nodes(b));
     let mut next = at;
     for k in 0..count {
         next = put_node(b, starts, ends, owners, labels, formals, k, out, next);

@@ -8,7 +8,6 @@ ghost use Rattle.translator.specs.Tables.{Sums};
 use definitions::sizes::{MOST_FUNCTIONS, Starts};
 use file_layout::layout::functions;
 use file_records::declared_counts::parameters;
-use widths::wide;
 
 // The sum of a number of each function before each function, and last the sum of all.
 pub(crate) type Sums = [u16; MOST_FUNCTIONS + 1];
@@ -18,14 +17,12 @@ pub(crate) fn first_formals(b: &[u8], starts: &Starts) -> Sums
     requires { Opened Sheet b.now starts.now }
     ensures { Sums (functions b.now) (parameters b.now) result }
 {
-    let count = wide(functions(b));
+    let count = usize::from(functions(b));
     let mut firsts = [0u16; MOST_FUNCTIONS + 1];
     let mut total: u16 = 0;
-    let mut f: usize = 0;
-    while f < count {
+    for f in 0..count {
         total += parameters(b, starts, f);
-        f += 1;
-        firsts[f] = total;
+        firsts[f + 1] = total;
     }
     firsts
 }

@@ -1,13 +1,14 @@
 -- `translator::translate` meets its contract: the reader's refusal, or what the translation of an accepted sheet gives.
+use mathlib.Core.Path.{refl}
 use Rattle.call_labels.proofs.CallLabels.{reader_accepts}
-use Rattle.translator.proofs.Promises.{reader_refuses}
+use Rattle.translation_length.proofs.WordCounts.{reader_refuses}
+use Rattle.translator.proofs.Promises.{refused_output}
 use Rattle.translator.proofs.translate.Goals as goal
 
-pub translate_accepted-requires : goal.translate_accepted-requires
-translate_accepted-requires c =
-    reader_accepts c.fill_sheet-verdict.ensures c.in-Accepted.is
+pub returns-in_err-tables : goal.returns-in_err-tables
+returns-in_err-tables c =
+    let error = c.in_err-tables in
+    refused_output c.from_residual.result error.field-0.0 c.from_residual.ensures.1 (reader_refuses _ _ error.ensures.verdict)
 
-pub returns-in-Refused : goal.returns-in-Refused
-returns-in-Refused c =
-    let fill_sheet = c.fill_sheet-verdict in
-    reader_refuses fill_sheet.ensures c.in-Refused.is
+pub translate_accepted-requires : goal.translate_accepted-requires
+translate_accepted-requires c = reader_accepts c.in_ok-tables.ensures.tables refl

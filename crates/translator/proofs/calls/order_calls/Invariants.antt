@@ -1,5 +1,5 @@
 -- `translator::calls::order_calls` meets its contract. The loop's invariant: the calls among the nodes passed are in their places.
-use Prim.Native.Nat.{◌-◌, ◌≤◌}
+use Prim.Native.Nat.{◌≤◌}
 use Rattle.translator.specs.Tables.{CallOrder}
 use Rattle.translator.proofs.calls.order_calls.Given as goal
 

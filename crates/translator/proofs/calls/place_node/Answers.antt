@@ -6,28 +6,28 @@ use Rattle.call_labels.proofs.CallLabels.{call_read, none_read, none_first, not_
 use Rattle.translator.proofs.CallOrder.{place_read, is_first_law, place_narrow, call_ordered, other_ordered}
 use Rattle.translator.proofs.calls.place_node.Goals as goal
 
-pub returns-then-wide-k : goal.returns-then-wide-k
-returns-then-wide-k c =
+pub returns-then-from-k : goal.returns-then-from-k
+returns-then-from-k c =
     let pre = c.requires in
-    other_ordered _ _ _ (not_first pre.tables.trees pre.below c.wide.ensures.0 c.if-wide-k.true) pre.ordered
+    other_ordered _ _ _ (not_first pre.tables.trees pre.below c.from.ensures c.if-from-k.true) pre.ordered
 
 pub bounds-firsts-f : goal.bounds-firsts-f
 bounds-firsts-f c =
     let pre = c.requires in
     let trees = pre.tables.trees in
     let call = call_read trees.sheet pre.below c.first_node.ensures.0 c.indexed-rec.ensures
-    c.kind.ensures c.if-kind-eq-CALL.true c.field.ensures c.wide-f.ensures.0 in
+    c.kind.ensures c.if-kind-eq-CALL.true c.field.ensures c.from-f.ensures in
     omega (arith, call.function, call.few)
 
-pub bounds-order-wide : goal.bounds-order-wide
-bounds-order-wide c =
+pub bounds-order-from : goal.bounds-order-from
+bounds-order-from c =
     let pre = c.requires in
     let trees = pre.tables.trees in
     let call = call_read trees.sheet pre.below c.first_node.ensures.0 c.indexed-rec.ensures
-    c.kind.ensures c.if-kind-eq-CALL.true c.field.ensures c.wide-f.ensures.0 in
-    let place = place_read _ pre.tables call c.wide.ensures.0 c.if-wide-k.false c.wide-then-kind-eq-CALL.ensures.0
-    c.wide-then-kind-eq-CALL-2.ensures.0 in
-    let test = is_first_law _ pre.tables call c.wide.ensures.0 c.if-wide-k.false in
+    c.kind.ensures c.if-kind-eq-CALL.true c.field.ensures c.from-f.ensures in
+    let place = place_read _ pre.tables call c.from.ensures c.if-from-k.false c.from-then-kind-eq-CALL.ensures
+    c.from-then-kind-eq-CALL-2.ensures in
+    let test = is_first_law _ pre.tables call c.from.ensures c.if-from-k.false in
     omega (arith, place_narrow _ pre.ordered call test place, nodes_limit Sheet _ trees.sheet.file.accepted)
 
 pub returns-then-kind-eq-CALL : goal.returns-then-kind-eq-CALL
@@ -35,10 +35,10 @@ returns-then-kind-eq-CALL c =
     let pre = c.requires in
     let trees = pre.tables.trees in
     let call = call_read trees.sheet pre.below c.first_node.ensures.0 c.indexed-rec.ensures
-    c.kind.ensures c.if-kind-eq-CALL.true c.field.ensures c.wide-f.ensures.0 in
-    let place = place_read _ pre.tables call c.wide.ensures.0 c.if-wide-k.false c.wide-then-kind-eq-CALL.ensures.0
-    c.wide-then-kind-eq-CALL-2.ensures.0 in
-    let test = is_first_law _ pre.tables call c.wide.ensures.0 c.if-wide-k.false in
+    c.kind.ensures c.if-kind-eq-CALL.true c.field.ensures c.from-f.ensures in
+    let place = place_read _ pre.tables call c.from.ensures c.if-from-k.false c.from-then-kind-eq-CALL.ensures
+    c.from-then-kind-eq-CALL-2.ensures in
+    let test = is_first_law _ pre.tables call c.from.ensures c.if-from-k.false in
     call_ordered _ pre.ordered call test place (nodes_limit Sheet _ trees.sheet.file.accepted)
 
 pub returns-else-kind-eq-CALL : goal.returns-else-kind-eq-CALL

@@ -1,7 +1,6 @@
 -- `translator::file::put_functions` meets its contract. The loop's invariant: the records of the functions passed are written.
 use Rattle.translation_words.proofs.Writing.{PartsWritten}
 use Rattle.definitions.specs.Translate.{function_words}
-use Prim.Native.Nat.{◌-◌}
 use Rattle.translator.proofs.file.put_functions.Given as goal
 
 abbrev pub invariant-loop-f : goal.invariant-loop-f

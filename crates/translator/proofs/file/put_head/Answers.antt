@@ -9,14 +9,14 @@ use Rattle.translator.proofs.file.put_head.Goals as goal
 pub bounds-formals-count : goal.bounds-formals-count
 bounds-formals-count c =
     let pre = c.requires in
-    omega (arith, functions_limit Sheet _ pre.0, c.wide-count.ensures.0, c.functions.ensures)
+    omega (arith, functions_limit Sheet _ pre.0, c.from-count.ensures, c.functions.ensures)
 
 pub returns : goal.returns
 returns c =
     let pre = c.requires in
-    let count = c.wide-count.ensures.0 ∙ c.functions.ensures in
-    let readings = c.wide.ensures.0 ∙ c.readings.ensures in
-    let formals = formals_read _ pre.1 count c.wide-2.ensures.0 in
-    let nodes = c.wide-3.ensures.0 ∙ c.nodes.ensures in
+    let count = c.from-count.ensures ∙ c.functions.ensures in
+    let readings = c.from.ensures ∙ c.readings.ensures in
+    let formals = formals_read _ pre.1 count c.from-2.ensures in
+    let nodes = c.from-3.ensures ∙ c.nodes.ensures in
     wrote_head _ c.put_start-first.ensures c.put-second.ensures c.put-third.ensures
     c.put-fourth.ensures c.put.ensures readings formals count nodes

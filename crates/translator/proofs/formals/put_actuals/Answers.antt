@@ -7,7 +7,7 @@ use Rattle.translator.proofs.formals.put_actuals.Goals as goal
 pub overflow_sub-count : goal.overflow_sub-count
 overflow_sub-count c =
     let pre = c.requires in
-    range_right pre c.wide-first.ensures.0 c.wide.ensures.0
+    range_right pre c.from-first.ensures c.from.ensures
 
 pub loop-j-init : goal.loop-j-init
 loop-j-init c = parts_begin
@@ -15,22 +15,19 @@ loop-j-init c = parts_begin
 pub bounds-order-first : goal.bounds-order-first
 bounds-order-first c =
     let pre = c.requires in
-    place_small pre c.wide-first.ensures.0 c.wide.ensures.0 c.loop-j-test.true
+    place_small pre c.from-first.ensures c.from.ensures c.loop-j-test.true
 
 pub loop-j-preserved : goal.loop-j-preserved
 loop-j-preserved c =
     let pre = c.requires in
-    let argument = argument_read pre c.wide-first.ensures.0 c.wide.ensures.0
-    c.loop-j-test.true c.first_node-node.ensures.0 c.wide-in-loop-j.ensures.0 c.indexed-rec.ensures
-    c.field.ensures c.wide-in-loop-j-2.ensures.0 in
+    let argument = argument_read pre c.from-first.ensures c.from.ensures
+    c.loop-j-test.true c.first_node-node.ensures.0 c.from-in-loop-j.ensures c.indexed-rec.ensures
+    c.field.ensures c.from-in-loop-j-2.ensures in
     parts_go_on c.loop-j.invariant c.loop-j-test.true (wrote_as argument c.put-next.ensures)
-
-pub shape_of-out : goal.shape_of-out
-shape_of-out c = c.loop-j.invariant.wrote.kept
 
 pub returns : goal.returns
 returns c =
     let pre = c.requires in
     let inv = c.loop-j.invariant in
-    let actuals = actuals_are pre c.wide-first.ensures.0 c.wide.ensures.0 in
+    let actuals = actuals_are pre c.from-first.ensures c.from.ensures in
     wrote_as actuals (parts_end inv c.loop-j-test.false refl)

@@ -1,5 +1,5 @@
 -- `translator::formals::put_actuals` meets its contract. The loop's invariant: the arguments of the calls passed are written.
-use Prim.Native.Nat.{◌+◌, ◌-◌}
+use Prim.Native.Nat.{◌+◌}
 use Rattle.translation_words.proofs.Writing.{PartsWritten}
 use Rattle.translator.proofs.FormalSteps.{argument_of}
 use Rattle.translator.proofs.formals.put_actuals.Given as goal

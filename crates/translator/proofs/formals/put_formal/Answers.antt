@@ -6,10 +6,10 @@ use Rattle.translator.proofs.formals.put_formal.Goals as goal
 pub overflow_sub-count : goal.overflow_sub-count
 overflow_sub-count c =
     let pre = c.requires in
-    range_right pre c.wide-2.ensures.0 c.wide.ensures.0
+    range_right pre c.from-2.ensures c.from.ensures
 
 pub returns : goal.returns
 returns c =
     let pre = c.requires in
-    let length = actuals_length pre c.wide-2.ensures.0 c.wide.ensures.0 in
+    let length = actuals_length pre c.from-2.ensures c.from.ensures in
     wrote_record c.put_start-fields.ensures c.put_actuals.ensures length

@@ -1,5 +1,4 @@
 -- `translator::formals::put_formals` meets its contract. The loop's invariant: the formals of the functions passed are written.
-use Prim.Native.Nat.{◌-◌}
 use Rattle.definitions.specs.Trees.{equal_trees}
 use Rattle.definitions.specs.Translate.{formal_words}
 use Rattle.translation_words.proofs.Writing.{PartsWritten}

@@ -18,20 +18,17 @@ put_formal-next-requires c =
       tables = pre.0;
       below = pre.1;
       narrow = omega (arith, pre.1, functions_limit Sheet _ pre.0.file.accepted);
-      position = omega (arith, c.loop-i-test.true, c.wide-positions.ensures.1);
+      position = omega (arith, c.loop-i-test.true, c.from-positions.ensures, c.parameters.type_inv);
     }
 
 pub loop-i-preserved : goal.loop-i-preserved
 loop-i-preserved c =
     parts_go_on c.loop-i.invariant c.loop-i-test.true c.put_formal-next.ensures
 
-pub shape_of-out : goal.shape_of-out
-shape_of-out c = c.loop-i.invariant.wrote.kept
-
 pub returns : goal.returns
 unfolding formal_words
 returns c =
     let inv = c.loop-i.invariant in
     let pre = c.requires in
-    let positions = c.wide-positions.ensures.0 ∙ opened_parameters _ _ _ _ pre.0.file pre.1 c.parameters.ensures in
+    let positions = c.from-positions.ensures ∙ opened_parameters _ _ _ _ pre.0.file pre.1 c.parameters.ensures in
     parts_end inv c.loop-i-test.false positions

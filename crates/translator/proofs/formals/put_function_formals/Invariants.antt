@@ -1,5 +1,4 @@
 -- `translator::formals::put_function_formals` meets its contract. The loop's invariant: the formals of the positions passed are written.
-use Prim.Native.Nat.{◌-◌}
 use Rattle.definitions.specs.TranslationKinds.{formal_list}
 use Rattle.definitions.specs.Trees.{equal_trees}
 use Rattle.definitions.specs.Labels.{actuals}

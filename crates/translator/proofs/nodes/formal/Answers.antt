@@ -6,12 +6,12 @@ use Rattle.translator.proofs.nodes.formal.Goals as goal
 pub bounds-owners-k : goal.bounds-owners-k
 bounds-owners-k c = formal_narrow c.requires
 
-pub bounds-formals-wide8 : goal.bounds-formals-wide8
-bounds-formals-wide8 c =
+pub bounds-formals-from : goal.bounds-formals-from
+bounds-formals-from c =
     let pre = c.requires in
-    omega (arith, formal_owner (pre) c.wide8.ensures.0)
+    omega (arith, formal_owner (pre) c.from.ensures)
 
 pub returns : goal.returns
 returns c =
     let pre = c.requires in
-    formal_is pre c.wide8.ensures.0 c.wide.ensures.0 c.wide-2.ensures.0
+    formal_is pre c.from.ensures c.from-2.ensures c.from-3.ensures

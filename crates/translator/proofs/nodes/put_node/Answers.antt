@@ -6,8 +6,3 @@ pub put_read-requires : goal.put_read-requires
 put_read-requires c =
     let pre = c.requires in
     node_read pre.0 pre.1 c.first_node.ensures.0 c.indexed.ensures
-
-pub returns : goal.returns
-returns c =
-    let put_read = c.put_read in
-    put_read.ensures

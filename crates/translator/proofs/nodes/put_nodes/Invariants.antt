@@ -1,5 +1,4 @@
 -- `translator::nodes::put_nodes` meets its contract. The loop's invariant: the nodes passed are written.
-use Prim.Native.Nat.{◌-◌}
 use Rattle.definitions.specs.Trees.{equal_trees}
 use Rattle.definitions.specs.Translate.{node_words}
 use Rattle.translation_words.proofs.Writing.{PartsWritten}

@@ -8,18 +8,18 @@ bounds-owners-k c =
     let pre = c.requires in
     scrutinee_narrow pre.0 pre.1
 
-pub bounds-ends-wide8 : goal.bounds-ends-wide8
-bounds-ends-wide8 c =
+pub bounds-ends-from : goal.bounds-ends-from
+bounds-ends-from c =
     let pre = c.requires in
-    scrutinee_owner pre.0 pre.1 c.wide8.ensures.0
+    scrutinee_owner pre.0 pre.1 c.from.ensures
 
 pub overflow_sub-end : goal.overflow_sub-end
 overflow_sub-end c =
     let pre = c.requires in
-    omega (arith, scrutinee_end pre.0 pre.1 _ _ c.wide8.ensures.0 c.wide-end.ensures.0)
+    omega (arith, scrutinee_end pre.0 pre.1 _ _ c.from.ensures c.from-end.ensures)
 
 pub returns : goal.returns
 returns c =
     let pre = c.requires in
-    scrutinee_read pre.0 pre.1 c.wide8.ensures.0 c.wide-end.ensures.0
+    scrutinee_read pre.0 pre.1 c.from.ensures c.from-end.ensures
     c.first_node.ensures.0 c.indexed.ensures c.field.ensures
