@@ -62,7 +62,10 @@ module _ {b ends sizes order₀ : List ℕ} (p : EnterBodies b ends sizes order�
   run_end_law = p.runs.entry f below ∙ sym (body_before_end Sheet b (sheet_shape b p.accepted) f below)
 
   -- the body, as it is read and as an index
-  module _ {y body : ℕ} (q : y ≡ body) (e : body ≡ body_of Sheet b f) where
+  module _ {y body : ℕ} (q : y ≡ body) (g : body ≡ get_or ends f 0 - 1) where
+    e : body ≡ body_of Sheet b f
+    e = omega (arith, g, run_end_law)
+
     body_node : body < nodes b
     body_node = rw e (body_below Sheet b (sheet_shape b p.accepted) f below)
 
@@ -70,7 +73,7 @@ module _ {b ends sizes order₀ : List ℕ} (p : EnterBodies b ends sizes order�
     body_few = omega (arith, q, body_node, nodes_limit Sheet b (sheet_shape b p.accepted))
 
     pub body_size : {x : ℕ} → x ≡ get_or sizes y 0 → x ≡ tree_size b body
-    body_size g = g ∙ rw q (p.sized.entry body body_node)
+    body_size h = h ∙ rw q (p.sized.entry body body_node)
 
     size_body : size_of (first_bodies b (suc f)) ≡ start + tree_size b body
     size_body = rw e (omega (arith, w.begun, size_more b f))
@@ -88,19 +91,19 @@ module _ {b ends sizes order₀ : List ℕ} (p : EnterBodies b ends sizes order�
 
     -- the next start is above this one, and no later than the table's end
     pub body_step : {x : ℕ} → x ≡ get_or sizes y 0 → (0 < x) × (start + x ≤ most_nodes)
-    body_step g =
-        let size = body_size g in
+    body_step h =
+        let size = body_size h in
         (omega (arith, size), omega (arith, size, bodies_within))
 
     pub bodies_go_on : {m n : ℕ} → n ≡ start + tree_size b body → suc m ≡ n → Bodies b (set order m body) count n (f + 1)
-    bodies_go_on {m} {n} g h =
+    bodies_go_on {m} {n} i h =
         record {
           reached = omega arith;
           counts = w.counts;
           full = length-set order m body ∙ w.full;
-          begun = rw add-one (omega (arith, g, size_body));
+          begun = rw add-one (omega (arith, i, size_body));
           roots =
-              roots_more w.roots body_node g h (omega (arith, g, bodies_within, w.full))
+              roots_more w.roots body_node i h (omega (arith, i, bodies_within, w.full))
               (rw (add-one, e, w.begun) (words_more b f));
         }
 

@@ -7,7 +7,6 @@ pub mod BodyOrder
 pub mod Passing
 pub mod ChildOrder
 pub mod OrderTable
-pub mod Copying
 pub mod FieldWriting
 pub mod NodeWriting
 pub mod Promises

@@ -8,36 +8,37 @@ use definitions::sizes::{Ends, OfNodes, Starts};
 use file_layout::layout::{first_node, functions, nodes};
 use file_records::records::{field_count, field_inside, indexed, kind};
 use file_references::references::names_node;
-use widths::wide;
 
 // Enters the bodies, by function.
+#[tactic(auto, using(crate::proofs::BodyOrder::function_few, crate::proofs::BodyOrder::body_few, crate::proofs::BodyOrder::body_step))]
 fn enter_bodies(b: &[u8], ends: &Ends, sizes: &OfNodes, order: &mut OfNodes)
     requires { EnterBodies b.now ends.now sizes.now order.old }
     ensures { OrderFrom b.now order.new (nodes b.now) }
 {
-    let count = wide(functions(b));
+    let count = usize::from(functions(b));
     let mut start: usize = 0;
     for f in 0..count {
         let body = ends[f] - 1;
-        start += wide(sizes[wide(body)]);
+        start += usize::from(sizes[usize::from(body)]);
         order[start - 1] = body;
     }
 }
 
 // Enters the children of the node that gets number `q`, left to right.
+#[tactic(auto, using(crate::proofs::Passing::child_step))]
 fn enter_children(b: &[u8], starts: &Starts, sizes: &OfNodes, q: usize, order: &mut OfNodes)
     requires { EnterAt b.now starts.now sizes.now order.old q }
     ensures { OrderFrom b.now order.new q }
 {
-    let k = wide(order[q]);
+    let k = usize::from(order[q]);
     let rec = indexed(b, starts, first_node(b) + k);
     let node_kind = kind(rec);
     let count = field_count(rec);
-    let mut start = q + 1 - wide(sizes[k]);
+    let mut start = q + 1 - usize::from(sizes[k]);
     for i in 0..count {
         if names_node(node_kind, i) {
             let x = field_inside(rec, i);
-            start += wide(sizes[wide(x)]);
+            start += usize::from(sizes[usize::from(x)]);
             order[start - 1] = x;
         }
     }
@@ -55,9 +56,7 @@ pub(crate) fn fill_order(
     ensures { Ordered b.now order.new }
 {
     enter_bodies(b, ends, sizes, order);
-    let mut q = wide(nodes(b));
-    while 0 < q {
-        q -= 1;
+    for q in (0..usize::from(nodes(b))).rev() {
         enter_children(b, starts, sizes, q, order);
     }
 }

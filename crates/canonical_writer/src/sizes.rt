@@ -8,7 +8,6 @@ use definitions::sizes::{OfNodes, Starts};
 use file_layout::layout::{first_node, nodes};
 use file_records::records::{field_count, field_inside, indexed, kind};
 use file_references::references::names_node;
-use widths::wide;
 
 // The size of node `k`, by those of the nodes before it.
 fn tree_size(b: &[u8], starts: &Starts, sizes: &OfNodes, k: usize) -> u16
@@ -21,7 +20,7 @@ fn tree_size(b: &[u8], starts: &Starts, sizes: &OfNodes, k: usize) -> u16
     let mut size: u16 = 1;
     for i in 0..count {
         if names_node(node_kind, i) {
-            size += sizes[wide(field_inside(rec, i))];
+            size += sizes[usize::from(field_inside(rec, i))];
         }
     }
     size
@@ -32,7 +31,7 @@ pub(crate) fn fill_sizes(b: &[u8], starts: &Starts, sizes: &mut OfNodes)
     requires { AcceptedSheet b.now starts.now × Sizes b.now sizes.old 0 }
     ensures { Sizes b.now sizes.new (nodes b.now) }
 {
-    let count = wide(nodes(b));
+    let count = usize::from(nodes(b));
     for k in 0..count {
         let size = tree_size(b, starts, sizes, k);
         sizes[k] = size;

@@ -1,36 +1,23 @@
 -- `canonical_writer::write_accepted` meets its contract: an output that is shorter than the sheet, or the canonical form written.
-use mathlib.Core.Path.{refl}
-use native.Mathlib.Omega.{arith}
-use Rattle.canonical_writer.proofs.Promises.{output_short, output_written}
+use mathlib.Core.Path.{sym}
+use borrow.Author.Tests.{leb-true}
+use Rattle.definitions.specs.Numbers.{short_output}
+use Rattle.laws.proofs.Verdicts.{required}
+use Rattle.canonical_writer.proofs.Promises.{refused_output, room_decides, output_written}
 use Rattle.canonical_writer.proofs.write_accepted.Goals as goal
 
-pub returns-then-out-sheet : goal.returns-then-out-sheet
-returns-then-out-sheet c = output_short c.requires.sheet.accepted (omega (arith, c.if-out-sheet.true))
-
-pub fill_sizes-requires : goal.fill_sizes-requires
-fill_sizes-requires c =
-    let pre = c.requires in
-    (pre.sheet, record { full = refl; entry = λ k h. absurd (omega (arith, h)) })
-
-pub fill_order-requires : goal.fill_order-requires
-fill_order-requires c =
-    let pre = c.requires in
-    let fill_sizes = c.fill_sizes in
-    record { sheet = record { sheet = pre.sheet; sized = fill_sizes.ensures }; runs = pre.runs; full = refl }
+pub returns-in_err-require : goal.returns-in_err-require
+returns-in_err-require c =
+    let error = c.in_err-require in
+    refused_output c.from_residual.result error.field-0.0 c.from_residual.ensures.1 (room_decides _ _ c.requires.sheet.accepted error.ensures)
 
 pub write-length-requires : goal.write-length-requires
 write-length-requires c =
     let pre = c.requires in
-    let if1 = c.if-out-sheet in
-    let fill_sizes = c.fill_sizes in
-    let fill_order = c.fill_order in
     record {
-      tables = record { sheet = record { sheet = pre.sheet; sized = fill_sizes.ensures }; ordered = fill_order.ensures };
-      room = omega (arith, if1.false);
+      tables = record { sheet = record { sheet = pre.sheet; sized = c.fill_sizes.ensures }; ordered = c.fill_order.ensures };
+      room = leb-true _ _ (required _ short_output 0 (sym c.in_ok-require.ensures));
     }
 
 pub returns : goal.returns
-returns c =
-    let pre = c.requires in
-    let if1 = c.if-out-sheet in
-    output_written pre.sheet.accepted (omega (arith, if1.false)) c.write-length.ensures
+returns c = output_written c.requires.sheet.accepted c.in_ok-require.ensures c.write-length.ensures

@@ -1,5 +1,4 @@
 -- `canonical_writer::order::enter_bodies` meets its contract. The loop's invariant: the bodies of the functions passed are entered.
-use Prim.Native.Nat.{◌-◌}
 use Rattle.canonical_writer.proofs.BodyOrder.{Bodies}
 use Rattle.canonical_writer.proofs.order.enter_bodies.Given as goal
 

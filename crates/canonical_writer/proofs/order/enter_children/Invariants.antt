@@ -1,5 +1,4 @@
 -- `canonical_writer::order::enter_children` meets its contract. The loop's invariant: the nodes that the fields passed name are entered.
-use Prim.Native.Nat.{◌-◌}
 use Rattle.canonical_writer.proofs.Passing.{Passing}
 use Rattle.canonical_writer.proofs.ChildOrder.{Children}
 use Rattle.canonical_writer.proofs.order.enter_children.Given as goal

@@ -6,6 +6,3 @@ use Rattle.canonical_writer.proofs.order.fill_order.Given as goal
 
 abbrev pub invariant-loop-q : goal.invariant-loop-q
 invariant-loop-q l = (l.q ≤ nodes l.b) × OrderFrom l.b l.order l.q
-
-abbrev pub decreases-loop-q : goal.decreases-loop-q
-decreases-loop-q l = l.q

@@ -1,5 +1,4 @@
 -- `canonical_writer::sizes::fill_sizes` meets its contract. The loop's invariant: the sizes of the nodes passed are in the table.
-use Prim.Native.Nat.{◌-◌}
 use Rattle.canonical_writer.proofs.SizeTable.{Sizing}
 use Rattle.canonical_writer.proofs.sizes.fill_sizes.Given as goal
 

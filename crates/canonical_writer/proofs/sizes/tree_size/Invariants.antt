@@ -1,6 +1,6 @@
 -- `canonical_writer::sizes::tree_size` meets its contract. The loop's invariant: the size so far is that of the fields passed, and one.
 use mathlib.Core.Path.{◌≡◌}
-use Prim.Native.Nat.{suc, ◌-◌}
+use Prim.Native.Nat.{suc}
 use Rattle.definitions.specs.CanonicalSheet.{size_of}
 use Rattle.canonical_sheets.proofs.WholeTrees.{up_to}
 use Rattle.canonical_writer.proofs.FieldSteps.{AtField}

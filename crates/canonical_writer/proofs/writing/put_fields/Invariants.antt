@@ -1,5 +1,4 @@
 -- `canonical_writer::writing::put_fields` meets its contract. The loop's invariant: the fields passed are written.
-use Prim.Native.Nat.{◌-◌}
 use Rattle.canonical_writer.proofs.Passing.{Passing}
 use Rattle.canonical_writer.proofs.FieldWriting.{FieldsWritten}
 use Rattle.canonical_writer.proofs.writing.put_fields.Given as goal

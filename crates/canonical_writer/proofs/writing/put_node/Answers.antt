@@ -11,37 +11,34 @@ bounds-order-q c = number_few c.requires
 pub put_start-fields-requires : goal.put_start-fields-requires
 put_start-fields-requires c =
     let pre = c.requires in
-    let wide = c.wide-k in
+    let from = c.from-k in
     let first_node = c.first_node in
     let indexed = c.indexed-rec in
-    let node = renumbered pre wide.ensures.0 in
+    let node = renumbered pre from.ensures in
     let there = node_reached Sheet _ _ _ _ _ pre.tables.sheet.sheet.file node.numbered.below first_node.ensures.0 indexed.ensures in
-    fields_few pre wide.ensures.0 there c.field_count.ensures
+    fields_few pre from.ensures there c.field_count.ensures
 
 pub put_fields-requires : goal.put_fields-requires
 put_fields-requires c =
     let pre = c.requires in
-    let wide = c.wide-k in
+    let from = c.from-k in
     let first_node = c.first_node in
     let indexed = c.indexed-rec in
-    let node = renumbered pre wide.ensures.0 in
+    let node = renumbered pre from.ensures in
     let there = node_reached Sheet _ _ _ _ _ pre.tables.sheet.sheet.file node.numbered.below first_node.ensures.0 indexed.ensures in
     record { node = node; there = there }
-
-pub shape_of-out : goal.shape_of-out
-shape_of-out c = c.put_fields.ensures.kept ∙ c.put_start-fields.ensures.kept
 
 pub returns : goal.returns
 returns c =
     let pre = c.requires in
-    let wide = c.wide-k in
+    let from = c.from-k in
     let first_node = c.first_node in
     let indexed = c.indexed-rec in
-    let node = renumbered pre wide.ensures.0 in
+    let node = renumbered pre from.ensures in
     let there = node_reached Sheet _ _ _ _ _ pre.tables.sheet.sheet.file node.numbered.below first_node.ensures.0 indexed.ensures in
     let kind = c.kind in
-    let wide2 = c.wide in
+    let from2 = c.from in
     let field_count = c.field_count in
     let put_start = c.put_start-fields in
     let put_fields = c.put_fields in
-    node_written pre wide.ensures.0 there put_start.ensures put_fields.ensures (wide2.ensures.0 ∙ kind.ensures) field_count.ensures
+    node_written pre from.ensures there put_start.ensures put_fields.ensures (from2.ensures ∙ kind.ensures) field_count.ensures

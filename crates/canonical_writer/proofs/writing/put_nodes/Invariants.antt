@@ -1,5 +1,4 @@
 -- `canonical_writer::writing::put_nodes` meets its contract. The loop's invariant: the nodes with the numbers passed are written.
-use Prim.Native.Nat.{◌-◌}
 use Rattle.translation_words.proofs.Writing.{PartsWritten}
 use Rattle.canonical_writer.specs.Order.{entry_at, numbered_words}
 use Rattle.canonical_writer.proofs.writing.put_nodes.Given as goal
