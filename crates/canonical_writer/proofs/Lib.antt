@@ -6,7 +6,6 @@ pub mod RecordsFrom
 pub mod BodyOrder
 pub mod Passing
 pub mod ChildOrder
-pub mod OrderTable
 pub mod FieldWriting
 pub mod NodeWriting
 pub mod Promises

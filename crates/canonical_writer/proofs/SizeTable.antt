@@ -15,20 +15,3 @@ pub record Sizing (b sizes : List ℕ) (count k : ℕ) : Type 0 where
   pub counts : count ≡ nodes b
   pub few : nodes b ≤ most_nodes
   pub sized : Sizes b sizes k
-
-module _ {b sizes : List ℕ} {count k : ℕ} (w : Sizing b sizes count k) where
-  pub sizing_goes_on : {x : ℕ} → k < count → x ≡ tree_size b k → Sizing b (set sizes k x) count (k + 1)
-  sizing_goes_on {x} l e =
-      let s = w.sized in
-      record {
-        reached = omega arith;
-        counts = w.counts;
-        few = w.few;
-        sized = record {
-          full = length-set sizes k x ∙ s.full;
-          entry = entry_more (λ i y. y ≡ tree_size b i) sizes k x (omega (arith, s.full, l, w.counts, w.few)) s.entry e;
-        };
-      }
-
-  pub sizing_done : count ≤ k → Sizes b sizes (nodes b)
-  sizing_done l = let e : k ≡ nodes b = omega (arith, w.reached, w.counts) in rw e at w.sized
