@@ -28,14 +28,10 @@ use Rattle.laws.proofs.Joined.{joined_even}
 use Rattle.answer.proofs.Records.{answer_length}
 use Rattle.batch.specs.Rows.{RowFits, RowsFit, record_put, RanRow, records_over, RanRows}
 
--- the part of a list that is a row, by the width as the code reads it
-module _ (b : List ℕ) (rs : List ℤ) (row : ℕ) {width word : ℕ} (e : width ≡ word) (f : word ≡ readings b) where
-  pub row_inside : row * readings b + readings b ≤ length rs → row * width + width ≤ length rs
-  row_inside h = rw (e, f) h
-
-  pub row_is : take (row * width + width - row * width) (drop (row * width) rs) ≡ row_of b rs row
-  unfolding row_of
-  row_is = rw (e, f) (ap (λ (k : ℕ). take k (drop (row * readings b) rs)) (add-sub_cancel_left (row * readings b) (readings b)))
+-- the part of a list that is a row
+pub row_is : (b : List ℕ) (rs : List ℤ) (row : ℕ) {width : ℕ} → width ≡ readings b → take (row * width + width - row * width) (drop (row * width) rs) ≡ row_of b rs row
+unfolding row_of
+row_is b rs row e = rw e (ap (λ (k : ℕ). take k (drop (row * readings b) rs)) (add-sub_cancel_left (row * readings b) (readings b)))
 
 -- part n of equal parts lies below a limit of all
 pub next_below : (size n rows limit : ℕ) → n < rows → rows * size ≤ limit → n * size + size ≤ limit

@@ -7,19 +7,19 @@ ghost use Rattle.answer.specs.Answers.{answer_of};
 ghost use Rattle.run.specs.NodeTable.{Readable};
 ghost use Rattle.batch.specs.Rows.{RowFits, RowsFit, record_put, RanRow, RanRows};
 
+use allowances::Allowances;
 use answer::{Answer, write_answer};
 use definitions::sizes::ANSWER_BYTES;
 use file_layout::layout;
 use run::node_table::Table;
 use run::run_table;
-use widths::wide;
 
 // The readings of a row.
 fn row_of<'a>(file: &[u8], readings: &'a [i32], row: usize) -> &'a [i32]
     requires { row * Layouts.readings file.now + Layouts.readings file.now ≤ length readings.now }
     ensures { result.now ≡ row_of file.now readings.now row }
 {
-    let width = wide(layout::readings(file));
+    let width = usize::from(layout::readings(file));
     let start = row * width;
     let end = start + width;
     &readings[start..end]
@@ -31,7 +31,7 @@ fn put_record(a: Answer, row: usize, records: &mut [u8])
     ensures { records.new ≡ record_put records.old row (answer_of a) }
 {
     let start = row * ANSWER_BYTES;
-    write_answer(a, &mut records[start..]);
+    let _ = write_answer(a, &mut records[start..]);
 }
 
 // Runs a row, and writes its record.
@@ -40,20 +40,18 @@ fn run_row(
     table: &mut Table,
     row: usize,
     readings: &[i32],
-    steps: u32,
-    nesting: u32,
-    cells_allowed: u32,
+    allowances: Allowances,
     cells: &mut &mut [u8],
     records: &mut [u8],
 )
     requires { Readable file.now table.old × RowFits file.now readings.now (length records.old) row }
-    ensures { RanRow file.now row readings.now steps nesting cells_allowed cells.old.now records.old
+    ensures { RanRow file.now row readings.now allowances.steps allowances.nesting allowances.cells cells.old.now records.old
         cells.new.now records.new
         × (cells.new.ref_ptr ≡ cells.old.ref_ptr)
         × Readable file.now table.new }
 {
     let part = row_of(file, readings, row);
-    let answer = run_table(file, table, part, steps, nesting, cells_allowed, cells);
+    let answer = run_table(file, table, part, allowances, cells);
     put_record(answer, row, records);
 }
 
@@ -63,28 +61,16 @@ pub(crate) fn run_each(
     table: &mut Table,
     rows: usize,
     readings: &[i32],
-    steps: u32,
-    nesting: u32,
-    cells_allowed: u32,
+    allowances: Allowances,
     cells: &mut &mut [u8],
     records: &mut [u8],
 )
     requires { Readable file.now table.old × RowsFit file.now readings.now (length records.old) rows }
-    ensures { RanRows file.now rows readings.now steps nesting cells_allowed cells.old.now records.old
+    ensures { RanRows file.now rows readings.now allowances.steps allowances.nesting allowances.cells cells.old.now records.old
         cells.new.now records.new
         × (cells.new.ref_ptr ≡ cells.old.ref_ptr) }
 {
     for row in 0..rows {
-        run_row(
-            file,
-            table,
-            row,
-            readings,
-            steps,
-            nesting,
-            cells_allowed,
-            cells,
-            records,
-        );
+        run_row(file, table, row, readings, allowances, cells, records);
     }
 }

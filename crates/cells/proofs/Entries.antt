@@ -4,8 +4,12 @@ use Prim.Native.Nat.{ℕ, suc, ◌+◌, ◌*◌, ◌-◌, ◌/◌, ◌≤◌, �
 use mathlib.Core.List.{List, [], ◌∷◌, ◌++◌}
 use native.Mathlib.Omega.{arith}
 use native.Mathlib.Numerals.{add-two}
-use lib.ListN.{length, get_or, set, replicate, length-append, length-set, length-replicate, replicate-append-replicate}
-use lib.Seq.{sets}
+use lib.ListN.{length, get_or, replicate, length-append, length-replicate}
+use lib.Seq.{sets, sets-eq}
+use Rattle.std.proofs.Common.{take, drop, append_assoc, length-take, length-drop}
+use Rattle.std.proofs.lemmas.Slice.{put_mid-paste}
+use Rattle.std.proofs.lemmas.List.Edits.{paste_all}
+use borrow.Rule.Slice.PartMut.{put_mid}
 use borrow.Author.Tests.{lt-ltb, le-ltb, le-leb, lt-leb}
 use Rattle.definitions.specs.Sizes.{cell_size}
 use Rattle.definitions.specs.Bytes.{word, word_bytes, bytes_of}
@@ -51,35 +55,16 @@ zeros n = replicate n 0
 zeros_size : (n : ℕ) → length (zeros n) ≡ n
 zeros_size n = length-replicate n 0
 
--- the bytes of a cell at a place are cleared from its entries on, up to byte i of the cell
-pub record Cleared (b : List ℕ) (at i : ℕ) (m : List ℕ) : Type 0 where
-  pub reached : i ≤ 66
-  pub begun : 4 ≤ i
-  pub size : length m ≡ length b
-  pub is : m ≡ sets b (at + 4) (zeros (i - 4))
-
-pub none_cleared : (b : List ℕ) (at : ℕ) → Cleared b at 4 b
-none_cleared b at = record { reached = omega arith; begun = omega arith; size = refl; is = refl }
-
-pub one_cleared : {b m : List ℕ} {at i : ℕ} → Cleared b at i m → i < 66 → Cleared b at (i + 1) (set m (at + i) 0)
-one_cleared {b} {m} {at} {i} c h =
-    let q : i + 1 - 4 ≡ i - 4 + 1 = omega (arith, c.begun) in
-    let p : at + 4 + length (zeros (i - 4)) ≡ at + i = omega (arith, zeros_size (i - 4), c.begun) in
-    record {
-      reached = omega arith;
-      begun = omega (arith, c.begun);
-      size = length-set m (at + i) 0 ∙ c.size;
-      is = ap (λ (l : List ℕ). set l (at + i) 0) c.is
-          ∙ ap (λ (k : ℕ). sets (sets b (at + 4) (zeros (i - 4))) k (0 ∷ [])) (sym p)
-          ∙ sets_append (zeros (i - 4)) (0 ∷ []) b (at + 4)
-          ∙ ap (sets b (at + 4)) (replicate-append-replicate (i - 4) 1 0)
-          ∙ ap (λ (k : ℕ). sets b (at + 4) (zeros k)) (sym q);
-    }
-
-pub all_cleared : {b m : List ℕ} {at i : ℕ} → Cleared b at i m → 66 ≤ i → m ≡ sets b (at + 4) (zeros 62)
-all_cleared {b} {at = at} {i = i} c h =
-    let e : i - 4 ≡ 62 = omega (arith, c.reached) in
-    c.is ∙ ap (λ (k : ℕ). sets b (at + 4) (zeros k)) e
+-- so many bytes cleared from a place on
+pub cleared : (at k : ℕ) (b part : List ℕ) (n : ℕ) → k ≡ n → at + n ≤ length b → part ≡ zeros (length (take k (drop at b))) → put_mid at k b part ≡ sets b at (zeros n)
+cleared at k b part n e h f =
+    let s : length (take k (drop at b)) ≡ n = omega (arith, length-take k (drop at b), length-drop at b) in
+    let z : part ≡ zeros n = f ∙ ap zeros s in
+    let w : at + length (zeros n) ≤ length b = omega (arith, zeros_size n) in
+    put_mid-paste at k b part (zeros n) n z (sym e) (sym (zeros_size n))
+    ∙ paste_all b at (zeros n) n (sym (zeros_size n))
+    ∙ ap (λ (m : ℕ). take at b ++ (zeros n ++ drop (at + m) b)) (sym (zeros_size n))
+    ∙ sym (rw append_assoc at (sets-eq (zeros n) b at w))
 
 -- a cell added after those made
 word_size : (n : ℕ) → length (word_bytes n) ≡ 2

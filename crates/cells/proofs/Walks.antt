@@ -2,21 +2,30 @@
 use mathlib.Core.Path.{◌≡◌, refl, sym, ap, ◌∙◌}
 use Prim.Native.Nat.{ℕ, zero, suc, ◌+◌, ◌*◌, ◌-◌, ◌/◌, ◌≤◌, ◌<◌}
 use mathlib.Core.List.{List, [], ◌∷◌}
+use mathlib.Core.Logic.{◌⊎◌, inl, inr}
 use mathlib.Core.Bool.{Bool, true, false, cond, ◌||◌}
 use native.Mathlib.Omega.{arith}
 use native.Mathlib.Nat.{le_refl}
 use lib.ListN.{length}
 use lib.Seq.{sets, length-sets}
 use lib.Dec.{ltb, leb, eqb}
-use borrow.Author.Tests.{lt-ltb, le-leb, lt-leb, le-ltb, leb-false, ne_eqb}
+use borrow.Author.Tests.{lt-ltb, le-leb, lt-leb, le-ltb, leb-false, ne_eqb, leb-true}
 use Rattle.definitions.specs.Sizes.{cell_size}
 use Rattle.definitions.specs.Numbers.{short_output, out_of_range}
 use Rattle.definitions.specs.Bytes.{word_bytes, bytes_of}
 use Rattle.definitions.specs.Listing.{Listing, labels, refused, label_at, previous_at, with_label, damaged, labels_within, fitting, listing}
-use Rattle.cells.specs.declared.listing.Listed.{Listed}
-use Rattle.cells.specs.declared.listing.Listed.TheVariants.{Count, Refused}
+use Rattle.cells.specs.Listed.{Listed, Count, Refused, as_listed}
 use Rattle.cells.specs.Listings.{counted, written, listed_over, Listable, Lists}
 use Rattle.laws.proofs.Stores.{over_front}
+use Rattle.laws.proofs.Verdicts.{required}
+use Rattle.definitions.specs.Verdict.{Accepted}
+use Rattle.definitions.specs.Verdict as verdict
+use Rattle.definitions.specs.Verdicts.{require}
+use Rattle.definitions.specs.Refusals.{number_of}
+use Rattle.definitions.specs.declared.refusals.Refusal.{Refusal}
+use Rattle.std.specs.Prelude.{Result}
+use Rattle.std.specs.Result.{IsErrAnd}
+use Rattle.std.proofs.lemmas.Result.{err_from_is_err_and}
 
 or_false : (t u : Bool) → (t || u) ≡ false → (t ≡ false) × (u ≡ false)
 or_false false u e = (refl, e)
@@ -109,14 +118,13 @@ module _ {b : List ℕ} {c made at n : ℕ} (w : CountedSo b c made at n) where
   unfolding more counted
   damage_counted h e = sym (w.rest ∙ ap (λ (l : Listing). more n (counted l)) (walk_damaged b at h e))
 
-  pub counted_beyond : (at ≡ 0 → ⊥) → made < at → Refused out_of_range at ≡ counted (labels_within b c c)
-  counted_beyond h k = let f = w.cells in damage_counted h (beyond b at (omega arith))
+  pub counted_damaged : {p q : ℕ} → (at ≡ 0 → ⊥) → p ≡ previous_at b at → q ≡ p
+      → (made < at) ⊎ ((at ≤ made) × (at ≤ q)) → Refused out_of_range at ≡ counted (labels_within b c c)
+  counted_damaged h e g (inl k) = let f = w.cells in damage_counted h (beyond b at (omega arith))
+  counted_damaged {q} h e g (inr k) = damage_counted h (not_before b at q (g ∙ e) k.1)
 
-  pub counted_back : {p q : ℕ} → (at ≡ 0 → ⊥) → p ≡ previous_at b at → q ≡ p → at ≤ q → Refused out_of_range at ≡ counted (labels_within b c c)
-  counted_back {q} h e g k = damage_counted h (not_before b at q (g ∙ e) k)
-
-  pub count_more : {p q : ℕ} → (at ≡ 0 → ⊥) → at ≤ made → p ≡ previous_at b at → q ≡ p → q < at → CountedSo b c made q (n + 1)
-  count_more {q} h i e g k =
+  pub count_more : {p q : ℕ} → (at ≡ 0 → ⊥) → p ≡ previous_at b at → q ≡ p → at ≤ made → q < at → CountedSo b c made q (n + 1)
+  count_more {q} h e g i k =
       let f = w.cells in
       let z : q ≡ previous_at b at = g ∙ e in
       let u = w.bound in
@@ -206,47 +214,62 @@ unfolding bytes_of word_bytes
 bytes_length [] = refl
 bytes_length (l ∷ ls) = let h = bytes_length ls in omega arith
 
-refused_by : (L : Listing) (r : Listed) (n p room : ℕ) → r ≡ counted L → r ≡ Refused n p → (r ≡ counted (fitting room L)) × (fitting room L ≡ refused n p)
+refused_by : (L : Listing) (n p room : ℕ) → Refused n p ≡ counted L → fitting room L ≡ refused n p
 unfolding counted fitting
-refused_by (labels ls) r n p room e f = absurd (let z : ◌≡◌ {A = ℕ} 0 1 = cc in omega arith)
-refused_by (refused m q) r n p room e f = (e, cc)
+refused_by (labels ls) n p room e = absurd (let z : ◌≡◌ {A = ℕ} 0 1 = cc in omega arith)
+refused_by (refused m q) n p room e = cc
 
-pub walk_refused : {b : List ℕ} {c : ℕ} {out : List ℕ} {r : Listed} {n p : ℕ} → r ≡ counted (labels_within b c c) → r ≡ Refused n p → Lists b c out out r
-unfolding listing listed_over
-walk_refused {b} {c} {out} {r} {n} {p} e f =
-    let w = refused_by (labels_within b c c) r n p (length out) e f in
-    record { answer = w.0; bytes = sym (ap (listed_over out) w.1) }
+-- a refusal that is passed on
+pub refused_on : (r : Result ℕ Refusal) (e : Refusal) → IsErrAnd r (λ d. d ≡ e) → as_listed r ≡ Refused (number_of e.reason) e.place
+refused_on r e h = let p = err_from_is_err_and r h in rw (p.1, p.2)
 
-short_by : (L : Listing) (r : Listed) (n room : ℕ) → r ≡ counted L → r ≡ Count n → room / 2 < n → fitting room L ≡ refused short_output 0
+short_by : (L : Listing) (n room : ℕ) → Count n ≡ counted L → room / 2 < n → fitting room L ≡ refused short_output 0
 unfolding counted fitting
-short_by (labels ls) r n room e f h =
-    let z : length ls ≡ n = cc in
+short_by (labels ls) n room e h =
+    let z : n ≡ length ls = cc in
     let k : room < 2 * length ls = omega arith in
     rw (lt-leb (2 * length ls) room k) refl
-short_by (refused m q) r n room e f h = absurd (let z : ◌≡◌ {A = ℕ} 0 1 = cc in omega arith)
+short_by (refused m q) n room e h = absurd (let z : ◌≡◌ {A = ℕ} 0 1 = cc in omega arith)
 
-pub output_short : {b : List ℕ} {c : ℕ} {out : List ℕ} {r : Listed} {n : ℕ} → r ≡ counted (labels_within b c c) → r ≡ Count n → length out / 2 < n
-    → Lists b c out out (Refused short_output 0)
-unfolding listing listed_over counted
-output_short {b} {c} {out} {r} {n} e f h =
-    let w = short_by (labels_within b c c) r n (length out) e f h in
-    record { answer = ap counted (sym w); bytes = ap (listed_over out) (sym w) }
+not_room : (n half m q : ℕ) → verdict.Refused m q ≡ require (leb n half) short_output 0 → (half < n) × (Refused m q ≡ Refused short_output 0)
+unfolding require
+not_room n half m q e = by (leb n half) refl e where
+  by : (t : Bool) → leb n half ≡ t → verdict.Refused m q ≡ require t short_output 0 → (half < n) × (Refused m q ≡ Refused short_output 0)
+  by true h e = absurd (let z : ◌≡◌ {A = ℕ} 0 1 = cc in omega arith)
+  by false h e = (leb-false n half h, cc)
 
-fits_by : (L : Listing) (r : Listed) (n : ℕ) (before after : List ℕ) → r ≡ counted L → r ≡ Count n → n ≤ length before / 2 → after ≡ written L 0 before
+room_for : (n room : ℕ) → Accepted ≡ require (leb n (room / 2)) short_output 0 → n ≤ room / 2
+room_for n room h = leb-true n (room / 2) (required (leb n (room / 2)) short_output 0 (sym h))
+
+fits_by : (L : Listing) (n : ℕ) (before after : List ℕ) → Count n ≡ counted L → n ≤ length before / 2 → after ≡ written L 0 before
     → (Count n ≡ counted (fitting (length before) L)) × (after ≡ listed_over before (fitting (length before) L))
 unfolding counted fitting listed_over written
-fits_by (labels ls) r n before after e f h g =
-    let z : length ls ≡ n = cc in
+fits_by (labels ls) n before after e h g =
+    let z : n ≡ length ls = cc in
     let k : 2 * length ls ≤ length before = omega arith in
-    rw (le-leb (2 * length ls) (length before) k) (ap Count (sym z), g ∙ over_front (bytes_of ls) before (2 * length ls) (bytes_length ls) k)
-fits_by (refused m q) r n before after e f h g = absurd (let z : ◌≡◌ {A = ℕ} 0 1 = cc in omega arith)
+    rw (le-leb (2 * length ls) (length before) k) (e, g ∙ over_front (bytes_of ls) before (2 * length ls) (bytes_length ls) k)
+fits_by (refused m q) n before after e h g = absurd (let z : ◌≡◌ {A = ℕ} 0 1 = cc in omega arith)
 
-pub listed_whole : {b : List ℕ} {c : ℕ} {before after : List ℕ} {r : Listed} {n : ℕ} → r ≡ counted (labels_within b c c) → r ≡ Count n
-    → n ≤ length before / 2 → after ≡ written (labels_within b c c) 0 before → Lists b c before after (Count n)
-unfolding listing
-listed_whole {b} {c} {before} {after} {r} {n} e f h g =
-    let w = fits_by (labels_within b c c) r n before after e f h g in
-    record { answer = w.0; bytes = w.1 }
+module _ {b : List ℕ} {c : ℕ} where
+  refusal_listed : {out : List ℕ} {r : Listed} {n p : ℕ} → r ≡ Refused n p → listing b c (length out) ≡ refused n p → Lists b c out out r
+  unfolding counted listed_over
+  refusal_listed {out} f e = record { answer = f ∙ sym (ap counted e); bytes = sym (ap (listed_over out) e) }
 
-pub listable : {b : List ℕ} {c room : ℕ} {r : Listed} {n : ℕ} → r ≡ counted (labels_within b c c) → r ≡ Count n → n ≤ room / 2 → Listable b c n room
-listable e f h = record { labelled = sym e ∙ f; fits = omega arith }
+  pub walk_refused : {out : List ℕ} {r : Listed} {n p : ℕ} → r ≡ Refused n p → Refused n p ≡ counted (labels_within b c c) → Lists b c out out r
+  unfolding listing
+  walk_refused {out} {n = n} {p = p} f e = refusal_listed f (refused_by (labels_within b c c) n p (length out) e)
+
+  pub output_short : {out : List ℕ} {r : Listed} {n m p : ℕ} → Count n ≡ counted (labels_within b c c)
+      → r ≡ Refused m p → verdict.Refused m p ≡ require (leb n (length out / 2)) short_output 0 → Lists b c out out r
+  unfolding listing
+  output_short {out} {n = n} {m = m} {p = p} e f h =
+      let k = not_room n (length out / 2) m p h in
+      refusal_listed (f ∙ k.1) (short_by (labels_within b c c) n (length out) e k.0)
+
+  pub listed_whole : {before after : List ℕ} {n : ℕ} → Count n ≡ counted (labels_within b c c)
+      → Accepted ≡ require (leb n (length before / 2)) short_output 0 → after ≡ written (labels_within b c c) 0 before → Lists b c before after (Count n)
+  unfolding listing
+  listed_whole {before} {after} {n} e h g = let w = fits_by (labels_within b c c) n before after e (room_for n (length before) h) g in record { answer = w.0; bytes = w.1 }
+
+  pub listable : {room n : ℕ} → Count n ≡ counted (labels_within b c c) → Accepted ≡ require (leb n (room / 2)) short_output 0 → Listable b c n room
+  listable {room} {n} e h = let k = room_for n room h in record { labelled = sym e; fits = omega arith }

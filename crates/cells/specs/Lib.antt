@@ -1,2 +1,3 @@
 pub mod LentCells
+pub mod Listed
 pub mod Listings

@@ -3,8 +3,7 @@ use Rattle.std.specs.Prelude.{◌≡◌, ℕ, ◌*◌, ◌≤◌, List, ◌++◌
 use Rattle.std.proofs.lemmas.List.Edits.{sets}
 use Rattle.definitions.specs.Bytes.{bytes_of}
 use Rattle.definitions.specs.Listing.{Listing, labels, refused, labels_within, listing}
-use Rattle.cells.specs.declared.listing.Listed.{Listed}
-use Rattle.cells.specs.declared.listing.Listed.TheVariants.{Count, Refused}
+use Rattle.cells.specs.Listed.{Listed, Count, Refused}
 
 -- the answer: the count of labels, or the refusal's number and place
 unfoldable pub counted : Listing → Listed

@@ -8,7 +8,6 @@ ghost use Rattle.cells.specs.LentCells.{callee_at, cell_added};
 
 use definitions::sizes::CELL_BYTES;
 use file_fields::bytes::{field_of, word};
-use widths::wide;
 
 // Where the entries and the callee stand in a cell.
 pub(crate) const ENTRIES_PLACE: usize = 4;
@@ -60,16 +59,17 @@ pub fn pair_of(first: u16, second: u16) -> u32
 pub fn cell_at(cells: &[u8], c: u16) -> u32
     ensures { (result % 65536 ≡ label_at cells.now c) × (result / 65536 ≡ previous_at cells.now c) }
 {
-    let end = CELL_BYTES * wide(c);
-    if 0 < c {
-        if end <= cells.len() {
-            let at = end - CELL_BYTES;
-            let label = field_of(cells[at], cells[at + 1]);
-            let previous = field_of(cells[at + 2], cells[at + 3]);
-            return pair_of(label, previous);
-        }
+    let end = CELL_BYTES * usize::from(c);
+    if 0 < c && end <= cells.len() {
+        let at = end - CELL_BYTES;
+        let label = field_of(cells[at], cells[at + 1]);
+        let previous = field_of(cells[at + 2], cells[at + 3]);
+        return pair_of(label, previous);
     }
-    pair_of(label_at(cells, wide(c)), previous_at(cells, wide(c)))
+    pair_of(
+        label_at(cells, usize::from(c)),
+        previous_at(cells, usize::from(c)),
+    )
 }
 
 // Writes a field of two bytes at a place inside.
@@ -85,7 +85,7 @@ pub(crate) fn set_word(b: &mut [u8], at: usize, n: u16)
 pub fn callee_at(cells: &[u8], c: u16) -> u16
     ensures { result ≡ callee_at cells.now c }
 {
-    word(cells, CELL_BYTES * index(wide(c)) + CALLEE_PLACE)
+    word(cells, CELL_BYTES * index(usize::from(c)) + CALLEE_PLACE)
 }
 
 // Clears the entries of the cell at a place inside.
@@ -93,9 +93,7 @@ fn clear_entries(b: &mut [u8], at: usize)
     requires { at + 66 < length b.old }
     ensures { b.new ≡ sets b.old (at + 4) (replicate 62 0) }
 {
-    for i in ENTRIES_PLACE..CALLEE_PLACE {
-        b[at + i] = 0;
-    }
+    b[at + ENTRIES_PLACE..at + CALLEE_PLACE].fill(0);
 }
 
 // Writes a new cell after those alive, where it fits. Its entries are empty.

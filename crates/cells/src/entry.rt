@@ -5,7 +5,6 @@ ghost use Rattle.cells.specs.LentCells.{entry_place, entry_number, entry_written
 use crate::cell::{ENTRIES_PLACE, index, set_word};
 use definitions::sizes::{CELL_BYTES, ENTRY_BYTES};
 use file_fields::bytes::field_of;
-use widths::wide;
 
 // The kinds of entries.
 pub const EMPTY: u16 = 0;
@@ -18,7 +17,7 @@ pub const CONSTRUCTOR: u16 = 2;
 fn entry_place(c: u16, i: u16) -> usize
     ensures { result ≡ entry_place c i }
 {
-    CELL_BYTES * index(wide(c)) + ENTRIES_PLACE + ENTRY_BYTES * wide(i)
+    CELL_BYTES * index(usize::from(c)) + ENTRIES_PLACE + ENTRY_BYTES * usize::from(i)
 }
 
 // Entry `i` of cell `c` in one number: its kind in the lowest 16 bits, and above it the number's bits, or the node and the context;

@@ -1,8 +1,8 @@
 -- Laws of the driver's view: whether lent bytes are a record, the refusals in their order, and the bytes that are written.
-use mathlib.Core.Path.{◌≡◌, refl, sym, ◌∙◌}
+use mathlib.Core.Path.{◌≡◌, refl, sym, ap, ◌∙◌}
 use Prim.Native.Nat.{ℕ, ◌≤◌}
 use mathlib.Core.List.{List, ◌∷◌}
-use mathlib.Core.Bool.{Bool, true, false, cond}
+use mathlib.Core.Bool.{Bool, true, false, cond, ◌&&◌}
 use lib.ListN.{length}
 use lib.Seq.{sets}
 use lib.Dec.{leb, eqb}
@@ -12,7 +12,7 @@ use mir.Val.{Fits}
 use Rattle.definitions.specs.Bytes.{word, word32, signed, word_bytes, words32, bytes_of}
 use Rattle.definitions.specs.Sizes.{answer_size, view_size}
 use Rattle.definitions.specs.Numbers.{bad_record, short_output, is_number}
-use Rattle.definitions.specs.Verdicts.{◌and_then◌, require}
+use Rattle.definitions.specs.Verdicts.{require}
 use Rattle.definitions.specs.Operators.{residue}
 use Rattle.definitions.specs.Output.{written_of, output_of}
 use Rattle.definitions.specs.AnswerRecord.{answer_kind, recorded}
@@ -20,36 +20,45 @@ use Rattle.definitions.specs.DriverView.{number_view, empty_view, view_words, vi
 use Rattle.definitions.specs.Verdict.{Verdict, Accepted, Refused}
 use Rattle.definitions.specs.Written as written
 use Rattle.laws.proofs.Stores.{over_front}
-use Rattle.laws.proofs.Verdicts.{both_accepted, required}
+use Rattle.laws.proofs.Verdicts.{then_accepted, then_refused, both_accepted, required}
 use Rattle.operators.proofs.Residues.{residue_read}
+use Rattle.std.specs.Prelude.{Result}
+use Rattle.std.specs.Result.{IsErrAnd}
+use Rattle.std.proofs.lemmas.Result.{err_from_is_err_and}
+use Rattle.definitions.specs.Refusals.{number_of, as_written}
+use Rattle.definitions.specs.declared.refusals.Refusal.{Refusal}
 use Rattle.driver_view.specs.Promise.{WritesView}
 
--- whether lent bytes are a record, test by test
-module _ (b : List ℕ) where
-  pub other_size : (length b ≡ answer_size → ⊥) → false ≡ is_answer_record b
+-- whether lent bytes are a record, by their length and length field, and then by their kind
+abbrev pub sized : List ℕ → Bool
+sized b = eqb (length b) answer_size && eqb (word b 0) answer_size
+
+module _ (b : List ℕ) {t : Bool} where
+  pub both_lengths : {x : ℕ} → length b ≡ answer_size → x ≡ word b 0 → t ≡ eqb x answer_size → t ≡ sized b
+  both_lengths h e f = rw (f, e, eq-eqb (length b) answer_size h) refl
+
+  pub other_size : (length b ≡ answer_size → ⊥) → t ≡ eqb (length b) answer_size → t ≡ sized b
+  other_size h f = rw (f, ne_eqb (length b) answer_size h) refl
+
+  pub no_record_by_length : t ≡ sized b → t ≡ false → t ≡ is_answer_record b
   unfolding is_answer_record
-  other_size h = rw (ne_eqb (length b) answer_size h) refl
+  no_record_by_length e h = rw (← e, h) refl
 
-  module _ (size : length b ≡ answer_size) {x : ℕ} (e : x ≡ word b 0) where
-    pub other_length : (x ≡ answer_size → ⊥) → false ≡ is_answer_record b
-    unfolding is_answer_record
-    other_length h = rw (eq-eqb (length b) answer_size size, ← e, ne_eqb x answer_size h) refl
+  pub record_by_kind : {y : ℕ} → t ≡ sized b → t ≡ true → y ≡ word b 2 → eqb y answer_kind ≡ is_answer_record b
+  unfolding is_answer_record
+  record_by_kind e h f = rw (← e, h, f) refl
 
-    pub by_kind : {y : ℕ} → x ≡ answer_size → y ≡ word b 2 → eqb y answer_kind ≡ is_answer_record b
-    unfolding is_answer_record
-    by_kind h f = rw (eq-eqb (length b) answer_size size, ← e, eq-eqb x answer_size h, f) refl
+-- the refusals in their order
+module _ (b : List ℕ) (room : ℕ) {t : Bool} (is : t ≡ is_answer_record b) where
+  pub no_record : {v : Verdict} {n p : ℕ} → v ≡ require t bad_record 0 → v ≡ Refused n p → v ≡ view_verdict b room
+  unfolding view_verdict
+  no_record {n} {p} e f = f ∙ sym (then_refused _ _ n p (ap (λ (u : Bool). require u bad_record 0) (sym is) ∙ sym e ∙ f))
 
-pub checked : (b : List ℕ) (room : ℕ) {t : Bool} {v w u : Verdict} → t ≡ is_answer_record b → v ≡ require t bad_record 0 → w ≡ require (leb view_size room) short_output 0
-    → u ≡ (v and_then w) → u ≡ view_verdict b room
-unfolding view_verdict
-checked b room e f g h = h ∙ rw (f, g, e) refl
+  pub checked : {v : Verdict} → Accepted ≡ require t bad_record 0 → v ≡ require (leb view_size room) short_output 0 → v ≡ view_verdict b room
+  unfolding view_verdict
+  checked e f = f ∙ sym (then_accepted _ _ (ap (λ (u : Bool). require u bad_record 0) (sym is) ∙ sym e))
 
 -- what is written
-pub fields_written : (l : List ℕ) {m r : List ℕ} (first value : ℕ) → m ≡ sets l 0 (word_bytes first) → r ≡ sets m 2 (bytes_of (words32 value))
-    → r ≡ sets l 0 (bytes_of (first ∷ words32 value))
-unfolding word_bytes words32 bytes_of
-fields_written l first value e f = rw (f, e) refl
-
 module _ (b l : List ℕ) {r : List ℕ} {outcome value : ℕ} (e : outcome ≡ word b 4) (f : value ≡ word32 b 6) where
   pub number_shown : Fits w32 value → outcome ≡ is_number → r ≡ sets l 0 (bytes_of (number_view ∷ words32 value)) → r ≡ sets l 0 (view_bytes b)
   unfolding view_bytes view_words recorded signed
@@ -69,14 +78,16 @@ unfolding view_bytes view_words
 view_length b = words_length (eqb (recorded b).outcome is_number) (residue w32 (recorded b).value)
 
 -- the promise where the call is refused, and where the view is written
-module _ {b out : List ℕ} {v : Verdict} (is : v ≡ view_verdict b (length out)) where
-  pub refused : {n p : ℕ} → v ≡ Refused n p → WritesView b out (written.Refused n p) out
+module _ {b out : List ℕ} where
+  pub refused : (r : Result ℕ Refusal) (e : Refusal) → IsErrAnd r (λ d. d ≡ e) → Refused (number_of e.reason) e.place ≡ view_verdict b (length out)
+      → WritesView b out (as_written r) out
   unfolding written_of output_of
-  refused e = let k = sym is ∙ e in record { answer = rw k refl; output = rw k refl }
+  refused r e h k = let p = err_from_is_err_and r h in rw (p.1, p.2) (record { answer = rw (← k) refl; output = rw (← k) refl })
 
-  pub view_written : {out' : List ℕ} → v ≡ Accepted → out' ≡ sets out 0 (view_bytes b) → WritesView b out (written.Length view_size) out'
+  pub view_written : {v : Verdict} {out' : List ℕ} → v ≡ view_verdict b (length out) → v ≡ Accepted → out' ≡ sets out 0 (view_bytes b)
+      → WritesView b out (written.Length view_size) out'
   unfolding view_verdict written_of output_of
-  view_written e w =
+  view_written is e w =
       let k = sym is ∙ e in
       let roomy : view_size ≤ length out = leb-true view_size (length out) (required _ short_output 0 (both_accepted _ _ k).1) in
       record { answer = rw k refl; output = w ∙ over_front (view_bytes b) out view_size (view_length b) roomy ∙ rw (k, view_length b) refl }

@@ -5,11 +5,12 @@ ghost use Rattle.std.specs.Prelude.{◌≡◌, ◌∷◌};
 ghost use Rattle.std.proofs.lemmas.List.Edits.{sets};
 ghost use Rattle.definitions.specs.Bytes.{words32, bytes_of};
 ghost use Rattle.definitions.specs.DriverView.{view_bytes, is_answer_record, view_verdict};
+ghost use Rattle.definitions.specs.Refusals.{as_verdict, as_written};
 ghost use Rattle.driver_view.specs.Promise.{WritesView};
 
+use definitions::refusals::{Reason, Refusal, require};
 use definitions::sizes::{ANSWER_BYTES, VIEW_BYTES};
-use definitions::verdicts::{and_then, required};
-use definitions::{Verdict, Written, answer_record, numbers};
+use definitions::{answer_record, numbers};
 use file_fields::bytes::{word, word32};
 use file_fields::writing::{put_word, put_word32};
 
@@ -22,25 +23,21 @@ const EMPTY_VIEW: u16 = 1;
 fn is_answer_record(rec: &[u8]) -> bool
     ensures { result ≡ is_answer_record rec.now }
 {
-    if rec.len() != ANSWER_BYTES {
-        return false;
-    }
-    if word(rec, answer_record::LENGTH_PLACE) != answer_record::LENGTH {
-        return false;
-    }
-    word(rec, answer_record::KIND_PLACE) == answer_record::KIND
+    rec.len() == ANSWER_BYTES
+        && word(rec, answer_record::LENGTH_PLACE) == answer_record::LENGTH
+        && word(rec, answer_record::KIND_PLACE) == answer_record::KIND
 }
 
 // 3, then 8, for lent bytes and so many bytes of output.
-fn check_view(rec: &[u8], room: usize) -> Verdict
-    ensures { result ≡ view_verdict rec.now room }
+fn check_view(rec: &[u8], room: usize) -> Result<(), Refusal>
+    ensures { as_verdict result ≡ view_verdict rec.now room }
 {
-    let recorded = required(is_answer_record(rec), numbers::BAD_RECORD);
-    let roomy = required(VIEW_BYTES <= room, numbers::SHORT_OUTPUT);
-    and_then(recorded, roomy)
+    require(is_answer_record(rec), Reason::BadRecord)?;
+    require(VIEW_BYTES <= room, Reason::ShortOutput)
 }
 
 // Writes the two fields of a view.
+#[tactic(auto, unfolding(definitions::specs::Bytes::word_bytes, definitions::specs::Bytes::words32, definitions::specs::Bytes::bytes_of))]
 fn put_fields(out: &mut [u8], first: u16, value: u32)
     ensures { out.new ≡ sets out.old 0 (bytes_of (first ∷ words32 value)) }
 {
@@ -63,15 +60,10 @@ fn put_view(rec: &[u8], out: &mut [u8])
 
 // Writes the driver's view of an answer record: a number, or that there is none. Bytes of the output past the view stay as they
 // were; a refusal leaves all of them.
-pub fn write_view(rec: &[u8], out: &mut [u8]) -> Written
-    ensures { WritesView rec.now out.old result out.new }
+pub fn write_view(rec: &[u8], out: &mut [u8]) -> Result<usize, Refusal>
+    ensures { WritesView rec.now out.old (as_written result) out.new }
 {
-    let verdict = check_view(rec, out.len());
-    match verdict {
-        Verdict::Refused { number, place } => Written::Refused { number, place },
-        Verdict::Accepted => {
-            put_view(rec, out);
-            Written::Length(VIEW_BYTES)
-        }
-    }
+    check_view(rec, out.len())?;
+    put_view(rec, out);
+    Ok(VIEW_BYTES)
 }

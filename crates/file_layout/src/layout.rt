@@ -39,7 +39,7 @@ pub fn first_item(y: Layout, b: &[u8]) -> usize
 {
     match y {
         Layout::Sheet => 1,
-        Layout::Translation => 1 + functions(b) as usize,
+        Layout::Translation => 1 + usize::from(functions(b)),
     }
 }
 
@@ -47,7 +47,7 @@ pub fn first_function(y: Layout, b: &[u8]) -> usize
     ensures { (result ≡ first_function y b.now) × (result ≤ 65536) }
 {
     match y {
-        Layout::Sheet => 1 + items(b) as usize,
+        Layout::Sheet => 1 + usize::from(items(b)),
         Layout::Translation => 1,
     }
 }
@@ -55,13 +55,13 @@ pub fn first_function(y: Layout, b: &[u8]) -> usize
 pub fn first_node(b: &[u8]) -> usize
     ensures { (result ≡ first_node b.now) × (result ≤ 131071) }
 {
-    1 + items(b) as usize + functions(b) as usize
+    1 + usize::from(items(b)) + usize::from(functions(b))
 }
 
 pub fn due(b: &[u8]) -> usize
     ensures { (result ≡ due b.now) × (result ≤ 196606) }
 {
-    first_node(b) + nodes(b) as usize
+    first_node(b) + usize::from(nodes(b))
 }
 
 // The kinds that are due.
@@ -79,10 +79,7 @@ pub fn is_typed(b: &[u8]) -> bool
     ensures { result ≡ is_typed b.now }
 {
     let k = word(b, 14);
-    if k == sheet_kinds::TYPED_CONSTRUCTOR {
-        return true;
-    }
-    k == sheet_kinds::TYPED_FUNCTION
+    k == sheet_kinds::TYPED_CONSTRUCTOR || k == sheet_kinds::TYPED_FUNCTION
 }
 
 fn constructor_kind(b: &[u8]) -> u16
@@ -110,14 +107,14 @@ fn section_kind(y: Layout, b: &[u8], r: usize) -> u16
 {
     match y {
         Layout::Sheet => {
-            if r <= items(b) as usize {
+            if r <= usize::from(items(b)) {
                 constructor_kind(b)
             } else {
                 function_kind(b)
             }
         }
         Layout::Translation => {
-            if r <= functions(b) as usize {
+            if r <= usize::from(functions(b)) {
                 translation_kinds::FUNCTION
             } else {
                 translation_kinds::FORMAL_LIST
@@ -147,10 +144,7 @@ pub fn is_due(y: Layout, b: &[u8], first: usize, r: usize, kind: u16) -> bool
         return kind == section_kind(y, b, r);
     }
     let low = node_kind(y);
-    if kind < low {
-        return false;
-    }
-    kind - low <= 8
+    low <= kind && kind - low <= 8
 }
 
 // The field of a function's record that holds its node count.

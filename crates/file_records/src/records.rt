@@ -7,17 +7,12 @@ use definitions::sizes::{MOST_RECORDS, Starts};
 use file_fields::bytes::{word, word_inside};
 
 // Whether a whole record stands at a place.
+#[tactic(auto, unfolding(definitions::specs::Records::whole))]
 fn is_whole(b: &[u8], at: usize) -> bool
     ensures { result ≡ whole b.now at }
 {
-    let n = word(b, at) as usize;
-    if n < 4 {
-        return false;
-    }
-    if b.len() < at {
-        return false;
-    }
-    n <= b.len() - at
+    let n = usize::from(word(b, at));
+    4 <= n && at <= b.len() && n <= b.len() - at
 }
 
 // The place after the record at a place; the same place where no whole record stands.
@@ -25,7 +20,7 @@ fn next(b: &[u8], at: usize) -> usize
     ensures { result ≡ next b.now at }
 {
     if is_whole(b, at) {
-        at + word(b, at) as usize
+        at + usize::from(word(b, at))
     } else {
         at
     }
@@ -46,9 +41,8 @@ fn start(b: &[u8], r: usize) -> usize
 pub fn record_at(b: &[u8], at: usize) -> &[u8]
     ensures { result.now ≡ record_at b.now at }
 {
-    let n = word(b, at) as usize;
     if is_whole(b, at) {
-        let end = at + n;
+        let end = at + usize::from(word(b, at));
         &b[at..end]
     } else {
         &b[..0]
@@ -66,7 +60,11 @@ pub fn record(b: &[u8], r: usize) -> &[u8]
 pub fn start_in(starts: &Starts, r: usize) -> usize
     ensures { (result ≡ start_in starts.now r) × (result ≤ 65535) }
 {
-    if r < MOST_RECORDS { usize::from(starts[r]) } else { 0 }
+    if r < MOST_RECORDS {
+        usize::from(starts[r])
+    } else {
+        0
+    }
 }
 
 // Record `r` by an index, in constant time: the record at the place that the index names.
@@ -81,13 +79,11 @@ pub fn indexed<'a>(b: &'a [u8], starts: &Starts, r: usize) -> &'a [u8]
 pub(crate) fn indexed_from<'a>(b: &'a [u8], starts: &Starts, first: usize, i: usize) -> &'a [u8]
     ensures { result.now ≡ record_at b.now (start_in starts.now (first + i)) }
 {
-    if MOST_RECORDS <= first {
-        return record_at(b, 0);
+    if first < MOST_RECORDS && i < MOST_RECORDS {
+        indexed(b, starts, first + i)
+    } else {
+        record_at(b, 0)
     }
-    if MOST_RECORDS <= i {
-        return record_at(b, 0);
-    }
-    indexed(b, starts, first + i)
 }
 
 // A record's kind.
@@ -117,12 +113,9 @@ pub fn field_inside(rec: &[u8], j: usize) -> u16
 }
 
 // How many fields a record has.
+#[tactic(auto, unfolding(definitions::specs::Records::field_count))]
 pub fn field_count(rec: &[u8]) -> usize
     ensures { result ≡ field_count rec.now }
 {
-    if rec.len() < 4 {
-        0
-    } else {
-        (rec.len() - 4) / 2
-    }
+    rec.len().saturating_sub(4) / 2
 }

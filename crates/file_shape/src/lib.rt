@@ -26,27 +26,18 @@ use file_layout::layout::{
 use file_records::records::{field, indexed, kind, record_at};
 
 // The head's counts are in their ranges.
+#[tactic(auto, unfolding(definitions::specs::Shape::head_counts, definitions::specs::Ranges::within))]
 fn head_counts(y: Layout, b: &[u8]) -> bool
     ensures { result ≡ head_counts y b.now }
 {
-    if MOST_READINGS < readings(b) as usize {
-        return false;
-    }
-    if item_limit(y) < items(b) as usize {
-        return false;
-    }
-    let f = functions(b) as usize;
-    if f < 1 {
-        return false;
-    }
-    if MOST_FUNCTIONS < f {
-        return false;
-    }
-    let n = nodes(b) as usize;
-    if n < 1 {
-        return false;
-    }
-    n <= MOST_NODES
+    let f = usize::from(functions(b));
+    let n = usize::from(nodes(b));
+    usize::from(readings(b)) <= MOST_READINGS
+        && usize::from(items(b)) <= item_limit(y)
+        && 1 <= f
+        && f <= MOST_FUNCTIONS
+        && 1 <= n
+        && n <= MOST_NODES
 }
 
 // The sum of field `j` over the functions' records.
@@ -55,15 +46,16 @@ fn field_total(y: Layout, b: &[u8], starts: &Starts, j: usize) -> usize
     ensures { result ≡ sum_of (functions b.now) (λ f. field (function_record y b.now f) j) }
 {
     let first = first_function(y, b);
-    let count = functions(b) as usize;
+    let count = usize::from(functions(b));
     let mut total: usize = 0;
     for f in 0..count {
-        total += field(indexed(b, starts, first + f), j) as usize;
+        total += usize::from(field(indexed(b, starts, first + f), j));
     }
     total
 }
 
 // A function's counts: its own node count, and at the last function the sum.
+#[tactic(auto, unfolding(definitions::specs::Shape::run_counts, definitions::specs::Ranges::within, definitions::specs::Layouts::node_count))]
 fn run_counts(y: Layout, b: &[u8], starts: &Starts, r: usize, rec: &[u8]) -> bool
     requires { Indexed b.now starts.now (r + 1) }
     ensures { result ≡ run_counts y b.now r rec.now }
@@ -72,43 +64,40 @@ fn run_counts(y: Layout, b: &[u8], starts: &Starts, r: usize, rec: &[u8]) -> boo
     if field(rec, j) < 1 {
         return false;
     }
-    if r + 1 == first_function(y, b) + functions(b) as usize {
-        return field_total(y, b, starts, j) == nodes(b) as usize;
+    if r + 1 == first_function(y, b) + usize::from(functions(b)) {
+        return field_total(y, b, starts, j) == usize::from(nodes(b));
     }
     true
 }
 
 // A translation's parameter counts: the function's own, and at the last function the sum.
+#[tactic(auto, unfolding(definitions::specs::Shape::parameter_counts, definitions::specs::Ranges::within, definitions::specs::Layouts::parameter_count))]
 fn parameter_counts(b: &[u8], starts: &Starts, r: usize, rec: &[u8]) -> bool
     requires { Indexed b.now starts.now (r + 1) }
     ensures { result ≡ parameter_counts b.now r rec.now }
 {
-    if MOST_FIELDS < field(rec, 1) as usize {
+    if MOST_FIELDS < usize::from(field(rec, 1)) {
         return false;
     }
     let y = Layout::Translation;
-    if r + 1 == first_function(y, b) + functions(b) as usize {
-        return field_total(y, b, starts, 1) == items(b) as usize;
+    if r + 1 == first_function(y, b) + usize::from(functions(b)) {
+        return field_total(y, b, starts, 1) == usize::from(items(b));
     }
     true
 }
 
 // A typed function's counts.
+#[tactic(auto, unfolding(definitions::specs::Shape::typed_function_counts, definitions::specs::Ranges::within))]
 fn typed_function_counts(y: Layout, b: &[u8], starts: &Starts, r: usize, rec: &[u8]) -> bool
     requires { Indexed b.now starts.now (r + 1) }
     ensures { result ≡ typed_function_counts y b.now r rec.now }
 {
-    let n = field(rec, 0) as usize;
-    if MOST_FIELDS < n {
-        return false;
-    }
-    if !run_counts(y, b, starts, r, rec) {
-        return false;
-    }
-    types_right(rec, 3 + n)
+    let n = usize::from(field(rec, 0));
+    n <= MOST_FIELDS && run_counts(y, b, starts, r, rec) && types_right(rec, 3 + n)
 }
 
 // The counts of record `r`.
+#[tactic(auto, unfolding(definitions::specs::Shape::counts, definitions::specs::Ranges::within))]
 fn counts(y: Layout, b: &[u8], starts: &Starts, r: usize, rec: &[u8]) -> bool
     requires { Indexed b.now starts.now (r + 1) }
     ensures { result ≡ counts y b.now r rec.now }
@@ -116,43 +105,31 @@ fn counts(y: Layout, b: &[u8], starts: &Starts, r: usize, rec: &[u8]) -> bool
     if r == 0 {
         return head_counts(y, b);
     }
-    let k = kind(rec);
-    if k == sheet_kinds::CONSTRUCTOR {
-        return field(rec, 0) as usize <= MOST_FIELDS;
-    }
-    if k == sheet_kinds::FUNCTION {
-        if MOST_FIELDS < field(rec, 0) as usize {
-            return false;
+    match kind(rec) {
+        sheet_kinds::CONSTRUCTOR => usize::from(field(rec, 0)) <= MOST_FIELDS,
+        sheet_kinds::FUNCTION => {
+            usize::from(field(rec, 0)) <= MOST_FIELDS && run_counts(y, b, starts, r, rec)
         }
-        return run_counts(y, b, starts, r, rec);
-    }
-    if k == sheet_kinds::TYPED_CONSTRUCTOR {
-        return typed_constructor_counts(rec);
-    }
-    if k == sheet_kinds::TYPED_FUNCTION {
-        return typed_function_counts(y, b, starts, r, rec);
-    }
-    if k == translation_kinds::FUNCTION {
-        if !parameter_counts(b, starts, r, rec) {
-            return false;
+        sheet_kinds::TYPED_CONSTRUCTOR => typed_constructor_counts(rec),
+        sheet_kinds::TYPED_FUNCTION => typed_function_counts(y, b, starts, r, rec),
+        translation_kinds::FUNCTION => {
+            parameter_counts(b, starts, r, rec) && run_counts(y, b, starts, r, rec)
         }
-        return run_counts(y, b, starts, r, rec);
+        _ => true,
     }
-    true
 }
 
 // The operator code is at most the greatest, in a record that has one.
+#[tactic(auto, unfolding(definitions::specs::Shape::operator_code, definitions::specs::Ranges::within))]
 fn operator_code(rec: &[u8]) -> bool
     ensures { result ≡ operator_code rec.now }
 {
-    let k = kind(rec);
-    if k == sheet_kinds::OPERATOR {
-        return field(rec, 0) <= operator_codes::GREATEST;
+    match kind(rec) {
+        sheet_kinds::OPERATOR | translation_kinds::OPERATOR => {
+            field(rec, 0) <= operator_codes::GREATEST
+        }
+        _ => true,
     }
-    if k == translation_kinds::OPERATOR {
-        return field(rec, 0) <= operator_codes::GREATEST;
-    }
-    true
 }
 
 // The checks of record `r`, which starts at `at`; the nodes start at record `first`.
@@ -189,7 +166,7 @@ fn shape_at(
             place: r,
         });
     }
-    if left < n as usize {
+    if left < usize::from(n) {
         return Err(Refusal {
             reason: Reason::Truncated,
             place: r,
@@ -223,7 +200,7 @@ fn walk(y: Layout, b: &[u8], starts: &mut Starts) -> Result<(), Refusal>
     for r in 0..count {
         starts[r] = at as u16;
         shape_at(&rows, y, b, starts, first, r, at)?;
-        at += word(b, at) as usize;
+        at += usize::from(word(b, at));
     }
     if at == b.len() {
         Ok(())

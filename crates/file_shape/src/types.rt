@@ -17,7 +17,7 @@ pub(crate) fn types_right(rec: &[u8], n: usize) -> bool
     }
     let count = n - 2;
     for i in 0..count {
-        if MOST_TYPES < field_inside(rec, 2 + i) as usize {
+        if MOST_TYPES < usize::from(field_inside(rec, 2 + i)) {
             return false;
         }
     }
@@ -25,19 +25,11 @@ pub(crate) fn types_right(rec: &[u8], n: usize) -> bool
 }
 
 // A typed constructor's counts.
+#[tactic(auto, unfolding(definitions::specs::Shape::typed_constructor_counts, definitions::specs::Ranges::within))]
 pub(crate) fn typed_constructor_counts(rec: &[u8]) -> bool
     ensures { result ≡ typed_constructor_counts rec.now }
 {
-    let n = field(rec, 0) as usize;
-    if MOST_FIELDS < n {
-        return false;
-    }
-    let own = field(rec, 1) as usize;
-    if own < 1 {
-        return false;
-    }
-    if MOST_TYPES < own {
-        return false;
-    }
-    types_right(rec, 2 + n)
+    let n = usize::from(field(rec, 0));
+    let own = usize::from(field(rec, 1));
+    n <= MOST_FIELDS && 1 <= own && own <= MOST_TYPES && types_right(rec, 2 + n)
 }

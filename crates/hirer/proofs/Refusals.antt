@@ -13,12 +13,13 @@ use Rattle.definitions.specs.Checks.{translation_verdict}
 use Rattle.definitions.specs.Run.{refusal, run_verdict, answer_after, bytes_after}
 use Rattle.definitions.specs.Hirer.{closed_verdict, hirer_verdict, hirer_answer, hirer_cells}
 use Rattle.definitions.specs.Verdict.{Verdict, Accepted, Refused}
-use Rattle.laws.proofs.Verdicts.{then_refused, both_accepted}
+use Rattle.laws.proofs.Verdicts.{then_accepted, then_refused, both_accepted}
 use Rattle.answer.specs.declared.Answer.{Answer}
 use Rattle.answer.specs.Answers.{answer_of}
 use Rattle.run.specs.Promise.{Runs}
-use Rattle.run.specs.NodeTable.{FileRead}
+use Rattle.run.specs.NodeTable.{FileRead, Readable}
 use Rattle.run.proofs.Answering.{refused_by}
+use Rattle.hirer.specs.Checks.{ReadForHirer}
 use Rattle.hirer.specs.Promise.{RunsForHirer}
 
 module _ {b : List ℕ} {set : ℕ} {rs : List ℤ} {steps nesting cells_allowed : ℕ} {before : List ℕ} {r : Answer} where
@@ -32,25 +33,39 @@ module _ {b : List ℕ} {set : ℕ} {rs : List ℤ} {steps nesting cells_allowed
   unfolding hirer_answer hirer_cells answer_after bytes_after
   owners_run v t = record { answer = rw v t.answer; cells = rw v t.cells; owners = λ a. t }
 
-  pub file_refused : {v : Verdict} {tab : List ℕ} {n p : ℕ} → FileRead b v tab → v ≡ Refused n p → answer_of r ≡ refusal n p
-      → RunsForHirer b set rs steps nesting cells_allowed before r before
-  unfolding hirer_verdict
-  file_refused {n = n} {p} t e f = closed_run (then_refused (translation_verdict b) (closed_verdict b set) n p (sym t.verdict ∙ e)) f
-
-  -- of an accepted file
-  module _ (accepted : translation_verdict b ≡ Accepted) {v w u : Verdict} (ev : v ≡ closed_verdict b set) {m x : ℕ} (em : m ≡ readings b) (ex : x ≡ m)
-      (ew : w ≡ require (eqb (length rs) x) bad_readings 0) (eu : u ≡ (v and_then w)) where
-    pub refused_in_order : {n p : ℕ} → u ≡ Refused n p → answer_of r ≡ refusal n p → RunsForHirer b set rs steps nesting cells_allowed before r before
+  module _ {v : Verdict} {tab : List ℕ} (t : ReadForHirer b set rs v tab) where
+    pub refused_in_order : {n p : ℕ} → v ≡ Refused n p → answer_of r ≡ refusal n p → RunsForHirer b set rs steps nesting cells_allowed before r before
     unfolding hirer_verdict run_verdict ◌and_then◌
-    refused_in_order {n} {p} g f = from v refl
+    refused_in_order {n} {p} g f = from (hirer_verdict b set) refl
       where
-        from : (y : Verdict) → v ≡ y → RunsForHirer b set rs steps nesting cells_allowed before r before
-        from (Refused m q) e = closed_run (rw (accepted, ← ev, e) (sym (eu ∙ rw e refl) ∙ g)) f
-        from Accepted e =
-            let checked : w ≡ require (eqb (length rs) (readings b)) bad_readings 0 = rw (← em, ← ex) ew in
-            let h : w ≡ Refused n p = sym (eu ∙ rw e refl) ∙ g in
-            owners_run (rw (accepted, ← ev) e) (refused_by b rs steps nesting cells_allowed before r n p (rw (accepted, ← checked, h) refl) f)
+        counted : Verdict
+        counted = require (eqb (length rs) (readings b)) bad_readings 0
 
-    pub ran : {after : List ℕ} → u ≡ Accepted → Runs b rs steps nesting cells_allowed before r after → RunsForHirer b set rs steps nesting cells_allowed before r after
+        from : (y : Verdict) → hirer_verdict b set ≡ y → RunsForHirer b set rs steps nesting cells_allowed before r before
+        from (Refused m q) e = closed_run (e ∙ sym (then_refused (hirer_verdict b set) counted m q e) ∙ sym t.verdict ∙ g) f
+        from Accepted e =
+            let h : counted ≡ Refused n p = sym (then_accepted (hirer_verdict b set) counted e) ∙ sym t.verdict ∙ g in
+            let accepted = (both_accepted (translation_verdict b) (closed_verdict b set) e).0 in
+            owners_run e (refused_by b rs steps nesting cells_allowed before r n p (rw (accepted, h) refl) f)
+
+    pub ran : {after : List ℕ} → v ≡ Accepted → Runs b rs steps nesting cells_allowed before r after → RunsForHirer b set rs steps nesting cells_allowed before r after
+    ran g = owners_run (both_accepted _ _ (sym t.verdict ∙ g)).0
+
+-- what a translation read for a hirer is refused for, in order
+module _ {b : List ℕ} (set : ℕ) (rs : List ℤ) {v : Verdict} {tab : List ℕ} where
+  never : {n p : ℕ} → v ≡ Refused n p → v ≡ Accepted → Readable b tab
+  never e a = absurd (let z = sym e ∙ a in cc)
+
+  pub file_refused : {n p : ℕ} → v ≡ Refused n p → FileRead b (Refused n p) tab → ReadForHirer b set rs v tab
+  unfolding hirer_verdict ◌and_then◌
+  file_refused e t = record { verdict = e ∙ rw (← t.verdict) refl; readable = never e }
+
+  module _ (t : Readable b tab) where
+    pub set_refused : {n p : ℕ} → v ≡ Refused n p → Refused n p ≡ closed_verdict b set → ReadForHirer b set rs v tab
     unfolding hirer_verdict ◌and_then◌
-    ran g t = owners_run (rw (accepted, ← ev) (both_accepted v w (sym eu ∙ g)).0) t
+    set_refused e f = record { verdict = e ∙ rw (t.accepted, ← f) refl; readable = never e }
+
+    pub readings_checked : Accepted ≡ closed_verdict b set → {width : ℕ} → width ≡ readings b → v ≡ require (eqb (length rs) width) bad_readings 0
+        → ReadForHirer b set rs v tab
+    unfolding hirer_verdict ◌and_then◌
+    readings_checked f w e = record { verdict = e ∙ rw (t.accepted, ← f, w) refl; readable = λ a. t }

@@ -1,4 +1,3 @@
 pub mod Levels
-pub mod Widened
 pub mod Refusals
 pub mod Searching

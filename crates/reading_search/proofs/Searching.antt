@@ -1,35 +1,28 @@
 -- Laws of the runs of a search: one value tried, and the loop over the values.
 use mathlib.Core.Path.{◌≡◌, refl, sym, ◌∙◌}
-use Prim.Native.Nat.{ℕ, suc, ◌-◌, ◌≤◌, ◌<◌}
+use Prim.Native.Nat.{ℕ, suc, ◌+◌, ◌≤◌, ◌<◌}
 use mathlib.Core.List.{List}
 use mathlib.Core.Bool.{Bool, true, false, true≢false}
 use native.Mathlib.Omega.{arith}
 use native.Mathlib.Decide.{dec_lt}
+use native.Mathlib.Numerals.{add-one}
 use lib.IntN.{ℤ}
 use lib.ListN.{length, set, length-set}
 use lib.Seq.{set-set}
 use borrow.Author.Tests.{le-ltb, lt-ltb}
 use denote.MutBor.{MutBor}
 use mir.Syntax.{w32}
-use mir.Val.{to_z, of_z, SFits}
-use mir.ValLaws.{to_z-of_z}
-use lib.Dec.{eqb}
+use mir.Val.{SFits}
 use Rattle.definitions.specs.Sizes.{most_values}
 use Rattle.definitions.specs.Layouts.{readings}
-use Rattle.definitions.specs.Rule as Rule
 use Rattle.definitions.specs.Run.{rule_cells}
 use Rattle.definitions.specs.RunsInTurn.{cells_in_turn}
 use Rattle.definitions.specs.ReadingSearch.{Query, value_at, value_count, readings_tried, ends_in, run_finds, first_finding, searched_by, runs_made}
 use Rattle.definitions.specs.Searched.{Found, NoValue}
 use Rattle.laws.proofs.Lists.{below_suc}
 use Rattle.laws.proofs.FirstPassing.{First, first_found}
-use Rattle.operators.proofs.Answers.{equal_bits}
-use Rattle.run.specs.declared.state.Value.{Value}
-use Rattle.run.specs.declared.state.Value.TheVariants.{Number, Constructor}
-use Rattle.run.specs.declared.state.Outcome.{Outcome}
-use Rattle.run.specs.declared.state.Outcome.TheVariants as outcomes
 use Rattle.run.specs.declared.state.State.{State}
-use Rattle.run.specs.States.{value_of, ending_of}
+use Rattle.run.specs.States.{ending_of}
 use Rattle.run.specs.NodeTable.{reading_set, readings_held, Readable}
 use Rattle.run.specs.Promise.{RunsHeld}
 use Rattle.run.proofs.ReadingEntries.{one_readable, one_held}
@@ -37,39 +30,16 @@ use Rattle.runs_in_turn.proofs.InTurn.{turn_kept, turn_cells}
 use Rattle.reading_search.specs.Search.{Triable, Tried, SearchFits, Searches}
 use Rattle.reading_search.proofs.Levels.{value_size}
 
--- a number as it is read back
-pub read_fits : {x : ℤ} → SFits w32 x → SFits w32 (to_z w32 (of_z w32 x))
-read_fits {x} f = rw (to_z-of_z w32 x f) f
-
--- how a run ended, case by case
-pub number_wanted_law : {v : Value} {z wanted : ℤ} → v ≡ Number z → SFits w32 z → SFits w32 wanted
-    → eqb (of_z w32 z) (of_z w32 wanted) ≡ ends_in wanted (Rule.value (value_of v))
-unfolding ends_in value_of
-number_wanted_law {z = z} {wanted} e f g = equal_bits w32 z wanted f g ∙ rw e refl
-
-pub constructor_unwanted : {v : Value} {k w : ℕ} (wanted : ℤ) → v ≡ Constructor k w → false ≡ ends_in wanted (Rule.value (value_of v))
-unfolding ends_in value_of
-constructor_unwanted wanted e = rw e refl
-
-pub value_wanted : {o : Outcome} {v : Value} {r : Bool} (wanted : ℤ) → o ≡ outcomes.Value v → r ≡ ends_in wanted (Rule.value (value_of v)) → r ≡ ends_in wanted (ending_of o)
-unfolding ending_of
-value_wanted wanted e h = h ∙ rw e refl
-
-pub end_unwanted : {o : Outcome} {n : ℕ} (wanted : ℤ) → o ≡ outcomes.Ended n → false ≡ ends_in wanted (ending_of o)
-unfolding ends_in ending_of
-end_unwanted wanted e = rw e refl
-
 -- one value tried
-pub tried : {b tab : List ℕ} {position i : ℕ} {z wanted : ℤ} {steps nesting cells_allowed : ℕ} {before tab' after : List ℕ} {end : State} {r : Bool}
-    → Triable b tab position nesting cells_allowed before → SFits w32 z → i ≡ position → tab' ≡ reading_set tab i z
+pub tried : {b tab : List ℕ} {position : ℕ} {z wanted : ℤ} {steps nesting cells_allowed : ℕ} {before tab' after : List ℕ} {end : State} {r : Bool}
+    → Triable b tab position nesting cells_allowed before → SFits w32 z → tab' ≡ reading_set tab position z
     → RunsHeld b tab' steps nesting cells_allowed before end after → r ≡ ends_in wanted (ending_of end.outcome)
     → Tried b tab position z wanted steps nesting cells_allowed before r tab' after
 unfolding rule_cells
-tried {b} {tab} {position} {z = z} {tab' = tab'} t f ei et run er =
-    let set_is : tab' ≡ reading_set tab position z = et ∙ rw ei refl in
-    let held : readings_held b tab' ≡ set (readings_held b tab) position z = rw set_is (one_held position z t.readable t.there f) in
+tried {b} {tab} {position} {z = z} {tab' = tab'} t f et run er =
+    let held : readings_held b tab' ≡ set (readings_held b tab) position z = rw et (one_held position z t.readable t.there f) in
     record {
-      readable = rw set_is (one_readable position z t.readable);
+      readable = rw et (one_readable position z t.readable);
       held = held;
       found = er ∙ rw (run.ends.ending, held) refl;
       cells = run.ends.bytes ∙ rw held refl;
@@ -79,33 +49,32 @@ tried_length : (rs : List ℤ) (q : Query) (i : ℕ) → length (readings_tried 
 unfolding readings_tried
 tried_length rs q i = length-set rs q.position (value_at q.lowest i)
 
--- the loop over the values, with those before the last `left` tried
-pub record Searching (b tab : List ℕ) (rs : List ℤ) (q : Query) (steps nesting cells_allowed : ℕ) (cells₀ cells : MutBor (List ℕ)) (left : ℕ) : Type 0 where
-  pub reached : left ≤ value_count q.lowest q.highest
+-- the loop over the values, with the first i tried
+pub record Searching (b tab : List ℕ) (rs : List ℤ) (q : Query) (steps nesting cells_allowed : ℕ) (cells₀ cells : MutBor (List ℕ)) (i : ℕ) : Type 0 where
+  pub reached : i ≤ value_count q.lowest q.highest
   pub readable : Readable b tab
   pub fits : SearchFits b rs q nesting cells_allowed (length cells₀.now)
   pub others : (z : ℤ) → set (readings_held b tab) q.position z ≡ set rs q.position z
-  pub ran : cells.now ≡ cells_in_turn b (readings_tried rs q) steps nesting cells_allowed (value_count q.lowest q.highest - left) cells₀.now
-  pub unfound : (i : ℕ) → i < value_count q.lowest q.highest - left → run_finds b rs q steps nesting cells_allowed i ≡ false
+  pub ran : cells.now ≡ cells_in_turn b (readings_tried rs q) steps nesting cells_allowed i cells₀.now
+  pub unfound : (j : ℕ) → j < i → run_finds b rs q steps nesting cells_allowed j ≡ false
   pub stays : cells.ref_ptr ≡ cells₀.ref_ptr
 
 module _ {b : List ℕ} {rs : List ℤ} {q : Query} {steps nesting cells_allowed : ℕ} {cells₀ : MutBor (List ℕ)} where
-  pub searching_begins : {tab : List ℕ} {count : ℕ} → SearchFits b rs q nesting cells_allowed (length cells₀.now) → Readable b tab → readings_held b tab ≡ rs
-      → count ≡ value_count q.lowest q.highest → Searching b tab rs q steps nesting cells_allowed cells₀ cells₀ count
+  pub searching_begins : {tab : List ℕ} → SearchFits b rs q nesting cells_allowed (length cells₀.now) → Readable b tab → readings_held b tab ≡ rs
+      → Searching b tab rs q steps nesting cells_allowed cells₀ cells₀ 0
   unfolding cells_in_turn
-  searching_begins fits readable held counted =
-      let none : value_count q.lowest q.highest - value_count q.lowest q.highest ≡ 0 = omega arith in
+  searching_begins fits readable held =
       record {
-        reached = omega (arith, counted);
+        reached = omega arith;
         readable = readable;
         fits = fits;
         others = λ z. rw held refl;
-        ran = rw (counted, none) refl;
-        unfound = λ i h. absurd (omega (arith, h, counted));
+        ran = refl;
+        unfound = λ j h. absurd (omega (arith, h));
         stays = refl;
       }
 
-  module _ {tab : List ℕ} {cells : MutBor (List ℕ)} {left : ℕ} (w : Searching b tab rs q steps nesting cells_allowed cells₀ cells left) where
+  module _ {tab : List ℕ} {cells : MutBor (List ℕ)} {i : ℕ} (w : Searching b tab rs q steps nesting cells_allowed cells₀ cells i) where
     abbrev count : ℕ
     count = value_count q.lowest q.highest
 
@@ -114,20 +83,15 @@ module _ {b : List ℕ} {rs : List ℤ} {q : Query} {steps nesting cells_allowed
         record {
           readable = w.readable;
           there = w.fits.there;
-          fit = rw (w.ran, turn_kept b (readings_tried rs q) steps nesting cells_allowed cells₀.now (count - left)) w.fits.fit;
+          fit = rw (w.ran, turn_kept b (readings_tried rs q) steps nesting cells_allowed cells₀.now i) w.fits.fit;
         }
 
     -- the value of the next run is one of the range
-    pub value_fits : SFits w32 q.lowest → SFits w32 q.highest → {i : ℕ} → 0 < left → i ≡ count - left → (i ≤ most_values) × SFits w32 (value_at q.lowest i)
-    value_fits f g {i} more next =
-        let inside : i < count = omega (arith, more, next, w.reached) in
-        (omega (arith, inside, w.fits.few), record { sfits = value_size 2147483648 q.lowest q.highest f.sfits g.sfits i inside })
+    pub value_fits : SFits w32 q.lowest → SFits w32 q.highest → i < count → (i ≤ most_values) × SFits w32 (value_at q.lowest i)
+    value_fits f g inside = (omega (arith, inside, w.fits.few), record { sfits = value_size 2147483648 q.lowest q.highest f.sfits g.sfits i inside })
 
-    module _ {i : ℕ} {z : ℤ} (more : 0 < left) (next : i ≡ count - left) (value : z ≡ value_at q.lowest i) {r : Bool} {tab' after : List ℕ}
+    module _ {z : ℤ} (inside : i < count) (value : z ≡ value_at q.lowest i) {r : Bool} {tab' after : List ℕ}
         (t : Tried b tab q.position z q.wanted steps nesting cells_allowed cells.now r tab' after) where
-      inside : i < count
-      inside = omega (arith, more, next, w.reached)
-
       tried_is : set (readings_held b tab) q.position z ≡ readings_tried rs q i
       unfolding readings_tried
       tried_is = w.others z ∙ rw value refl
@@ -139,7 +103,7 @@ module _ {b : List ℕ} {rs : List ℤ} {q : Query} {steps nesting cells_allowed
       one_more : after ≡ cells_in_turn b (readings_tried rs q) steps nesting cells_allowed (suc i) cells₀.now
       one_more =
           let asked : length (readings_tried rs q i) ≡ readings b = tried_length rs q i ∙ w.fits.given in
-          t.cells ∙ rw (tried_is, w.ran, ← next) refl
+          t.cells ∙ rw (tried_is, w.ran) refl
           ∙ sym (turn_cells b (readings_tried rs q) steps nesting cells_allowed cells₀.now w.readable.accepted w.fits.fit i asked)
 
       -- it is the one that is looked for
@@ -150,7 +114,7 @@ module _ {b : List ℕ} {rs : List ℤ} {q : Query} {steps nesting cells_allowed
           record {
             limit = omega (arith, inside);
             passes = λ l. sym finds ∙ h;
-            least = λ j l e. elim (dec_lt j i) [ yes k ↦ absurd (true≢false (sym e ∙ w.unfound j (omega (arith, k, next)))) | no k ↦ omega (arith, k) ];
+            least = λ j l e. elim (dec_lt j i) [ yes k ↦ absurd (true≢false (sym e ∙ w.unfound j k)) | no k ↦ omega (arith, k) ];
           } in
           let e = first_found first in
           record {
@@ -160,25 +124,23 @@ module _ {b : List ℕ} {rs : List ℤ} {q : Query} {steps nesting cells_allowed
 
       -- or the search goes on
       pub searching_goes_on : {cells' : MutBor (List ℕ)} → r ≡ false → cells'.now ≡ after → cells'.ref_ptr ≡ cells.ref_ptr
-          → Searching b tab' rs q steps nesting cells_allowed cells₀ cells' (left - 1)
+          → Searching b tab' rs q steps nesting cells_allowed cells₀ cells' (i + 1)
       searching_goes_on h e s =
-          let n : count - (left - 1) ≡ suc i = omega (arith, more, next, w.reached) in
           record {
-            reached = omega (arith, w.reached);
+            reached = omega (arith, inside);
             readable = t.readable;
             fits = w.fits;
             others = λ y. rw t.held (set-set (readings_held b tab) q.position z y ∙ w.others y);
-            ran = e ∙ one_more ∙ rw n refl;
-            unfound = λ j l. below_suc (λ m. run_finds b rs q steps nesting cells_allowed m ≡ false) i
-                (λ m k. w.unfound m (omega (arith, k, next))) (sym finds ∙ h) j (rw n at l);
+            ran = rw (add-one i) (e ∙ one_more);
+            unfound = λ j l. below_suc (λ m. run_finds b rs q steps nesting cells_allowed m ≡ false) i w.unfound (sym finds ∙ h) j (rw (add-one i) at l);
             stays = s ∙ w.stays;
           }
 
     -- no value was found
-    pub none_found : left ≤ 0 → Searches b rs q steps nesting cells_allowed cells₀.now NoValue cells.now
+    pub none_found : count ≤ i → Searches b rs q steps nesting cells_allowed cells₀.now NoValue cells.now
     unfolding first_finding searched_by runs_made
     none_found h =
-        let all : count - left ≡ count = omega (arith, h) in
+        let all : i ≡ count = omega (arith, h, w.reached) in
         let first : First count (run_finds b rs q steps nesting cells_allowed) count =
         record {
           limit = omega arith;

@@ -1,2 +1,3 @@
+pub mod Queries
 pub mod Promise
 pub mod Search

@@ -1,62 +1,32 @@
 // The runs of a search, from the lowest value on.
-ghost use Rattle.std.specs.Prelude.{◌≡◌, length};
-ghost use Rattle.definitions.specs.ReadingSearch.{query, ends_in};
-ghost use Rattle.run.specs.States.{value_of, ending_of};
-ghost use Rattle.definitions.specs.Rule.{value};
+ghost use Rattle.std.specs.Prelude.{◌≡◌, length, Ok};
+ghost use Rattle.definitions.specs.Refusals.{as_searched};
 ghost use Rattle.run.specs.NodeTable.{Readable};
+ghost use Rattle.reading_search.specs.Queries.{query_of};
 ghost use Rattle.reading_search.specs.Search.{Triable, Tried, SearchFits, Searches};
 
-use crate::values::{value_at, value_count};
-use definitions::Searched;
+use crate::query::Query;
+use allowances::Allowances;
 use run::node_table::{Table, set_reading, set_readings};
 use run::run_held;
-use run::state::{Outcome, Value};
-use widths::wide32;
-
-// Whether a value is the wanted number.
-fn is_wanted(v: Value, wanted: i32) -> bool
-    ensures { result ≡ ends_in wanted (value (value_of v)) }
-{
-    match v {
-        Value::Number(z) => z == wanted,
-        Value::Constructor {
-            node: _,
-            context: _,
-        } => false,
-    }
-}
-
-// Whether a run ends in the wanted number.
-fn ends_in(o: Outcome, wanted: i32) -> bool
-    ensures { result ≡ ends_in wanted (ending_of o) }
-{
-    match o {
-        Outcome::Value(v) => is_wanted(v, wanted),
-        Outcome::Ended(_) => false,
-    }
-}
 
 // Runs the translation that a table holds with another value for one of its readings.
 fn try_value(
     file: &[u8],
     table: &mut Table,
-    position: u32,
+    query: Query,
     z: i32,
-    wanted: i32,
-    steps: u32,
-    nesting: u32,
-    cells_allowed: u32,
+    allowances: Allowances,
     cells: &mut &mut [u8],
 ) -> bool
-    requires { Triable file.now table.old position nesting cells_allowed cells.old.now }
-    ensures { Tried file.now table.old position z wanted steps nesting cells_allowed cells.old.now result
-        table.new cells.new.now
+    requires { Triable file.now table.old query.position allowances.nesting allowances.cells cells.old.now }
+    ensures { Tried file.now table.old query.position z query.wanted allowances.steps allowances.nesting allowances.cells cells.old.now
+        result table.new cells.new.now
         × (cells.new.ref_ptr ≡ cells.old.ref_ptr) }
 {
-    set_reading(table, wide32(position), z);
-    let end = run_held(file, table, steps, nesting, cells_allowed, cells);
-    let outcome = end.outcome;
-    ends_in(outcome, wanted)
+    set_reading(table, query.position as usize, z);
+    let end = run_held(file, table, allowances, cells);
+    query.ends_in(end.outcome)
 }
 
 // Tries the values of a range in turn, up to the first with which the run ends in the wanted number.
@@ -64,41 +34,23 @@ pub(crate) fn search_range(
     file: &[u8],
     table: &mut Table,
     readings: &[i32],
-    position: u32,
-    lowest: i32,
-    highest: i32,
-    wanted: i32,
-    steps: u32,
-    nesting: u32,
-    cells_allowed: u32,
+    query: Query,
+    allowances: Allowances,
     cells: &mut &mut [u8],
-) -> Searched
+) -> Option<i32>
     requires { Readable file.now table.old
-        × SearchFits file.now readings.now (query position lowest highest wanted) nesting cells_allowed (length cells.old.now) }
-    ensures { Searches file.now readings.now (query position lowest highest wanted) steps nesting cells_allowed cells.old.now result
-        cells.new.now
+        × SearchFits file.now readings.now (query_of query) allowances.nesting allowances.cells (length cells.old.now) }
+    ensures { Searches file.now readings.now (query_of query) allowances.steps allowances.nesting allowances.cells cells.old.now
+        (as_searched (Ok result)) cells.new.now
         × (cells.new.ref_ptr ≡ cells.old.ref_ptr) }
 {
     set_readings(table, readings);
-    let count = value_count(lowest, highest);
-    let mut left = count;
-    while 0 < left {
-        let i = count - left;
-        let z = value_at(lowest, i);
-        if try_value(
-            file,
-            table,
-            position,
-            z,
-            wanted,
-            steps,
-            nesting,
-            cells_allowed,
-            cells,
-        ) {
-            return Searched::Found(z);
+    let count = query.value_count();
+    for i in 0..count {
+        let z = query.value_at(i);
+        if try_value(file, table, query, z, allowances, cells) {
+            return Some(z);
         }
-        left -= 1;
     }
-    Searched::NoValue
+    None
 }

@@ -4,7 +4,7 @@ use Prim.Native.Nat.{ℕ, zero, suc, ◌+◌, ◌/◌, ◌%◌, ◌^◌, ◌≤�
 use mathlib.Core.Bool.{Bool, true, false}
 use mathlib.Core.List.{List, [], ◌∷◌, ◌++◌}
 use native.Mathlib.Omega.{arith}
-use native.Mathlib.Nat.{not-suc-le-zero}
+use native.Mathlib.Nat.{not-suc-le-zero, mod-eq_of_lt}
 use lib.Dec.{ltb}
 use lib.IntN.{ℤ, pos, negsuc, nat_abs}
 use lib.Signed.{lt_z}
@@ -43,8 +43,8 @@ decimal_length (suc k) n h = each (λ i. decimal_length k (n / 10) i) (ltb n 10)
     each f false e = rw (decimal_more n (ltb-false n 10 e), length-append) (omega (arith, f (omega arith)))
 
 -- a digit, and a last digit after the others
-pub wrote_digit : {out : List ℕ} {at n r : ℕ} {o : List ℕ} → n < 10 → WroteBytes out at ((48 + n) ∷ []) r o → WroteBytes out at (decimal n) r o
-wrote_digit {n} h w = rw (decimal_small n h) w
+pub wrote_digit : {out : List ℕ} {at n r : ℕ} {o : List ℕ} → n < 10 → WroteBytes out at ((48 + n % 10) ∷ []) r o → WroteBytes out at (decimal n) r o
+wrote_digit {n} h w = rw (decimal_small n h) (rw (mod-eq_of_lt h) at w)
 
 pub wrote_last : {out : List ℕ} {at n m : ℕ} {o : List ℕ} {r : ℕ} {p : List ℕ} → 10 ≤ n → WroteBytes out at (decimal (n / 10)) m o
     → WroteBytes o m ((48 + n % 10) ∷ []) r p → WroteBytes out at (decimal n) r p

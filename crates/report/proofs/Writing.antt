@@ -1,19 +1,13 @@
--- Laws of writing: nothing, a byte past the end, one after the other, and one turn more of a loop.
-use mathlib.Core.Path.{◌≡◌, refl, ◌∙◌}
+-- Laws of writing: one after the other, and one turn more of a loop.
+use mathlib.Core.Path.{◌≡◌, ◌∙◌}
 use Prim.Native.Nat.{ℕ, ◌+◌, ◌≤◌, ◌<◌}
 use mathlib.Core.List.{List, [], ◌∷◌, ◌++◌}
 use native.Mathlib.Omega.{arith}
 use native.Mathlib.Numerals.{add-one}
 use lib.ListN.{length, get_or, take, length-append}
-use lib.Seq.{sets, take-suc, take_all}
+use lib.Seq.{sets, take-suc}
 use Rattle.laws.proofs.Stores.{sets_append}
 use Rattle.report.specs.Writing.{WroteBytes}
-
-pub wrote_nothing : (out : List ℕ) (at : ℕ) → WroteBytes out at [] at out
-wrote_nothing out at = record { place = λ h. omega arith; output = λ h. refl; kept = refl }
-
-pub wrote_past : {out : List ℕ} {at x : ℕ} → length out ≤ at → WroteBytes out at (x ∷ []) at out
-wrote_past h = record { place = λ k. absurd (omega arith); output = λ k. absurd (omega arith); kept = refl }
 
 module _ {out : List ℕ} {at : ℕ} {vs : List ℕ} {n : ℕ} {o ws : List ℕ} {m : ℕ} {p : List ℕ} (v : WroteBytes out at vs n o) (w : WroteBytes o n ws m p) where
   both_length : at + length (vs ++ ws) ≡ at + length vs + length ws
@@ -46,6 +40,3 @@ wrote_five v w x y z = wrote_then (wrote_then (wrote_then (wrote_then v w) x) y)
 pub wrote_more : {out : List ℕ} {at : ℕ} (word : List ℕ) {i n : ℕ} {o : List ℕ} {m : ℕ} {p : List ℕ} → WroteBytes out at (take i word) n o → i < length word
     → WroteBytes o n (get_or word i 0 ∷ []) m p → WroteBytes out at (take (i + 1) word) m p
 wrote_more word {i} v h w = rw (add-one, take-suc word i 0 h) (wrote_then v w)
-
-pub wrote_all : {out : List ℕ} {at : ℕ} {word : List ℕ} {i n : ℕ} {o : List ℕ} → WroteBytes out at (take i word) n o → length word ≤ i → WroteBytes out at word n o
-wrote_all {at} {word} {i} v h = rw (take_all i word h) at v

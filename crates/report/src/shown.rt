@@ -1,57 +1,66 @@
 // What a line shows of an outcome.
-ghost use Rattle.std.specs.Prelude.{◌≡◌, nat_abs};
-ghost use Rattle.report.specs.Writing.{ShownOf};
+ghost use Rattle.std.specs.Prelude.{pos};
+ghost use Rattle.report.specs.Writing.{IsSigned, ShownOf};
 
 use answer::Outcome;
 use definitions::numbers::{CONSTRUCTOR, NUMBER};
 
-// The outcome's number, and the sign and the size of its value.
+// A number by its sign and its size, which is how far it is from zero.
 #[derive(Clone, Copy)]
-pub(crate) struct Shown {
-    pub number: u16,
+pub(crate) struct Signed {
     pub negative: bool,
     pub size: usize,
 }
 
-// How far a number is from zero. The lowest number's size has 32 bits, so a negative number goes through 64.
-fn magnitude(x: i32) -> usize
-    ensures { result ≡ nat_abs x }
-{
-    if x < 0 {
-        (0 - x as i64) as usize
-    } else {
-        x as usize
+impl From<i32> for Signed {
+    ghost from_gives = { IsSigned };
+
+    fn from(x: i32) -> Signed {
+        Signed {
+            negative: x < 0,
+            size: x.unsigned_abs() as usize,
+        }
     }
 }
 
-// Number, sign and size of an outcome.
+impl From<usize> for Signed {
+    ghost from_gives = { λ n s. IsSigned (pos n) s };
+
+    fn from(size: usize) -> Signed {
+        Signed {
+            negative: false,
+            size,
+        }
+    }
+}
+
+// The outcome's number, and its value.
+#[derive(Clone, Copy)]
+pub(crate) struct Shown {
+    pub number: u16,
+    pub value: Signed,
+}
+
+// Number and value of an outcome.
 pub(crate) fn show(o: Outcome) -> Shown
     ensures { ShownOf o result }
 {
     match o {
         Outcome::Number(value) => Shown {
             number: NUMBER,
-            negative: value < 0,
-            size: magnitude(value),
+            value: Signed::from(value),
         },
-        Outcome::Constructor {
-            tag,
-            node: _,
-            context: _,
-        } => Shown {
+        Outcome::Constructor { tag, .. } => Shown {
             number: CONSTRUCTOR,
-            negative: false,
-            size: tag as usize,
+            value: Signed::from(usize::from(tag)),
         },
         Outcome::Ended(number) => Shown {
             number,
-            negative: false,
-            size: 0,
+            value: Signed::from(0usize),
         },
         Outcome::Refused { number, place } => Shown {
             number,
-            negative: false,
-            size: place,
+            value: Signed::from(place),
         },
     }
 }

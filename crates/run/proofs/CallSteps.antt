@@ -23,12 +23,12 @@ use Rattle.definitions.specs.declared.Layout.TheVariants.{Translation}
 use Rattle.definitions.specs.LiveCells.{live_after}
 use Rattle.cells.specs.LentCells.{cell_added}
 use Rattle.live_counts.specs.Counts.{call_opened, gives_back, call_closed}
+use Rattle.live_counts.specs.declared.Counts.{Counts}
 use Rattle.lent_rule.specs.Lent.{Lent, with_lent_cell, closing_lent, closed_lent, call_by_lent, by_lent}
 use Rattle.lent_rule.proofs.NodeNumbers.{call_label, call_function}
 use Rattle.lent_rule.proofs.Stands.{added_stands}
-use Rattle.run.specs.declared.state.Outcome.{Outcome}
 use Rattle.run.specs.NodeTable.{first_part, second_part, third_part}
-use Rattle.run.specs.Packed.{outcome_in}
+use Rattle.run.specs.Packed.{Outcome, outcome_in}
 use Rattle.run.specs.States.{below, above, value_of, ending_of, state_of, counted_state, reached_of, visits, evaluates, NodeIs, InContext, Visitable, Visits, Evaluates}
 use Rattle.run.proofs.Packing.{outcome_number, outcome_constructor, outcome_ended}
 use Rattle.run.proofs.Remembered.{Held, a_number, a_constructor, an_end, held}
@@ -59,37 +59,37 @@ live_by_kind x own oldest before live (a_constructor q) = rw (outcome_constructo
 live_by_kind x own oldest before live (an_end n m) = rw (outcome_ended x n m, ne_eqb (x % 65536) 1 n) refl
 
 -- what a visit under its cell reached, with the call closed
-closed_reached : (live oldest x : ℕ) (counts bytes : List ℕ)
+closed_reached : (live oldest x : ℕ) (counts : Counts) (bytes : List ℕ)
     → reached_of x (call_closed live oldest (x % 65536) counts) bytes ≡ closed_lent live oldest (reached_of x counts bytes)
 unfolding reached_of reach state_of call_closed closed_lent closing_lent
-closed_reached live oldest x counts bytes = rw (live_by_kind x (suc live) (get_or counts 3 0) live (get_or counts 1 0) (held x)) refl
+closed_reached live oldest x counts bytes = rw (live_by_kind x (suc live) counts.oldest live counts.live (held x)) refl
 
 -- its cell was added: what remains is the visit of node k under it, and the call is closed
-pub record BodyDue (b tab : List ℕ) (t limits at : ℕ) (counts : List ℕ) (cells : MutBor (List ℕ)) (counts' : List ℕ) (cells' : MutBor (List ℕ)) (k : ℕ) : Type 0 where
+pub record BodyDue (b tab : List ℕ) (t limits at : ℕ) (counts : Counts) (cells : MutBor (List ℕ)) (counts' : Counts) (cells' : MutBor (List ℕ)) (k : ℕ) : Type 0 where
   pub remains : Remains b tab t limits at counts cells counts' cells'
-      (λ rs. closed_lent (get_or counts 1 0) (get_or counts 3 0) (visits b rs (above limits) (below limits) k (get_or counts 1 0 + 1) (counted_state counts' cells'.now)))
+      (λ rs. closed_lent counts.live counts.oldest (visits b rs (above limits) (below limits) k (counts.live + 1) (counted_state counts' cells'.now)))
   pub there : k < nodes b
-  pub written : get_or counts 1 0 + 1 ≤ get_or counts' 2 0
+  pub written : counts.live + 1 ≤ counts'.most
 
 -- the lent bytes and the counts are told by equations of which they are the left sides
-abbrev pub BodyBy : {b tab : List ℕ} {t limits at : ℕ} {counts bytes : List ℕ} → Asked b tab t limits at counts bytes kinds.call → MutBor (List ℕ)
-    → {list added : List ℕ} → list ≡ added → {counts' opened : List ℕ} → counts' ≡ opened → ℕ → Type 0
+abbrev pub BodyBy : {b tab : List ℕ} {t limits at : ℕ} {counts : Counts} {bytes : List ℕ} → Asked b tab t limits at counts bytes kinds.call → MutBor (List ℕ)
+    → {list added : List ℕ} → list ≡ added → {counts' opened : Counts} → counts' ≡ opened → ℕ → Type 0
 BodyBy {b} {tab} {t} {limits} {at} {counts} a cells {list} e {counts'} f k =
     BodyDue b tab t limits at counts cells counts' (record { ref_ptr = cells.ref_ptr; ghost_name = cells.ghost_name; now = list }) k
 
 -- there is room for its cell
-pub live_below : {b tab : List ℕ} {t limits at : ℕ} {counts bytes : List ℕ} → Asked b tab t limits at counts bytes kinds.call
-    → get_or counts 1 0 < above limits → get_or counts 1 0 < most_cells
+pub live_below : {b tab : List ℕ} {t limits at : ℕ} {counts : Counts} {bytes : List ℕ} → Asked b tab t limits at counts bytes kinds.call
+    → counts.live < above limits → counts.live < most_cells
 live_below a l = let ceiling = a.1.context.standing.ceiling in omega arith
 
-module _ {b tab : List ℕ} {t limits at : ℕ} {counts : List ℕ} (cells : MutBor (List ℕ)) (a : Asked b tab t limits at counts cells.now kinds.call) where
-  pub call_ends : {x : ℕ} {o : Outcome} → above limits ≤ get_or counts 1 0 → outcome_in x ≡ o → ending_of o ≡ ended no_cell
+module _ {b tab : List ℕ} {t limits at : ℕ} {counts : Counts} (cells : MutBor (List ℕ)) (a : Asked b tab t limits at counts cells.now kinds.call) where
+  pub call_ends : {x : ℕ} {o : Outcome} → above limits ≤ counts.live → outcome_in x ≡ o → ending_of o ≡ ended no_cell
       → Evaluates b tab limits at counts cells x counts cells
   unfolding where_cell state_of
-  call_ends l = node_ends a.1 (λ rs h. call_as b rs limits at _ a.1.node ∙ rw (le-ltb (get_or counts 1 0) (above limits) l) refl)
+  call_ends l = node_ends a.1 (λ rs h. call_as b rs limits at _ a.1.node ∙ rw (le-ltb counts.live (above limits) l) refl)
 
-  module _ {list counts' : List ℕ} {label callee : ℕ} (l : get_or counts 1 0 < above limits) (el : label ≡ field (node_record b (below at)) 0)
-      (ec : callee ≡ field (node_record b (below at)) 1) (added : list ≡ cell_added cells.now (get_or counts 1 0) label (above at) callee)
+  module _ {list : List ℕ} {counts' : Counts} {label callee : ℕ} (l : counts.live < above limits) (el : label ≡ field (node_record b (below at)) 0)
+      (ec : callee ≡ field (node_record b (below at)) 1) (added : list ≡ cell_added cells.now counts.live label (above at) callee)
       (opened : counts' ≡ call_opened counts) where
     opened_context : InContext b (above limits) (above at) counts' list
     unfolding call_opened
@@ -100,60 +100,57 @@ module _ {b tab : List ℕ} {t limits at : ℕ} {counts : List ℕ} (cells : Mut
         let p : label < 65536 = rw el (call_label b bytes (below at) _ _ is) in
         let q : callee < 65536 = rw ec (call_function b bytes (below at) _ _ is) in
         record {
-          size = rw opened refl;
           standing = rw (opened, added) (added_stands c.standing label (above at) callee l p q c.written);
-          written = rw opened (le_trans c.written (le-max_left (get_or counts 2 0) (suc (get_or counts 1 0))));
+          written = rw opened (le_trans c.written (le-max_left counts.most (suc counts.live)));
         }
 
     opened_same : {k : ℕ} → k ≡ body_of Translation b (field (node_record b (below at)) 1) → (rs : List ℤ)
         → evaluates b rs (above limits) (below limits) (below at) (above at) (counted_state counts cells.now)
-        ≡ closed_lent (get_or counts 1 0) (get_or counts 3 0)
-        (visits b rs (above limits) (below limits) k (get_or counts 1 0 + 1) (counted_state counts' list))
+        ≡ closed_lent counts.live counts.oldest
+        (visits b rs (above limits) (below limits) k (counts.live + 1) (counted_state counts' list))
     unfolding where_cell state_of with_lent_cell call_opened
     opened_same e rs =
         call_as b rs limits at _ a.1.node
-        ∙ rw (lt-ltb (get_or counts 1 0) (above limits) l, opened, added, el, ec, e, add-one (get_or counts 1 0)) refl
+        ∙ rw (lt-ltb counts.live (above limits) l, opened, added, el, ec, e, add-one counts.live) refl
 
-  pub body_due : {list counts' : List ℕ} {e x label callee k : ℕ} → get_or counts 1 0 < above limits
-      → e ≡ get_or tab (below at) 0 → x ≡ get_or counts 1 0 → label ≡ first_part e → callee ≡ second_part e → k ≡ third_part e
-      → (added : list ≡ cell_added cells.now x label (above at) callee) (opened : counts' ≡ call_opened counts) → BodyBy a cells added opened k
+  pub body_due : {list : List ℕ} {counts' : Counts} {e label callee k : ℕ} → counts.live < above limits
+      → e ≡ get_or tab (below at) 0 → label ≡ first_part e → callee ≡ second_part e → k ≡ third_part e
+      → (added : list ≡ cell_added cells.now counts.live label (above at) callee) (opened : counts' ≡ call_opened counts) → BodyBy a cells added opened k
   unfolding call_opened
-  body_due {list} {label = label} {callee = callee} l f ex el ec ek added opened =
+  body_due {list} {label = label} {callee = callee} l f el ec ek added opened =
       let body = body_read a.1 f ek in
-      let first = first_read a.1 f (λ q. omega (arith, q)) el in
+      let first = first_read a.1.equipped a.1.node f (λ q. omega (arith, q)) el in
       let second = callee_read a.1 f ec in
-      let at_live : list ≡ cell_added cells.now (get_or counts 1 0) label (above at) callee = added ∙ rw ex refl in
       let falls = asked_falls a in
       record {
         remains = record {
           equipped = a.1.equipped;
-          same = λ rs h. opened_same l first second at_live opened body rs;
+          same = λ rs h. opened_same l first second added opened body rs;
           falls = rw opened falls;
-          context = opened_context l first second at_live opened;
+          context = opened_context l first second added opened;
           stays = refl;
         };
         there = body_child a.1.equipped.accepted a.1.node body;
-        written = rw (opened, add-one (get_or counts 1 0)) (le-max_right (get_or counts 2 0) (suc (get_or counts 1 0)));
+        written = rw (opened, add-one counts.live) (le-max_right counts.most (suc counts.live));
       }
 
-module _ {b tab : List ℕ} {t limits at : ℕ} {counts : List ℕ} {cells : MutBor (List ℕ)} {counts' : List ℕ} {cells' : MutBor (List ℕ)} {k p : ℕ}
-    (r : BodyDue b tab t limits at counts cells counts' cells' k) (e : (below p ≡ k) × (above p ≡ get_or counts 1 0 + 1)) where
+module _ {b tab : List ℕ} {t limits at : ℕ} {counts : Counts} {cells : MutBor (List ℕ)} {counts' : Counts} {cells' : MutBor (List ℕ)} {k p : ℕ}
+    (r : BodyDue b tab t limits at counts cells counts' cells' k) (e : (below p ≡ k) × (above p ≡ counts.live + 1)) where
   -- what the visit of the body asks
-  pub body_asked : (2 * get_or counts' 0 0 < t) × Visitable b tab limits p counts' cells'.now
+  pub body_asked : (2 * counts'.left < t) × Visitable b tab limits p counts' cells'.now
   body_asked = (r.remains.falls, visitable_at e r.remains.equipped r.there (at_context r.remains.context r.written))
 
   -- what it gives is returned, with the call closed
-  pub body_returned : {x kind : ℕ} {counts'' counts''' : List ℕ} {cells'' : MutBor (List ℕ)} → Visits b tab limits p counts' cells' x counts'' cells''
-      → kind ≡ x % 65536 → counts''' ≡ call_closed (get_or counts 1 0) (get_or counts 3 0) kind counts''
+  pub body_returned : {x kind : ℕ} {counts'' counts''' : Counts} {cells'' : MutBor (List ℕ)} → Visits b tab limits p counts' cells' x counts'' cells''
+      → kind ≡ x % 65536 → counts''' ≡ call_closed counts.live counts.oldest kind counts''
       → Evaluates b tab limits at counts cells x counts''' cells''
   unfolding call_closed
   body_returned {x} {counts'' = counts''} {cells'' = cells''} v ek closed =
       record {
         same = λ rs h.
-            ap (λ (c : List ℕ). reached_of x c cells''.now) (closed ∙ ap (λ (n : ℕ). call_closed (get_or counts 1 0) (get_or counts 3 0) n counts'') ek)
-            ∙ closed_reached (get_or counts 1 0) (get_or counts 3 0) x counts'' cells''.now
-            ∙ ap (closed_lent (get_or counts 1 0) (get_or counts 3 0)) (visits_at e v rs h)
+            ap (λ (c : Counts). reached_of x c cells''.now) (closed ∙ ap (λ (n : ℕ). call_closed counts.live counts.oldest n counts'') ek)
+            ∙ closed_reached counts.live counts.oldest x counts'' cells''.now
+            ∙ ap (closed_lent counts.live counts.oldest) (visits_at e v rs h)
             ∙ sym (r.remains.same rs h);
-        size = rw closed refl;
         stays = v.stays ∙ r.remains.stays;
       }

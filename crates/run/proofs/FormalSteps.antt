@@ -11,6 +11,7 @@ use lib.ListN.{get_or}
 use lib.Dec.{eqb, ltb}
 use borrow.Author.Tests.{eq-eqb, ne_eqb}
 use denote.MutBor.{MutBor}
+use Rattle.std.specs.Prelude.{Some, None}
 use Rattle.definitions.specs.Numbers.{no_actual}
 use Rattle.definitions.specs.TranslationKinds as kinds
 use Rattle.definitions.specs.Bytes.{word}
@@ -24,14 +25,12 @@ use Rattle.definitions.specs.Rule.{Reached, ended, node_due, evaluated}
 use Rattle.definitions.specs.Cells.{recalled}
 use Rattle.cells.specs.LentCells.{callee_at, entry_number, entry_of}
 use Rattle.live_counts.specs.Counts.{constructor_noted}
+use Rattle.live_counts.specs.declared.Counts.{Counts}
 use Rattle.lent_rule.specs.Lent.{Lent, under_lent, formal_by_lent, by_lent}
 use Rattle.lent_rule.proofs.Stands.{previous_made}
-use Rattle.run.specs.declared.state.Outcome.{Outcome}
-use Rattle.run.specs.declared.look_up.Found.{Found}
-use Rattle.run.specs.declared.look_up.Found.TheVariants.{Node, Nothing}
 use Rattle.run.specs.NodeTable.{first_part, second_part, third_part}
-use Rattle.run.specs.Packed.{outcome_in, is_value_in}
-use Rattle.run.specs.States.{below, above, ending_of, found_of, state_of, reached_of, counted_state, visits, evaluates, bytes_remembering}
+use Rattle.run.specs.Packed.{Outcome, outcome_in, is_value_in}
+use Rattle.run.specs.States.{Found, below, above, ending_of, found_of, state_of, reached_of, counted_state, visits, evaluates, bytes_remembering}
 use Rattle.run.specs.States.{NodeIs, Visitable, Visits, Evaluates}
 use Rattle.run.proofs.NodeKinds.{is_formal}
 use Rattle.run.proofs.Endings.{node_missing, node_there}
@@ -69,7 +68,7 @@ module _ (b : List ℕ) (rs : List ℤ) (limits at : ℕ) (s : Rule.State Lent) 
       formal_as h
       ∙ rw (ne_eqb (above at) 0 z, ← ef, ← ei, ← eo) (own_or_not own (above at) i (entry_number s.store.bytes (above at) i) s actual_visit)
 
-module _ {b tab : List ℕ} {t limits at : ℕ} {counts : List ℕ} {cells : MutBor (List ℕ)} (a : Asked b tab t limits at counts cells.now kinds.formal) where
+module _ {b tab : List ℕ} {t limits at : ℕ} {counts : Counts} {cells : MutBor (List ℕ)} (a : Asked b tab t limits at counts cells.now kinds.formal) where
   -- under the empty context
   pub formal_ends : {x : ℕ} {o : Outcome} → above at ≡ 0 → outcome_in x ≡ o → ending_of o ≡ ended no_actual
       → Evaluates b tab limits at counts cells x counts cells
@@ -77,7 +76,7 @@ module _ {b tab : List ℕ} {t limits at : ℕ} {counts : List ℕ} {cells : Mut
   formal_ends z = node_ends a.1 (λ rs h. formal_as b rs limits at _ a.1.node ∙ rw (eq-eqb (above at) 0 z) refl)
 
 -- the formal's cell was read, which left the lent bytes: whether the cell is the formal's own, and the number of its entry there
-pub record CellRead (b tab : List ℕ) (t limits at : ℕ) (counts : List ℕ) (cells : MutBor (List ℕ)) (own : Bool) (i known : ℕ) (list : List ℕ) : Type 0 where
+pub record CellRead (b tab : List ℕ) (t limits at : ℕ) (counts : Counts) (cells : MutBor (List ℕ)) (own : Bool) (i known : ℕ) (list : List ℕ) : Type 0 where
   pub asked : Asked b tab t limits at counts cells.now kinds.formal
   pub head : above at ≡ 0 → ⊥
   pub kept : list ≡ cells.now
@@ -86,23 +85,23 @@ pub record CellRead (b tab : List ℕ) (t limits at : ℕ) (counts : List ℕ) (
       ≡ recalled (entry_of known) (counted_state counts list) (remembered_where own (above at) i (actual_visit b rs limits at (counted_state counts list)))
 
 -- its actual was sought: what remains is the visit of the node that was found, or a fault, and a value is remembered
-pub record ActualSought (b tab : List ℕ) (t limits at : ℕ) (counts : List ℕ) (cells : MutBor (List ℕ)) (own : Bool) (i tail : ℕ) (cells' : MutBor (List ℕ)) (o : Found) : Type 0 where
+pub record ActualSought (b tab : List ℕ) (t limits at : ℕ) (counts : Counts) (cells : MutBor (List ℕ)) (own : Bool) (i tail : ℕ) (cells' : MutBor (List ℕ)) (o : Found) : Type 0 where
   pub remains : Remains b tab t limits at counts cells counts cells'
       (λ rs. remembered_where own (above at) i (node_due (found_of o) no_actual (counted_state counts cells'.now)
       (λ k. visits b rs (above limits) (below limits) k tail (counted_state counts cells'.now))))
-  pub there : {k : ℕ} → o ≡ Node k → k < nodes b
-  pub written : tail ≤ get_or counts 2 0
+  pub there : {k : ℕ} → o ≡ Some k → k < nodes b
+  pub written : tail ≤ counts.most
 
 -- lent bytes behind a slice
 abbrev pub behind : MutBor (List ℕ) → List ℕ → MutBor (List ℕ)
 behind cells list = record { ref_ptr = cells.ref_ptr; ghost_name = cells.ghost_name; now = list }
 
 -- the lent bytes are told by an equation of which they are the left side
-abbrev pub ReadBy : {b tab : List ℕ} {t limits at : ℕ} {counts bytes : List ℕ} → Asked b tab t limits at counts bytes kinds.formal → MutBor (List ℕ)
+abbrev pub ReadBy : {b tab : List ℕ} {t limits at : ℕ} {counts : Counts} {bytes : List ℕ} → Asked b tab t limits at counts bytes kinds.formal → MutBor (List ℕ)
     → Bool → ℕ → ℕ → {list first : List ℕ} → list ≡ first → Type 0
 ReadBy {b} {tab} {t} {limits} {at} {counts} a cells own i known {list} e = CellRead b tab t limits at counts cells own i known list
 
-module _ {b tab : List ℕ} {t limits at : ℕ} {counts : List ℕ} {cells : MutBor (List ℕ)} where
+module _ {b tab : List ℕ} {t limits at : ℕ} {counts : Counts} {cells : MutBor (List ℕ)} where
   pub cell_read : {e place known : ℕ} {own : Bool} {first list : List ℕ} → Asked b tab t limits at counts cells.now kinds.formal → (above at ≡ 0 → ⊥)
       → e ≡ get_or tab (below at) 0 → place ≡ first_part e → (own ≡ eqb (place / 8) (callee_at cells.now (above at))) × (first ≡ cells.now)
       → (known ≡ cond own (entry_number first (above at) (place % 8)) 0) × (list ≡ first)
@@ -126,7 +125,6 @@ module _ {b tab : List ℕ} {t limits at : ℕ} {counts : List ℕ} {cells : Mut
     known_returned h =
         record {
           same = λ rs q. sym (value_recalled known (counted_state counts list) _ h) ∙ sym (r.recalls rs) ∙ rw r.kept refl;
-          size = r.asked.1.context.size;
           stays = refl;
         }
 
@@ -159,19 +157,19 @@ module _ {b tab : List ℕ} {t limits at : ℕ} {counts : List ℕ} {cells : Mut
           written = rw (read.1 ∙ ap (λ (l : List ℕ). previous_at l (above at)) r.kept) (previous_made context.standing (above at) head context.written);
         }
 
-module _ {b tab : List ℕ} {t limits at : ℕ} {counts : List ℕ} {cells : MutBor (List ℕ)} {own : Bool} {i tail : ℕ} {cells' : MutBor (List ℕ)} {o : Found}
+module _ {b tab : List ℕ} {t limits at : ℕ} {counts : Counts} {cells : MutBor (List ℕ)} {own : Bool} {i tail : ℕ} {cells' : MutBor (List ℕ)} {o : Found}
     (s : ActualSought b tab t limits at counts cells own i tail cells' o) where
   -- there is none
-  pub actual_missed : {x : ℕ} {q : Outcome} → o ≡ Nothing → outcome_in x ≡ q → ending_of q ≡ ended no_actual → Evaluates b tab limits at counts cells x counts cells'
+  pub actual_missed : {x : ℕ} {q : Outcome} → o ≡ None → outcome_in x ≡ q → ending_of q ≡ ended no_actual → Evaluates b tab limits at counts cells x counts cells'
   actual_missed e = remains_ends (remains_as s.remains (λ rs. ap (remembered_where own (above at) i) (node_missing no_actual _ _ e) ∙ end_kept own (above at) i no_actual _))
 
-  module _ {k p : ℕ} (e : o ≡ Node k) (q : (below p ≡ k) × (above p ≡ tail)) where
+  module _ {k p : ℕ} (e : o ≡ Some k) (q : (below p ≡ k) × (above p ≡ tail)) where
     -- what its visit asks
-    pub actual_asked : (2 * get_or counts 0 0 < t) × Visitable b tab limits p counts cells'.now
+    pub actual_asked : (2 * counts.left < t) × Visitable b tab limits p counts cells'.now
     actual_asked = (s.remains.falls, visitable_at q s.remains.equipped (s.there e) (at_context s.remains.context s.written))
 
     -- what it gives is returned, and remembered
-    pub actual_returned : {x kind : ℕ} {counts'' counts''' list : List ℕ} {cells'' : MutBor (List ℕ)} → Visits b tab limits p counts cells' x counts'' cells''
+    pub actual_returned : {x kind : ℕ} {counts'' counts''' : Counts} {list : List ℕ} {cells'' : MutBor (List ℕ)} → Visits b tab limits p counts cells' x counts'' cells''
         → list ≡ bytes_remembering own cells''.now (above at) i (ending_of (outcome_in x))
         → kind ≡ x % 65536 → counts''' ≡ constructor_noted own (above at) kind counts''
         → Evaluates b tab limits at counts cells x counts''' (behind cells'' list)
@@ -182,6 +180,5 @@ module _ {b tab : List ℕ} {t limits at : ℕ} {counts : List ℕ} {cells : Mut
               rw (el, ec, ek) (reached_remembered own (above at) i x counts'' cells''.now)
               ∙ ap (remembered_where own (above at) i) (visits_at q v rs h ∙ sym (node_there no_actual _ _ e))
               ∙ sym (s.remains.same rs h);
-          size = rw ec refl;
           stays = v.stays ∙ s.remains.stays;
         }

@@ -7,6 +7,7 @@ pub mod NodeKinds
 pub mod Steps
 pub mod Counting
 pub mod Nodes
+pub mod Choices
 pub mod Remains
 pub mod Operands
 pub mod Visiting
@@ -14,7 +15,6 @@ pub mod SimpleSteps
 pub mod CallSteps
 pub mod FormalSteps
 pub mod NumberSteps
-pub mod ConstructorSteps
 pub mod Answering
 pub mod Places
 pub mod Entries

@@ -1,14 +1,14 @@
 -- The nodes that a visit goes on to are there, the steps left fall, and a constructor that it gives is a tuple's.
 use mathlib.Core.Path.{◌≡◌}
-use Prim.Native.Nat.{ℕ, ◌+◌, ◌*◌, ◌-◌, ◌≤◌, ◌<◌}
+use Prim.Native.Nat.{ℕ, ◌*◌, ◌≤◌, ◌<◌}
 use mathlib.Core.List.{List}
 use mathlib.Core.Bool.{cond}
 use native.Mathlib.Omega.{arith}
 use native.Mathlib.Nat.{le_trans}
 use lib.IntN.{ℤ}
-use lib.ListN.{get_or, get_elem?, length, set}
-use lib.Seq.{get_or-set_same}
+use lib.ListN.{get_elem?}
 use denote.MutBor.{MutBor}
+use Rattle.std.specs.Prelude.{Some}
 use Rattle.definitions.specs.TranslationKinds as kinds
 use Rattle.definitions.specs.Records.{field}
 use Rattle.definitions.specs.Operators.{is_zero}
@@ -23,22 +23,14 @@ use Rattle.accepted.proofs.Owners.{body_below}
 use Rattle.accepted.proofs.Checks.{translation_shape}
 use Rattle.accepted.proofs.TranslationNames.{formal_below, translation_call_below, actual_below}
 use Rattle.laws.proofs.ByteFiles.{Bytes}
+use Rattle.live_counts.specs.declared.Counts.{Counts}
 use Rattle.lent_rule.specs.Standing.{TupleAt, NarrowReadings, Standing, Inside, Good}
 use Rattle.lent_rule.proofs.Tuples.{member_below, clause_below, branch_below}
 use Rattle.lent_rule.proofs.Good.{visit_good}
-use Rattle.run.specs.declared.state.Value.TheVariants.{Constructor}
-use Rattle.run.specs.declared.state.Outcome.TheVariants as outcomes
-use Rattle.run.specs.declared.look_up.Found.{Found}
-use Rattle.run.specs.declared.look_up.Found.TheVariants.{Node}
 use Rattle.run.specs.Packed.{outcome_in}
-use Rattle.run.specs.States.{below, above, found_of, ending_of, value_of, state_of, lent_of, counted_state, reached_of, NodeIs, visits, Equipped, InContext, Visits}
+use Rattle.run.specs.States.{Found, below, above, found_of, ending_of, state_of, lent_of, counted_state, reached_of, NodeIs, visits, Equipped, InContext, Visits}
 use Rattle.run.proofs.Endings.{found_some}
 use Rattle.run.proofs.NodeKinds.{is_formal, is_conditional, is_call, is_case_law}
-
--- the measures: two for each step left, and one more at the function of a kind
-pub falls_set : (counts : List ℕ) {t : ℕ} → length counts ≡ 4 → (get_or counts 0 0 ≡ 0 → ⊥) → 2 * get_or counts 0 0 ≡ t
-    → 2 * get_or (set counts 0 (get_or counts 0 0 - 1)) 0 0 + 1 < t
-falls_set counts size h e = rw (get_or-set_same counts 0 (get_or counts 0 0 - 1) 0 (omega arith)) (omega arith)
 
 pub falls_on : {l left t : ℕ} → l ≤ left → 2 * left < t → 2 * l < t
 falls_on h e = omega arith
@@ -53,33 +45,33 @@ module _ {b rec : List ℕ} {k x : ℕ} (accepted : translation_verdict b ≡ Ac
 
   module _ {o : Found} where
     pub actual_child : (label : ℕ) → NodeIs b rec k kinds.formal
-        → found_of o ≡ get_elem? (fields_from (item_record Translation b (field rec 0)) 0) label → o ≡ Node x → x < nodes b
+        → found_of o ≡ get_elem? (fields_from (item_record Translation b (field rec 0)) 0) label → o ≡ Some x → x < nodes b
     unfolding actual
     actual_child label h e f =
         actual_below b accepted (field rec 0) label (formal_below b accepted k h.below (is_formal h)) (found_some e f)
 
-    pub clause_child : (tag : ℕ) → NodeIs b rec k kinds.case_of → found_of o ≡ chosen (clause_list rec) tag → o ≡ Node x → x < nodes b
+    pub clause_child : (tag : ℕ) → NodeIs b rec k kinds.case_of → found_of o ≡ chosen (clause_list rec) tag → o ≡ Some x → x < nodes b
     clause_child tag h e f = clause_below b accepted k (field rec 0) tag x (clause_list rec) h.below (is_case_law h) (found_some e f)
 
 pub member_child : {b : List ℕ} {k x : ℕ} {o : Found} (i : ℕ) → translation_verdict b ≡ Accepted → TupleAt b k
-    → found_of o ≡ get_elem? (fields_from (node_record b k) 1) i → o ≡ Node x → x < nodes b
+    → found_of o ≡ get_elem? (fields_from (node_record b k) 1) i → o ≡ Some x → x < nodes b
 unfolding tuple_fields
 member_child {b} {k} {x} i accepted t e f = member_below b accepted k i x t (found_some e f)
 
 -- after a visit, from lent bytes that hold cells in order
 module _ (b : List ℕ) (accepted : translation_verdict b ≡ Accepted) (bytes : Bytes b) (rs : List ℤ) (narrow : NarrowReadings rs)
-    (cells_allowed n k w : ℕ) (counts before : List ℕ) (x : ℕ) (counts' during : List ℕ) (below : k < nodes b)
-    (stands : Standing b cells_allowed (lent_of counts before)) (context : w ≤ get_or counts 2 0)
+    (cells_allowed n k w : ℕ) (counts : Counts) (before : List ℕ) (x : ℕ) (counts' : Counts) (during : List ℕ) (below : k < nodes b)
+    (stands : Standing b cells_allowed (lent_of counts before)) (context : w ≤ counts.most)
     (g : reached_of x counts' during ≡ visits b rs cells_allowed n k w (counted_state counts before)) where
-  reached_good : Good b cells_allowed (get_or counts 0 0) (get_or counts 2 0) (reached_of x counts' during)
+  reached_good : Good b cells_allowed counts.left counts.most (reached_of x counts' during)
   unfolding visits state_of
   reached_good = rw (← g) at (visit_good b accepted bytes rs narrow cells_allowed n k w (counted_state counts before) stands below context)
 
-  reached_falls : get_or counts' 0 0 ≤ get_or counts 0 0
+  reached_falls : counts'.left ≤ counts.left
   unfolding reached_of reach state_of
   reached_falls = reached_good.falls
 
-  reached_grows : get_or counts 2 0 ≤ get_or counts' 2 0
+  reached_grows : counts.most ≤ counts'.most
   unfolding reached_of reach state_of
   reached_grows = reached_good.grows
 
@@ -87,38 +79,33 @@ module _ (b : List ℕ) (accepted : translation_verdict b ≡ Accepted) (bytes :
   unfolding reached_of reach state_of
   reached_stands = reached_good.standing
 
-  reached_inside : Inside b (get_or counts' 2 0) (ending_of (outcome_in x))
+  reached_inside : Inside b counts'.most (ending_of (outcome_in x))
   unfolding reached_of reach state_of
   reached_inside = reached_good.inside
 
-  reached_tuple : (m u : ℕ) → outcome_in x ≡ outcomes.Value (Constructor m u) → TupleAt b m × (u ≤ get_or counts' 2 0)
-  unfolding ending_of value_of
-  reached_tuple m u e = rw e at reached_inside
-
-module _ {b tab : List ℕ} {limits p k w : ℕ} {counts : List ℕ} {cells : MutBor (List ℕ)} {x : ℕ} {counts' : List ℕ} {cells' : MutBor (List ℕ)}
+module _ {b tab : List ℕ} {limits p k w : ℕ} {counts : Counts} {cells : MutBor (List ℕ)} {x : ℕ} {counts' : Counts} {cells' : MutBor (List ℕ)}
     (q : Equipped b tab) (at : (below p ≡ k) × (above p ≡ w)) (there : k < nodes b) (c : InContext b (above limits) w counts cells.now)
     (v : Visits b tab limits p counts cells x counts' cells') where
   here : below p < nodes b
   here = rw at.0 there
 
-  under : above p ≤ get_or counts 2 0
+  under : above p ≤ counts.most
   under = rw at.1 c.written
 
-  pub visit_falls : get_or counts' 0 0 ≤ get_or counts 0 0
+  pub visit_falls : counts'.left ≤ counts.left
   visit_falls =
       reached_falls b q.accepted q.bytes q.readings q.narrow _ _ _ _ counts _ x _ _ here c.standing under (v.same q.readings q.held)
 
   -- what an earlier context stands in
-  pub visit_context : {u : ℕ} → u ≤ get_or counts 2 0 → InContext b (above limits) u counts' cells'.now
+  pub visit_context : {u : ℕ} → u ≤ counts.most → InContext b (above limits) u counts' cells'.now
   visit_context h =
       let same = v.same q.readings q.held in
       let grows = reached_grows b q.accepted q.bytes q.readings q.narrow _ _ _ _ counts _ x _ _ here c.standing under same in
       record {
-        size = v.size;
         standing = reached_stands b q.accepted q.bytes q.readings q.narrow _ _ _ _ counts _ x _ _ here c.standing under same;
         written = le_trans h grows;
       }
 
-  pub visit_tuple : {m u : ℕ} → outcome_in x ≡ outcomes.Value (Constructor m u) → TupleAt b m × (u ≤ get_or counts' 2 0)
-  visit_tuple e =
-      reached_tuple b q.accepted q.bytes q.readings q.narrow _ _ _ _ counts _ x _ _ here c.standing under (v.same q.readings q.held) _ _ e
+  pub visit_inside : Inside b counts'.most (ending_of (outcome_in x))
+  visit_inside =
+      reached_inside b q.accepted q.bytes q.readings q.narrow _ _ _ _ counts _ x _ _ here c.standing under (v.same q.readings q.held)

@@ -1,82 +1,45 @@
--- The operands that a selection, an operator, an if and a case visit under their own context: the field that names one, what the
--- rule does with what its visit ended with, what the visit asks, and what is known after it.
+-- The operands that a node visits under its own context: the field that names one, what the rule does with what its visit ended with,
+-- what the visit asks, and what is known after it.
 use mathlib.Core.Path.{◌≡◌, refl, ◌∙◌}
-use Prim.Native.Nat.{ℕ, ◌+◌, ◌*◌, ◌≤◌, ◌<◌}
+use Prim.Native.Nat.{ℕ, ◌*◌, ◌<◌}
 use mathlib.Core.List.{List}
-use mathlib.Core.Bool.{cond}
 use native.Mathlib.Omega.{arith}
 use lib.IntN.{ℤ}
-use lib.ListN.{length, get_or}
+use lib.ListN.{get_or}
 use denote.MutBor.{MutBor}
-use Rattle.definitions.specs.Sizes.{most_nodes}
-use Rattle.definitions.specs.Numbers.{number_wanted, constructor_wanted, no_clause}
+use Rattle.std.specs.Prelude.{Result, Ok, Err}
 use Rattle.definitions.specs.TranslationKinds as kinds
 use Rattle.definitions.specs.Records.{field}
-use Rattle.definitions.specs.Operators.{computed, is_zero}
-use Rattle.definitions.specs.NodeFields.{clause_list, chosen}
+use Rattle.definitions.specs.Operators.{computed}
 use Rattle.definitions.specs.Layouts.{nodes, node_record}
-use Rattle.definitions.specs.TranslationNodes.{TranslationNode, tag_of, translation_node_of}
+use Rattle.definitions.specs.TranslationNodes.{TranslationNode, translation_node_of}
 use Rattle.definitions.specs.Rule as Rule
-use Rattle.definitions.specs.Rule.{Ending, Reached, reach, ended, number_due, constructor_due, node_due, result_of, selected, evaluated}
+use Rattle.definitions.specs.Rule.{Ending, Reached, reach, number_due, result_of, evaluated}
 use Rattle.accepted.specs.Mention as Mention
 use Rattle.accepted.proofs.TranslationNames.{mention_below}
-use Rattle.run.specs.declared.state.Value.{Value}
-use Rattle.run.specs.declared.state.Value.TheVariants.{Number, Constructor}
-use Rattle.run.specs.declared.state.Outcome.{Outcome}
-use Rattle.run.specs.declared.state.Outcome.TheVariants as outcomes
+use Rattle.live_counts.specs.declared.Counts.{Counts}
 use Rattle.lent_rule.specs.Lent.{Lent}
+use Rattle.lent_rule.specs.Standing.{Inside}
 use Rattle.run.specs.NodeTable.{first_part, second_part, third_part}
 use Rattle.run.specs.Packed.{outcome_in}
-use Rattle.run.specs.States.{below, above, ending_of, reached_of, counted_state, visits, evaluates, NodeIs, InContext, Visitable, Evaluable, Visits, Evaluates}
-use Rattle.run.proofs.Endings.{number_ended, number_constructor, number_there, constructor_ended, constructor_number, constructor_there}
+use Rattle.run.specs.States.{below, above, ending_of, reached_of, counted_state, visits, evaluates, NodeIs, Visitable, Evaluable, Visits, Evaluates}
+use Rattle.run.specs.GoingOn.{Chooses, a_select, a_conditional, a_case, number_of, goes_on, next_reached, OperandKnown, GoesOn, OperatorEnds}
+use Rattle.run.proofs.Endings.{number_goes, number_misses}
 use Rattle.run.proofs.NodeKinds.{is_select, is_operator, is_conditional, is_case_law}
-use Rattle.lent_rule.specs.Standing.{TupleAt}
-use Rattle.run.proofs.EntryReads.{plain_operator, first_read, second_read, third_read, member_room, entry_room}
+use Rattle.run.proofs.EntryReads.{plain_operator, first_read, second_read, third_read}
 use Rattle.run.proofs.Steps.{worked_out_law}
 use Rattle.run.proofs.Counting.{visitable_at, visits_at}
-use Rattle.run.proofs.Nodes.{falls_on, visit_falls, visit_context, visit_tuple}
-use Rattle.run.proofs.Remains.{Asked, asked_falls, Remains, remains_as, remains_ends, at_context}
+use Rattle.run.proofs.Nodes.{falls_on, visit_falls, visit_context, visit_inside}
+use Rattle.run.proofs.Remains.{Asked, asked_falls, Remains, Onward, remains_as, remains_ends}
 
--- what has to come of a visit, and how the rule goes on with it
-pub data Wanted : Type 0 where
-  a_number : (ℤ → Rule.State Lent → Reached ℕ Lent) → Wanted
-  a_constructor : (ℕ → ℕ → Rule.State Lent → Reached ℕ Lent) → Wanted
+-- how the rule goes on with what a visit ended with
+abbrev pub Way : Type 0
+Way = Ending ℕ → Rule.State Lent → Reached ℕ Lent
 
-abbrev pub goes_on : Wanted → Ending ℕ → Rule.State Lent → Reached ℕ Lent
-goes_on (a_number go) e s = number_due e s go
-goes_on (a_constructor go) e s = constructor_due e s go
+abbrev pub awaited : Way → Reached ℕ Lent → Reached ℕ Lent
+awaited d q = d q.ending q.state
 
-abbrev pub awaited : Wanted → Reached ℕ Lent → Reached ℕ Lent
-awaited d q = goes_on d q.ending q.state
-
--- the value that is not due, and the fault that it is
-pub data Unwanted : Wanted → Value → ℕ → Type 0 where
-  no_number : {go : ℤ → Rule.State Lent → Reached ℕ Lent} {m u : ℕ} → Unwanted (a_number go) (Constructor m u) number_wanted
-  no_constructor : {go : ℕ → ℕ → Rule.State Lent → Reached ℕ Lent} {z : ℤ} → Unwanted (a_constructor go) (Number z) constructor_wanted
-
-due_ended : (d : Wanted) (o : Outcome) (s : Rule.State Lent) {n : ℕ} → o ≡ outcomes.Ended n → goes_on d (ending_of o) s ≡ reach (ending_of o) s
-due_ended (a_number go) o s e = number_ended o s go e
-due_ended (a_constructor go) o s e = constructor_ended o s go e
-
-due_unwanted : (o : Outcome) (s : Rule.State Lent) {d : Wanted} {v : Value} {fault : ℕ} → Unwanted d v fault → o ≡ outcomes.Value v
-    → goes_on d (ending_of o) s ≡ reach (ended fault) s
-due_unwanted o s no_number e = number_constructor o s _ e
-due_unwanted o s no_constructor e = constructor_number o s _ e
-
--- the operand that is visited first, by the kind of node and the field that names it; and where that field stands in an entry
-pub data Operand : ℕ → ℕ → Type 0 where
-  of_select : Operand kinds.select 0
-  of_operator : Operand kinds.operator 1
-  of_conditional : Operand kinds.conditional 0
-  of_case : Operand kinds.case_of 0
-
-abbrev pub part_in : {kind i : ℕ} → Operand kind i → ℕ → ℕ
-part_in of_select e = first_part e
-part_in of_operator e = second_part e
-part_in of_conditional e = first_part e
-part_in of_case e = first_part e
-
--- what the rule does with it
+-- with the operand of a node that chooses what to visit next, and with the two of an operator
 module _ (b : List ℕ) (rs : List ℤ) (limits at : ℕ) where
   abbrev named : ℕ → ℕ
   named i = field (node_record b (below at)) i
@@ -84,105 +47,99 @@ module _ (b : List ℕ) (rs : List ℤ) (limits at : ℕ) where
   abbrev visited : ℕ → ℕ → Rule.State Lent → Reached ℕ Lent
   visited = visits b rs (above limits) (below limits)
 
-  abbrev pub result : ℤ → Wanted
-  result x = a_number (λ y s. result_of (computed (named 0) x y) s)
+  abbrev pub choice : ℕ → Way
+  choice kind e s = goes_on b at e visited s kind
 
-  abbrev pub way : {kind i : ℕ} → Operand kind i → Wanted
-  way of_select = a_constructor (λ m v s. selected b visited (named 1) m v s)
-  way of_operator = a_number (λ x s. awaited (result x) (visited (named 2) (above at) s))
-  way of_conditional = a_number (λ z s. visited (cond (is_zero z) (named 2) (named 1)) (above at) s)
-  way of_case =
-      a_constructor (λ m v s. node_due (chosen (clause_list (node_record b (below at))) (tag_of b m)) no_clause s (λ a. visited a (above at) s))
+  abbrev pub result : ℤ → Way
+  result x e s = number_due e s (λ y u. result_of (computed (named 0) x y) u)
 
-  operand_awaited : {kind i x : ℕ} (op : Operand kind i) (s : Rule.State Lent) → NodeIs b (node_record b (below at)) (below at) kind → x ≡ named i
-      → evaluates b rs (above limits) (below limits) (below at) (above at) s ≡ awaited (way op) (visited x (above at) s)
+  abbrev pub operation : Way
+  operation e s = number_due e s (λ x u. awaited (result x) (visited (named 2) (above at) u))
+
+  choice_awaited : {kind x : ℕ} (c : Chooses kind) (s : Rule.State Lent) → NodeIs b (node_record b (below at)) (below at) kind → x ≡ named 0
+      → evaluates b rs (above limits) (below limits) (below at) (above at) s ≡ awaited (choice kind) (visited x (above at) s)
+  unfolding evaluated goes_on
+  choice_awaited a_select s h e = worked_out_law b rs limits at s (is_select h) ∙ rw (← e) refl
+  choice_awaited a_conditional s h e = worked_out_law b rs limits at s (is_conditional h) ∙ rw (← e) refl
+  choice_awaited a_case s h e = worked_out_law b rs limits at s (is_case_law h) ∙ rw (← e) refl
+
+  operation_awaited : {x : ℕ} (s : Rule.State Lent) → NodeIs b (node_record b (below at)) (below at) kinds.operator → x ≡ named 1
+      → evaluates b rs (above limits) (below limits) (below at) (above at) s ≡ awaited operation (visited x (above at) s)
   unfolding evaluated
-  operand_awaited of_select s h e = worked_out_law b rs limits at s (is_select h) ∙ rw (← e) refl
-  operand_awaited of_operator s h e = worked_out_law b rs limits at s (is_operator h) ∙ rw (← e) refl
-  operand_awaited of_conditional s h e = worked_out_law b rs limits at s (is_conditional h) ∙ rw (← e) refl
-  operand_awaited of_case s h e = worked_out_law b rs limits at s (is_case_law h) ∙ rw (← e) refl
+  operation_awaited s h e = worked_out_law b rs limits at s (is_operator h) ∙ rw (← e) refl
 
 -- the node x that field i of node k names
 pub record Named (b : List ℕ) (k i x : ℕ) : Type 0 where
   pub is : x ≡ field (node_record b k) i
   pub there : x < nodes b
 
-module _ {b tab : List ℕ} {limits at : ℕ} {counts bytes : List ℕ} {x : ℕ} where
+module _ {b tab : List ℕ} {limits at : ℕ} {counts : Counts} {bytes : List ℕ} {x : ℕ} where
   named_by : {kind i : ℕ} {nd : TranslationNode} → Evaluable b tab limits at counts bytes kind → x ≡ field (node_record b (below at)) i
       → translation_node_of b (below at) ≡ nd → Mention.Mention nd (field (node_record b (below at)) i) → Named b (below at) i x
   named_by a e is m = record { is = e; there = rw e (mention_below b a.equipped.accepted (below at) a.node.below is m) }
 
   module _ {e : ℕ} where
-    pub operand_named : {kind i : ℕ} (op : Operand kind i) → Evaluable b tab limits at counts bytes kind → e ≡ get_or tab (below at) 0 → x ≡ part_in op e
-        → Named b (below at) i x
-    operand_named of_select a f g = named_by a (first_read a f (λ q. omega (arith, q)) g) (is_select a.node) Mention.selected
-    operand_named of_operator a f g = named_by a (second_read a f plain_operator g) (is_operator a.node) Mention.left
-    operand_named of_conditional a f g = named_by a (first_read a f (λ q. omega (arith, q)) g) (is_conditional a.node) Mention.condition
-    operand_named of_case a f g = named_by a (first_read a f (λ q. omega (arith, q)) g) (is_case_law a.node) Mention.scrutinee
+    choice_named : {kind : ℕ} → Chooses kind → Evaluable b tab limits at counts bytes kind → e ≡ get_or tab (below at) 0 → x ≡ first_part e
+        → Named b (below at) 0 x
+    choice_named a_select a f g = named_by a (first_read a.equipped a.node f (λ q. omega (arith, q)) g) (is_select a.node) Mention.selected
+    choice_named a_conditional a f g = named_by a (first_read a.equipped a.node f (λ q. omega (arith, q)) g) (is_conditional a.node) Mention.condition
+    choice_named a_case a f g = named_by a (first_read a.equipped a.node f (λ q. omega (arith, q)) g) (is_case_law a.node) Mention.scrutinee
 
-    pub right_named : Evaluable b tab limits at counts bytes kinds.operator → e ≡ get_or tab (below at) 0 → x ≡ third_part e → Named b (below at) 2 x
-    right_named a f g = named_by a (third_read a f plain_operator g) (is_operator a.node) Mention.right
+    module _ (a : Evaluable b tab limits at counts bytes kinds.operator) (f : e ≡ get_or tab (below at) 0) where
+      left_named : x ≡ second_part e → Named b (below at) 1 x
+      left_named g = named_by a (second_read a.equipped a.node f plain_operator g) (is_operator a.node) Mention.left
 
--- a node of a kind waits for the visit of its operand k under context w
-pub record Awaits (b tab : List ℕ) (t limits at : ℕ) (counts : List ℕ) (cells : MutBor (List ℕ)) (counts' : List ℕ) (cells' : MutBor (List ℕ))
-    (kind k w : ℕ) (d : List ℤ → Wanted) : Type 0 where
+      right_named : x ≡ third_part e → Named b (below at) 2 x
+      right_named g = named_by a (third_read a.equipped a.node f plain_operator g) (is_operator a.node) Mention.right
+
+-- a node of a kind waits for the visit of its operand k under its own context
+pub record Awaits (b tab : List ℕ) (t limits at : ℕ) (counts : Counts) (cells : MutBor (List ℕ)) (counts' : Counts) (cells' : MutBor (List ℕ))
+    (kind k : ℕ) (d : List ℤ → Way) : Type 0 where
   pub node : Evaluable b tab limits at counts cells.now kind
   pub remains : Remains b tab t limits at counts cells counts' cells'
-      (λ rs. awaited (d rs) (visits b rs (above limits) (below limits) k w (counted_state counts' cells'.now)))
+      (λ rs. awaited (d rs) (visits b rs (above limits) (below limits) k (above at) (counted_state counts' cells'.now)))
   pub there : k < nodes b
-  pub written : w ≤ get_or counts' 2 0
 
 -- an operand was visited for a node of a kind, and x returned: what remains, and that a constructor is a tuple's, under a context of the cells written
-pub record OperandVisited (b tab : List ℕ) (t limits at : ℕ) (counts : List ℕ) (cells : MutBor (List ℕ)) (x : ℕ) (counts' : List ℕ)
-    (cells' : MutBor (List ℕ)) (kind : ℕ) (d : List ℤ → Wanted) : Type 0 where
+pub record OperandVisited (b tab : List ℕ) (t limits at : ℕ) (counts : Counts) (cells : MutBor (List ℕ)) (x : ℕ) (counts' : Counts)
+    (cells' : MutBor (List ℕ)) (kind : ℕ) (d : List ℤ → Way) : Type 0 where
   pub node : Evaluable b tab limits at counts cells.now kind
-  pub remains : Remains b tab t limits at counts cells counts' cells'
-      (λ rs. goes_on (d rs) (ending_of (outcome_in x)) (counted_state counts' cells'.now))
-  pub tuple : {m u : ℕ} → outcome_in x ≡ outcomes.Value (Constructor m u) → TupleAt b m × (u ≤ get_or counts' 2 0)
-
--- and x is the value v
-pub record Gives (b tab : List ℕ) (t limits at : ℕ) (counts : List ℕ) (cells : MutBor (List ℕ)) (x : ℕ) (counts' : List ℕ)
-    (cells' : MutBor (List ℕ)) (kind : ℕ) (d : List ℤ → Wanted) (v : Value) : Type 0 where
-  pub visited : OperandVisited b tab t limits at counts cells x counts' cells' kind d
-  pub told : outcome_in x ≡ outcomes.Value v
+  pub remains : Remains b tab t limits at counts cells counts' cells' (λ rs. d rs (ending_of (outcome_in x)) (counted_state counts' cells'.now))
+  pub inside : Inside b counts'.most (ending_of (outcome_in x))
 
 -- the operand that is visited first
-abbrev pub AwaitsBy : {b tab : List ℕ} {t limits at : ℕ} {counts bytes : List ℕ} {kind i : ℕ} (op : Operand kind i)
-    → Asked b tab t limits at counts bytes kind → MutBor (List ℕ) → ℕ → Type 0
-AwaitsBy {b} {tab} {t} {limits} {at} {counts} {kind = kind} op a cells k =
-    Awaits b tab t limits at counts cells counts cells kind k (above at) (λ rs. way b rs limits at op)
+module _ {b tab : List ℕ} {t limits at : ℕ} {counts : Counts} {cells : MutBor (List ℕ)} where
+  first_awaits : {kind k i : ℕ} {d : List ℤ → Way} → Asked b tab t limits at counts cells.now kind → Named b (below at) i k
+      → ((rs : List ℤ) → evaluates b rs (above limits) (below limits) (below at) (above at) (counted_state counts cells.now)
+      ≡ awaited (d rs) (visits b rs (above limits) (below limits) k (above at) (counted_state counts cells.now)))
+      → Awaits b tab t limits at counts cells counts cells kind k d
+  first_awaits a n s =
+      record {
+        node = a.1;
+        remains = record { equipped = a.1.equipped; same = λ rs h. s rs; falls = asked_falls a; context = a.1.context; stays = refl };
+        there = n.there;
+      }
 
-pub operand_awaits : {b tab : List ℕ} {t limits at : ℕ} {counts : List ℕ} {cells : MutBor (List ℕ)} {kind i e k : ℕ} (op : Operand kind i)
-    → (a : Asked b tab t limits at counts cells.now kind) → e ≡ get_or tab (below at) 0 → k ≡ part_in op e → AwaitsBy op a cells k
-operand_awaits {b} {limits = limits} {at = at} {counts = counts} {cells = cells} op a f g =
-    let n = operand_named op a.1 f g in
-    record {
-      node = a.1;
-      remains = record {
-        equipped = a.1.equipped;
-        same = λ rs h. operand_awaited b rs limits at op (counted_state counts cells.now) a.1.node n.is;
-        falls = asked_falls a;
-        context = a.1.context;
-        stays = refl;
-      };
-      there = n.there;
-      written = a.1.context.written;
-    }
+  pub choice_awaits : {kind e k : ℕ} → Asked b tab t limits at counts cells.now kind → Chooses kind → e ≡ get_or tab (below at) 0 → k ≡ first_part e
+      → Awaits b tab t limits at counts cells counts cells kind k (λ rs. choice b rs limits at kind)
+  choice_awaits a c f g =
+      let n = choice_named c a.1 f g in
+      first_awaits a n (λ rs. choice_awaited b rs limits at c (counted_state counts cells.now) a.1.node n.is)
 
-awaits_context : {b tab : List ℕ} {t limits at : ℕ} {counts : List ℕ} {cells : MutBor (List ℕ)} {counts' : List ℕ} {cells' : MutBor (List ℕ)} {kind k w : ℕ}
-    {d : List ℤ → Wanted} → Awaits b tab t limits at counts cells counts' cells' kind k w d → InContext b (above limits) w counts' cells'.now
-awaits_context a = at_context a.remains.context a.written
+  pub left_awaits : {e k : ℕ} → Asked b tab t limits at counts cells.now kinds.operator → e ≡ get_or tab (below at) 0 → k ≡ second_part e
+      → Awaits b tab t limits at counts cells counts cells kinds.operator k (λ rs. operation b rs limits at)
+  left_awaits a f g =
+      let n = left_named a.1 f g in
+      first_awaits a n (λ rs. operation_awaited b rs limits at (counted_state counts cells.now) a.1.node n.is)
 
 -- the visit of an operand: what it asks, and what is known after it
-module _ {b tab : List ℕ} {t limits at : ℕ} {counts : List ℕ} {cells : MutBor (List ℕ)} {counts' : List ℕ} {cells' : MutBor (List ℕ)} {kind k w p : ℕ}
-    {d : List ℤ → Wanted} (a : Awaits b tab t limits at counts cells counts' cells' kind k w d) (q : (below p ≡ k) × (above p ≡ w)) where
-  pub operand_asked : (2 * get_or counts' 0 0 < t) × Visitable b tab limits p counts' cells'.now
-  operand_asked = (a.remains.falls, visitable_at q a.remains.equipped a.there (awaits_context a))
+module _ {b tab : List ℕ} {t limits at : ℕ} {counts : Counts} {cells : MutBor (List ℕ)} {counts' : Counts} {cells' : MutBor (List ℕ)} {kind k p : ℕ}
+    {d : List ℤ → Way} (a : Awaits b tab t limits at counts cells counts' cells' kind k d) (q : (below p ≡ k) × (above p ≡ above at)) where
+  pub operand_asked : (2 * counts'.left < t) × Visitable b tab limits p counts' cells'.now
+  operand_asked = (a.remains.falls, visitable_at q a.remains.equipped a.there a.remains.context)
 
-  abbrev pub VisitedBy : {x : ℕ} {counts'' : List ℕ} {cells'' : MutBor (List ℕ)} → Visits b tab limits p counts' cells' x counts'' cells'' → Type 0
-  VisitedBy {x} {counts''} {cells''} v = OperandVisited b tab t limits at counts cells x counts'' cells'' kind d
-
-  pub operand_visited : {x : ℕ} {counts'' : List ℕ} {cells'' : MutBor (List ℕ)} (v : Visits b tab limits p counts' cells' x counts'' cells'') → VisitedBy v
+  pub operand_visited : {x : ℕ} {counts'' : Counts} {cells'' : MutBor (List ℕ)} → Visits b tab limits p counts' cells' x counts'' cells''
+      → OperandVisited b tab t limits at counts cells x counts'' cells'' kind d
   unfolding reached_of reach
   operand_visited v =
       record {
@@ -190,50 +147,51 @@ module _ {b tab : List ℕ} {t limits at : ℕ} {counts : List ℕ} {cells : Mut
         remains = record {
           equipped = a.remains.equipped;
           same = λ rs h. a.remains.same rs h ∙ rw (← visits_at q v rs h) refl;
-          falls = falls_on (visit_falls a.remains.equipped q a.there (awaits_context a) v) a.remains.falls;
-          context = visit_context a.remains.equipped q a.there (awaits_context a) v a.remains.context.written;
+          falls = falls_on (visit_falls a.remains.equipped q a.there a.remains.context v) a.remains.falls;
+          context = visit_context a.remains.equipped q a.there a.remains.context v a.remains.context.written;
           stays = v.stays ∙ a.remains.stays;
         };
-        tuple = visit_tuple a.remains.equipped q a.there (awaits_context a) v;
+        inside = visit_inside a.remains.equipped q a.there a.remains.context v;
       }
 
-module _ {b tab : List ℕ} {t limits at : ℕ} {counts : List ℕ} {cells : MutBor (List ℕ)} {x : ℕ} {counts' : List ℕ} {cells' : MutBor (List ℕ)}
-    {kind : ℕ} where
-  module _ {d : List ℤ → Wanted} (v : OperandVisited b tab t limits at counts cells x counts' cells' kind d) where
-    -- it ended: what it returned is returned
-    pub operand_ended : {n : ℕ} → outcome_in x ≡ outcomes.Ended n → Evaluates b tab limits at counts cells x counts' cells'
-    operand_ended f = remains_ends (remains_as v.remains (λ rs. due_ended (d rs) (outcome_in x) _ f)) refl refl
+module _ {b tab : List ℕ} {t limits at : ℕ} {counts : Counts} {cells : MutBor (List ℕ)} {x : ℕ} {counts' : Counts} {cells' : MutBor (List ℕ)} where
+  -- a node that chooses: what it chooses by, and the visit that it goes on to, or its end
+  module _ {kind : ℕ} (v : OperandVisited b tab t limits at counts cells x counts' cells' kind (λ rs. choice b rs limits at kind)) where
+    pub choice_known : OperandKnown b tab at kind x
+    choice_known = record { equipped = v.node.equipped; node = v.node.node; most = counts'.most; inside = v.inside }
 
-    -- it gave what is not due
-    pub operand_unwanted : {y fault : ℕ} {u : Value} {o : Outcome} → ((rs : List ℤ) → Unwanted (d rs) u fault) → outcome_in x ≡ outcomes.Value u
-        → outcome_in y ≡ o → ending_of o ≡ ended fault → Evaluates b tab limits at counts cells y counts' cells'
-    operand_unwanted w f g h = remains_ends (remains_as v.remains (λ rs. due_unwanted (outcome_in x) _ (w rs) f)) g h
+    module _ {r : Result ℕ ℕ} (g : GoesOn b at kind x r) where
+      chosen_next : (rs : List ℤ) → choice b rs limits at kind (ending_of (outcome_in x)) (counted_state counts' cells'.now)
+          ≡ next_reached (visits b rs (above limits) (below limits)) r (counted_state counts' cells'.now)
+      chosen_next rs = g.same (visits b rs (above limits) (below limits)) (counted_state counts' cells'.now)
 
-    -- it gave a value
-    abbrev pub GivesOf : {u w : Value} → u ≡ w → Type 0
-    GivesOf {w = w} e = Gives b tab t limits at counts cells x counts' cells' kind d w
+      pub choice_visits : {p : ℕ} → r ≡ Ok p → Onward b tab t limits at counts cells counts' cells' (below p) (above p)
+      unfolding next_reached
+      choice_visits e =
+          record {
+            remains = remains_as v.remains (λ rs. chosen_next rs ∙ rw e refl);
+            there = g.there e;
+            written = g.written e v.inside v.remains.context.written;
+          }
 
-  -- what is due: the rule goes on with it
-  pub number_given : {go : List ℤ → ℤ → Rule.State Lent → Reached ℕ Lent} {z : ℤ}
-      → Gives b tab t limits at counts cells x counts' cells' kind (λ rs. a_number (go rs)) (Number z)
-      → Remains b tab t limits at counts cells counts' cells' (λ rs. go rs z (counted_state counts' cells'.now))
-  number_given g = remains_as g.visited.remains (λ rs. number_there (outcome_in x) _ _ g.told)
+      pub choice_ends : {y : ℕ} → r ≡ Err y → Evaluates b tab limits at counts cells y counts' cells'
+      unfolding next_reached
+      choice_ends e = remains_ends (remains_as v.remains (λ rs. chosen_next rs ∙ rw e refl)) refl refl
 
-  pub constructor_given : {go : List ℤ → ℕ → ℕ → Rule.State Lent → Reached ℕ Lent} {m u : ℕ}
-      → Gives b tab t limits at counts cells x counts' cells' kind (λ rs. a_constructor (go rs)) (Constructor m u)
-      → Remains b tab t limits at counts cells counts' cells' (λ rs. go rs m u (counted_state counts' cells'.now))
-  constructor_given g = remains_as g.visited.remains (λ rs. constructor_there (outcome_in x) _ _ g.told)
+  -- an operator: its right operand after the left, and its end
+  module _ (v : OperandVisited b tab t limits at counts cells x counts' cells' kinds.operator (λ rs. operation b rs limits at)) where
+    pub left_missed : {y : ℕ} → Err (ending_of (outcome_in y)) ≡ number_of (ending_of (outcome_in x)) → Evaluates b tab limits at counts cells y counts' cells'
+    left_missed h = remains_ends (remains_as v.remains (λ rs. number_misses _ _ _ h)) refl refl
 
-  -- the tuple of a constructor, with its entry and its fields
-  module _ {d : List ℤ → Wanted} {m u : ℕ} (g : Gives b tab t limits at counts cells x counts' cells' kind d (Constructor m u)) where
-    pub given_tuple : TupleAt b m
-    given_tuple = (g.visited.tuple g.told).0
+    pub right_awaits : {i : ℤ} {e k : ℕ} → Ok i ≡ number_of (ending_of (outcome_in x)) → e ≡ get_or tab (below at) 0 → k ≡ third_part e
+        → Awaits b tab t limits at counts cells counts' cells' kinds.operator k (λ rs. result b rs limits at i)
+    right_awaits h ee ek =
+        let n = right_named v.node ee ek in
+        record { node = v.node; remains = remains_as v.remains (λ rs. number_goes _ _ _ h ∙ rw n.is refl); there = n.there }
 
-    pub given_context : u ≤ get_or counts' 2 0
-    given_context = (g.visited.tuple g.told).1
-
-    pub tuple_room : m < most_nodes
-    tuple_room = entry_room g.visited.node.equipped given_tuple.below
-
-    pub fields_room : {e s c : ℕ} → e ≡ get_or tab m 0 → s ≡ second_part e → c ≡ third_part e → s + 4 + 2 * c ≤ length b
-    fields_room f es ec = member_room g.visited.node.equipped given_tuple f es ec
+  pub operator_returned : {i u : ℤ} {e code y : ℕ}
+      → OperandVisited b tab t limits at counts cells x counts' cells' kinds.operator (λ rs. result b rs limits at i)
+      → u ≡ i → e ≡ get_or tab (below at) 0 → code ≡ first_part e → OperatorEnds code u x y → Evaluates b tab limits at counts cells y counts' cells'
+  operator_returned v eu ee ec o =
+      let c = first_read v.node.equipped v.node.node ee (λ q. omega (arith, q)) ec in
+      remains_ends (remains_as v.remains (λ rs. rw (← c, ← eu) (o.same _))) refl refl

@@ -20,6 +20,7 @@ use Rattle.definitions.specs.CellBytes.{entry_words}
 use Rattle.cells.specs.LentCells.{entry_of, entry_written}
 use Rattle.operators.proofs.Residues.{residue_read}
 use Rattle.live_counts.specs.Counts.{constructor_noted}
+use Rattle.live_counts.specs.declared.Counts.{Counts}
 use Rattle.lent_rule.specs.Lent.{Lent, keeping_lent}
 use Rattle.run.specs.Packed.{outcome_in, is_value_in}
 use Rattle.run.specs.States.{value_of, ending_of, state_of, reached_of, bytes_remembering}
@@ -145,7 +146,7 @@ unfolding remembered_where remembered keeping_lent reach
 end_kept true w i n s = refl
 end_kept false w i n s = refl
 
-kept_own : (w i x : ℕ) (counts bytes : List ℕ) → Held x
+kept_own : (w i x : ℕ) (counts : Counts) (bytes : List ℕ) → Held x
     → reached_of x (constructor_noted true w (x % 65536) counts) (bytes_remembering true bytes w i (ending_of (outcome_in x)))
     ≡ remembered keeping_lent w i (reached_of x counts bytes)
 unfolding reached_of remembered keeping_lent older reach state_of bytes_remembering constructor_noted ending_of value_of
@@ -153,7 +154,7 @@ kept_own w i x counts bytes (a_number q) = rw (outcome_number x q, q) refl
 kept_own w i x counts bytes (a_constructor q) = rw (outcome_constructor x q, q) refl
 kept_own w i x counts bytes (an_end n m) = rw (outcome_ended x n m, ne_eqb (x % 65536) 2 m) refl
 
-pub reached_remembered : (own : Bool) (w i x : ℕ) (counts bytes : List ℕ)
+pub reached_remembered : (own : Bool) (w i x : ℕ) (counts : Counts) (bytes : List ℕ)
     → reached_of x (constructor_noted own w (x % 65536) counts) (bytes_remembering own bytes w i (ending_of (outcome_in x)))
     ≡ remembered_where own w i (reached_of x counts bytes)
 unfolding reached_of remembered_where reach state_of bytes_remembering constructor_noted

@@ -1,21 +1,21 @@
 -- An outcome in one number of 64 bits.
-use Rattle.std.specs.Prelude.{ℕ, ◌/◌, ◌%◌, Bool, true, false, ◌||◌, eqb}
+use Rattle.std.specs.Prelude.{ℕ, ◌/◌, ◌%◌, Bool, ◌||◌, cond, eqb, Result, Ok, Err}
 use Rattle.std.specs.Int.{w32}
 use Rattle.std.proofs.Common.{to_z}
 use Rattle.definitions.specs.CellBytes.{number_kind, constructor_kind}
+use Rattle.run.specs.declared.state.Value.{Value}
 use Rattle.run.specs.declared.state.Value.TheVariants.{Number, Constructor}
-use Rattle.run.specs.declared.state.Outcome.{Outcome}
-use Rattle.run.specs.declared.state.Outcome.TheVariants as outcomes
+use Rattle.run.specs.declared.state.End.{End}
 
-unfoldable pub either : Bool → Outcome → Outcome → Outcome
-either true a b = a
-either false a b = b
+-- how a visit ends: with a value, or with a stop or a run fault
+abbrev pub Outcome : Type 0
+Outcome = Result Value End
 
 unfoldable pub outcome_in : ℕ → Outcome
 outcome_in x =
-    either (eqb (x % 65536) number_kind) (outcomes.Value (Number (to_z w32 (x / 65536 % 4294967296))))
-    (either (eqb (x % 65536) constructor_kind) (outcomes.Value (Constructor (x / 65536 % 65536) (x / 4294967296 % 65536)))
-    (outcomes.Ended (x / 65536 % 65536)))
+    cond (eqb (x % 65536) number_kind) (Ok (Number (to_z w32 (x / 65536 % 4294967296))))
+    (cond (eqb (x % 65536) constructor_kind) (Ok (Constructor (x / 65536 % 65536) (x / 4294967296 % 65536)))
+    (Err (record { number = x / 65536 % 65536 })))
 
 -- whether it is a value
 unfoldable pub is_value_in : ℕ → Bool

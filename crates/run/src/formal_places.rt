@@ -8,7 +8,6 @@ use definitions::Layout;
 use definitions::sizes::{MOST_FIELDS, MOST_FORMALS, Starts};
 use file_layout::layout::{first_function, functions};
 use file_records::records::{field, indexed};
-use widths::wide;
 
 pub(crate) type Places = [u16; MOST_FORMALS];
 
@@ -20,7 +19,7 @@ fn parameter_count(b: &[u8], index: &Starts, f: u16) -> u16
     requires { IndexedTranslation b.now index.now × (f < functions b.now) }
     ensures { result ≡ parameter_count b.now f }
 {
-    let r = first_function(Layout::Translation, b) + wide(f);
+    let r = first_function(Layout::Translation, b) + usize::from(f);
     field(indexed(b, index, r), 1)
 }
 
@@ -30,7 +29,7 @@ fn set_places(places: &mut Places, f: u16, count: u16, first: usize)
     ensures { PlacesSet places.old f count first places.new }
 {
     for j in 0..count {
-        places[first + wide(j)] = POSITIONS * f + j;
+        places[first + usize::from(j)] = POSITIONS * f + j;
     }
 }
 
@@ -44,6 +43,6 @@ pub(crate) fn fill_places(places: &mut Places, b: &[u8], index: &Starts)
     for f in 0..count {
         let n = parameter_count(b, index, f);
         set_places(places, f, n, first);
-        first += wide(n);
+        first += usize::from(n);
     }
 }

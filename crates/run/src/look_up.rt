@@ -19,21 +19,13 @@ use definitions::sizes::{Ends, Starts};
 use file_fields::bytes::field_of;
 use file_layout::layout::{first_function, first_node};
 use file_records::records::{field, indexed, record};
-use widths::wide;
-
-// A node that was looked up, or none.
-#[derive(Clone, Copy)]
-pub enum Found {
-    Node(u16),
-    Nothing,
-}
 
 // The record of node `k`.
 pub(crate) fn node_record<'a>(b: &'a [u8], starts: &Starts, k: u16) -> &'a [u8]
     requires { Indexed b.now starts.now (due b.now) × (k < nodes b.now) }
     ensures { result.now ≡ node_record b.now k }
 {
-    indexed(b, starts, first_node(b) + wide(k))
+    indexed(b, starts, first_node(b) + usize::from(k))
 }
 
 // The body of function `f`.
@@ -41,7 +33,7 @@ pub(crate) fn body(b: &[u8], starts: &Starts, ends: &Ends, f: u16) -> u16
     requires { Ready b.now starts.now ends.now × (f < functions b.now) }
     ensures { result ≡ body_of Translation b.now f }
 {
-    let end = wide(ends[wide(f)]);
+    let end = usize::from(ends[usize::from(f)]);
     (end - 1) as u16
 }
 
@@ -55,15 +47,15 @@ pub(crate) fn first_body(b: &[u8]) -> u16
 
 // The node that field `i` of a record names, if there is one, by where the record starts and how many fields it has. No test
 // of the file's end is needed.
-pub(crate) fn listed(b: &[u8], place: u16, count: u16, i: u16) -> Found
+pub(crate) fn listed(b: &[u8], place: u16, count: u16, i: u16) -> Option<u16>
     requires { place + 4 + 2 * count ≤ length b.now }
     ensures { found_of result ≡ cond (ltb i count) (some (word b.now (place + 4 + 2 * i))) none }
 {
     if i < count {
-        let at = wide(place) + 4 + 2 * wide(i);
-        Found::Node(field_of(b[at], b[at + 1]))
+        let at = usize::from(place) + 4 + 2 * usize::from(i);
+        Some(field_of(b[at], b[at + 1]))
     } else {
-        Found::Nothing
+        None
     }
 }
 
@@ -73,9 +65,9 @@ pub(crate) fn clause(b: &[u8], place: u16, count: u16, tag: u16) -> usize
     requires { place + 6 + 4 * (count / 2) ≤ length b.now }
     ensures { (found_in b.now result ≡ chosen (clauses_at b.now place count) tag) × (result + 2 ≤ length b.now) }
 {
-    let count = wide(count) / 2;
+    let count = usize::from(count) / 2;
     for j in 0..count {
-        let at = wide(place) + 6 + 4 * j;
+        let at = usize::from(place) + 6 + 4 * j;
         if field_of(b[at], b[at + 1]) == tag {
             return at + 2;
         }
@@ -84,14 +76,14 @@ pub(crate) fn clause(b: &[u8], place: u16, count: u16, tag: u16) -> usize
 }
 
 // The node that stands at a place, none at place 0.
-pub(crate) fn found_at(b: &[u8], place: usize) -> Found
+pub(crate) fn found_at(b: &[u8], place: usize) -> Option<u16>
     requires { place + 2 ≤ length b.now }
     ensures { found_of result ≡ found_in b.now place }
 {
     if place == 0 {
-        Found::Nothing
+        None
     } else {
-        Found::Node(field_of(b[place], b[place + 1]))
+        Some(field_of(b[place], b[place + 1]))
     }
 }
 

@@ -16,7 +16,6 @@ use definitions::{Layout, translation_kinds};
 use file_layout::layout::{first_item, first_node, nodes};
 use file_records::records::{field, field_count, indexed, kind, start_in};
 use operators::bits::{bits_of, number_of};
-use widths::wide;
 
 pub const TABLE_ENTRIES: usize = MOST_NODES + MOST_READINGS;
 
@@ -26,8 +25,8 @@ pub type Table = [u64; TABLE_ENTRIES];
 pub(crate) fn entry_with(a: u16, b: u16, c: u16, d: u16) -> u64
     ensures { Parts result a b c d }
 {
-    let low = a as u64 + 0x1_0000 * b as u64;
-    let high = c as u64 + 0x1_0000 * d as u64;
+    let low = u64::from(a) + 0x1_0000 * u64::from(b);
+    let high = u64::from(c) + 0x1_0000 * u64::from(d);
     low + 0x1_0000_0000 * high
 }
 
@@ -50,15 +49,15 @@ fn entry_at(b: &[u8], index: &Starts, ends: &Ends, places: &Places, k: u16) -> u
     let kind = kind(rec);
     let first = field(rec, 0);
     if kind == translation_kinds::FORMAL {
-        let r = first_item(Layout::Translation, b) + wide(first);
-        return list_entry(b, index, kind, places[wide(first)], r);
+        let r = first_item(Layout::Translation, b) + usize::from(first);
+        return list_entry(b, index, kind, places[usize::from(first)], r);
     }
     if kind == translation_kinds::CALL {
         let f = field(rec, 1);
         return entry_with(kind, first, f, body(b, index, ends, f));
     }
     if translation_kinds::TUPLE <= kind {
-        let r = first_node(b) + wide(k);
+        let r = first_node(b) + usize::from(k);
         return list_entry(b, index, kind, first, r);
     }
     entry_with(kind, first, field(rec, 1), field(rec, 2))
@@ -72,7 +71,7 @@ pub(crate) fn fill_nodes(tab: &mut Table, b: &[u8], index: &Starts, ends: &Ends,
     let count = nodes(b);
     for k in 0..count {
         let x = entry_at(b, index, ends, places, k);
-        tab[wide(k)] = x;
+        tab[usize::from(k)] = x;
     }
 }
 
@@ -82,7 +81,7 @@ pub fn set_reading(tab: &mut Table, i: usize, z: i32)
     ensures { tab.new ≡ reading_set tab.old i z }
 {
     let bits = bits_of(z);
-    tab[MOST_NODES + i] = bits as u64;
+    tab[MOST_NODES + i] = u64::from(bits);
 }
 
 // Sets the readings in a table.
@@ -90,8 +89,8 @@ pub fn set_readings(tab: &mut Table, readings: &[i32])
     requires { (length tab.old ≡ table_entries) × (length readings.now ≤ most_readings) }
     ensures { ReadingsSet tab.old readings.now tab.new }
 {
-    for i in 0..readings.len() {
-        set_reading(tab, i, readings[i]);
+    for (i, &z) in readings.iter().enumerate() {
+        set_reading(tab, i, z);
     }
 }
 
@@ -100,7 +99,7 @@ pub fn entry(tab: &Table, k: u16) -> u64
     requires { k < most_nodes }
     ensures { result ≡ get_or tab.now k 0 }
 {
-    tab[wide(k)]
+    tab[usize::from(k)]
 }
 
 // Reading `i`.
@@ -108,7 +107,7 @@ pub(crate) fn reading(tab: &Table, i: u16) -> i32
     requires { i < most_readings }
     ensures { result ≡ reading_in tab.now i }
 {
-    number_of((tab[MOST_NODES + wide(i)] % 0x1_0000_0000) as u32)
+    number_of((tab[MOST_NODES + usize::from(i)] % 0x1_0000_0000) as u32)
 }
 
 // The kind, and the first, the second and the third field of an entry.

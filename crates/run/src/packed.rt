@@ -1,12 +1,11 @@
 // An outcome in one number of 64 bits, which a visit returns: in its lowest 16 bits 1 for a number, 2 for a constructor and 0 for a
 // stop or a run fault, and above them the number's bits, the constructor's node and context, or the number of the stop or fault.
 // So a value has the number of the entry that remembers it.
-ghost use Rattle.std.specs.Prelude.{◌≡◌};
-ghost use Rattle.run.specs.declared.state.Outcome.TheVariants as outcomes;
+ghost use Rattle.std.specs.Prelude.{◌≡◌, Ok};
 ghost use Rattle.run.specs.Packed.{outcome_in, is_value_in};
 
 use crate::node_table::{entry_with, first_in, kind_in, number_in, second_in};
-use crate::state::{Outcome, State, Value};
+use crate::state::{End, Outcome, State, Value};
 use cells::entry;
 use operators::bits::bits_of;
 
@@ -14,7 +13,7 @@ const ENDED: u16 = entry::EMPTY;
 
 // The number of a value.
 fn packed_value(v: Value) -> u64
-    ensures { outcome_in result ≡ outcomes.Value v }
+    ensures { outcome_in result ≡ Ok v }
 {
     match v {
         Value::Number(z) => {
@@ -35,8 +34,8 @@ pub(crate) fn packed(o: Outcome) -> u64
     ensures { outcome_in result ≡ o }
 {
     match o {
-        Outcome::Value(v) => packed_value(v),
-        Outcome::Ended(n) => entry_with(ENDED, n, 0, 0),
+        Ok(v) => packed_value(v),
+        Err(end) => entry_with(ENDED, end.number, 0, 0),
     }
 }
 
@@ -52,20 +51,22 @@ pub(crate) fn is_value(x: u64) -> bool
 }
 
 // The outcome of a number.
-fn outcome_in(x: u64) -> Outcome
+pub(crate) fn outcome_in(x: u64) -> Outcome
     ensures { result ≡ outcome_in x }
 {
     let kind = kind_in(x);
     if kind == entry::NUMBER {
-        return Outcome::Value(Value::Number(number_in(x)));
+        return Ok(Value::Number(number_in(x)));
     }
     if kind == entry::CONSTRUCTOR {
-        return Outcome::Value(Value::Constructor {
+        return Ok(Value::Constructor {
             node: first_in(x),
             context: second_in(x),
         });
     }
-    Outcome::Ended(first_in(x))
+    Err(End {
+        number: first_in(x),
+    })
 }
 
 // The state after a visit: the outcome that it returned, the steps left and the most cells alive together.

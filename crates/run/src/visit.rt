@@ -1,20 +1,22 @@
-// The visits of a run: of a node, and by its kind of a formal, a selection, a case and the rest. They call each other while the steps
+// The visits of a run: of a node, and by its kind of a formal, an operator, a call and the rest. They call each other while the steps
 // left fall. `tab` is the table of the run; `counts` has the counts of the run; `limits` has the visits that may still
 // be nested below and the cell allowance above; `at` has the node below and the context above.
 ghost use Rattle.definitions.specs.TranslationKinds as kinds;
-ghost use Rattle.run.specs.States.{Visitable, Evaluable, Visits, Evaluates};
+ghost use Rattle.definitions.specs.Records.{kind_of};
+ghost use Rattle.definitions.specs.Layouts.{node_record};
+ghost use Rattle.run.specs.States.{below, Visitable, Evaluable, Visits, Evaluates};
+ghost use Rattle.run.specs.GoingOn.{Chooses};
 
 use crate::formal_places::POSITIONS;
-use crate::look_up::{Found, branch, cell_in, clause, found_at, listed};
+use crate::going_on::{next_visit, number_due, operated};
+use crate::look_up::{cell_in, listed};
 use crate::memory::{is_own, recall, remember};
 use crate::node_table::{Table, entry, first_in, kind_in, number_in, reading, second_in, third_in};
-use crate::packed::{is_value, opened, packed};
-use crate::state::{Outcome, Value, constructor, ended, given, number, tag};
+use crate::packed::{is_value, packed};
+use crate::state::{constructor, ended, number};
 use cells::cell::{add_cell, pair_of};
 use definitions::{numbers, translation_kinds};
-use live_counts::{Counts, LEFT, LIVE, MOST, OLDEST, close_call, note_constructor, open_call};
-use operators::compute;
-use widths::wide32;
+use live_counts::Counts;
 
 // Visits a node under a context: the two stops, the step counted, and the node by its kind.
 #[cycle(visits)]
@@ -29,14 +31,14 @@ pub(crate) fn visit(
     requires { Visitable b.now.now tab.now limits at counts.old cells.old.now }
     ensures { Visits b.now.now tab.now limits at counts.old cells.old result counts.new cells.new }
 {
-    let left = counts[LEFT];
+    let left = counts.left;
     if left == 0 {
         return packed(ended(numbers::NO_STEP));
     }
     if limits % 0x1_0000 == 0 {
         return packed(ended(numbers::NO_NESTING));
     }
-    counts[LEFT] = left - 1;
+    counts.left = left - 1;
     let limits = limits - 1;
     let k = (at % 0x1_0000) as u16;
     let node = entry(tab, k);
@@ -53,19 +55,13 @@ pub(crate) fn visit(
     if kind == translation_kinds::CALL {
         return visit_call(b, tab, cells, counts, limits, at);
     }
-    if kind == translation_kinds::SELECT {
-        return visit_select(b, tab, cells, counts, limits, at);
-    }
     if kind == translation_kinds::OPERATOR {
         return visit_operator(b, tab, cells, counts, limits, at);
     }
     if kind == translation_kinds::READING {
         return packed(number(reading(tab, first_in(node))));
     }
-    if kind == translation_kinds::CONDITIONAL {
-        return visit_conditional(b, tab, cells, counts, limits, at);
-    }
-    visit_case(b, tab, cells, counts, limits, at)
+    visit_operand(b, tab, cells, counts, limits, at)
 }
 
 // A formal: what the head cell remembers of it, where its own function's call made that cell; else visits the actual that the head
@@ -95,20 +91,19 @@ fn visit_formal(
     }
     let cell = cell_in(*cells, w);
     let label = (cell % 0x1_0000) as u16;
-    let found = listed(*b, second_in(node), third_in(node), label);
-    let Found::Node(n) = found else {
+    let Some(n) = listed(*b, second_in(node), third_in(node), label) else {
         return packed(ended(numbers::NO_ACTUAL));
     };
     let tail = (cell / 0x1_0000) as u16;
     let x = visit(b, tab, cells, counts, limits, pair_of(n, tail));
     remember(*cells, own, w, place % POSITIONS, x);
-    note_constructor(counts, own, w, kind_in(x));
+    counts.note_constructor(own, w, kind_in(x));
     x
 }
 
-// A selection: index 0 is the tag, i is field i - 1 under the tuple's own context.
+// A selection, an if or a case: the operand, and then the visit that it goes on to.
 #[cycle(visits)]
-fn visit_select(
+fn visit_operand(
     b: &&[u8],
     tab: &Table,
     cells: &mut &mut [u8],
@@ -116,31 +111,17 @@ fn visit_select(
     limits: u32,
     at: u32,
 ) -> u64
-    requires { Evaluable b.now.now tab.now limits at counts.old cells.old.now kinds.select }
+    requires { Evaluable b.now.now tab.now limits at counts.old cells.old.now (kind_of (node_record b.now.now (below at)))
+        × Chooses (kind_of (node_record b.now.now (below at))) }
     ensures { Evaluates b.now.now tab.now limits at counts.old cells.old result counts.new cells.new }
 {
-    let k = (at % 0x1_0000) as u16;
+    let n = first_in(entry(tab, (at % 0x1_0000) as u16));
     let w = (at / 0x1_0000) as u16;
-    let n = first_in(entry(tab, k));
-    let tuple = visit(b, tab, cells, counts, limits, pair_of(n, w));
-    let state = opened(tuple, counts[LEFT], counts[MOST]);
-    let outcome = state.outcome;
-    let Outcome::Value(value) = outcome else {
-        return tuple;
-    };
-    let Value::Constructor { node, context: v } = value else {
-        return packed(ended(numbers::CONSTRUCTOR_WANTED));
-    };
-    let i = second_in(entry(tab, k));
-    let fields = entry(tab, node);
-    if i == 0 {
-        return packed(tag(first_in(fields)));
+    let x = visit(b, tab, cells, counts, limits, pair_of(n, w));
+    match next_visit(*b, tab, at, x) {
+        Ok(next) => visit(b, tab, cells, counts, limits, next),
+        Err(end) => end,
     }
-    let found = listed(*b, second_in(fields), third_in(fields), i);
-    let Found::Node(m) = found else {
-        return packed(ended(numbers::NO_FIELD));
-    };
-    visit(b, tab, cells, counts, limits, pair_of(m, v))
 }
 
 // An operator: the left operand has to be a number before the right is visited.
@@ -160,55 +141,13 @@ fn visit_operator(
     let w = (at / 0x1_0000) as u16;
     let n = second_in(entry(tab, k));
     let first = visit(b, tab, cells, counts, limits, pair_of(n, w));
-    let state = opened(first, counts[LEFT], counts[MOST]);
-    let outcome = state.outcome;
-    let Outcome::Value(value) = outcome else {
-        return first;
-    };
-    let Value::Number(x) = value else {
-        return packed(ended(numbers::NUMBER_WANTED));
+    let x = match number_due(first) {
+        Ok(x) => x,
+        Err(end) => return end,
     };
     let m = third_in(entry(tab, k));
     let second = visit(b, tab, cells, counts, limits, pair_of(m, w));
-    let state = opened(second, counts[LEFT], counts[MOST]);
-    let outcome = state.outcome;
-    let Outcome::Value(value) = outcome else {
-        return second;
-    };
-    let Value::Number(y) = value else {
-        return packed(ended(numbers::NUMBER_WANTED));
-    };
-    packed(given(compute(first_in(entry(tab, k)), x, y)))
-}
-
-// An if: nonzero takes the second node, zero the third.
-#[cycle(visits)]
-fn visit_conditional(
-    b: &&[u8],
-    tab: &Table,
-    cells: &mut &mut [u8],
-    counts: &mut Counts,
-    limits: u32,
-    at: u32,
-) -> u64
-    requires { Evaluable b.now.now tab.now limits at counts.old cells.old.now kinds.conditional }
-    ensures { Evaluates b.now.now tab.now limits at counts.old cells.old result counts.new cells.new }
-{
-    let k = (at % 0x1_0000) as u16;
-    let w = (at / 0x1_0000) as u16;
-    let n = first_in(entry(tab, k));
-    let condition = visit(b, tab, cells, counts, limits, pair_of(n, w));
-    let state = opened(condition, counts[LEFT], counts[MOST]);
-    let outcome = state.outcome;
-    let Outcome::Value(value) = outcome else {
-        return condition;
-    };
-    let Value::Number(z) = value else {
-        return packed(ended(numbers::NUMBER_WANTED));
-    };
-    let node = entry(tab, k);
-    let m = branch(z, second_in(node), third_in(node));
-    visit(b, tab, cells, counts, limits, pair_of(m, w))
+    operated(first_in(entry(tab, k)), x, second)
 }
 
 // A call: one cell more alive, and the body under it; then the call is closed, which may give cells back.
@@ -224,52 +163,17 @@ fn visit_call(
     requires { Evaluable b.now.now tab.now limits at counts.old cells.old.now kinds.call }
     ensures { Evaluates b.now.now tab.now limits at counts.old cells.old result counts.new cells.new }
 {
-    let live = counts[LIVE];
+    let live = counts.live;
     if limits / 0x1_0000 <= live {
         return packed(ended(numbers::NO_CELL));
     }
-    let oldest = counts[OLDEST];
+    let oldest = counts.oldest;
     let node = entry(tab, (at % 0x1_0000) as u16);
     let w = (at / 0x1_0000) as u16;
-    add_cell(*cells, wide32(live), first_in(node), w, second_in(node));
-    open_call(counts);
+    add_cell(*cells, live as usize, first_in(node), w, second_in(node));
+    counts.open_call();
     let body = pair_of(third_in(node), (live + 1) as u16);
     let x = visit(b, tab, cells, counts, limits, body);
-    close_call(counts, live, oldest, kind_in(x));
+    counts.close_call(live, oldest, kind_in(x));
     x
-}
-
-// A case: the scrutinee, then the first clause with its tag.
-#[cycle(visits)]
-fn visit_case(
-    b: &&[u8],
-    tab: &Table,
-    cells: &mut &mut [u8],
-    counts: &mut Counts,
-    limits: u32,
-    at: u32,
-) -> u64
-    requires { Evaluable b.now.now tab.now limits at counts.old cells.old.now kinds.case_of }
-    ensures { Evaluates b.now.now tab.now limits at counts.old cells.old result counts.new cells.new }
-{
-    let k = (at % 0x1_0000) as u16;
-    let w = (at / 0x1_0000) as u16;
-    let n = first_in(entry(tab, k));
-    let scrutinee = visit(b, tab, cells, counts, limits, pair_of(n, w));
-    let state = opened(scrutinee, counts[LEFT], counts[MOST]);
-    let outcome = state.outcome;
-    let Outcome::Value(value) = outcome else {
-        return scrutinee;
-    };
-    let Value::Constructor { node, context: _ } = value else {
-        return packed(ended(numbers::CONSTRUCTOR_WANTED));
-    };
-    let tag = first_in(entry(tab, node));
-    let list = entry(tab, k);
-    let place = clause(*b, second_in(list), third_in(list), tag);
-    let found = found_at(*b, place);
-    let Found::Node(m) = found else {
-        return packed(ended(numbers::NO_CLAUSE));
-    };
-    visit(b, tab, cells, counts, limits, pair_of(m, w))
 }

@@ -165,7 +165,8 @@ module _ {b starts : List ℕ} {k : ℕ} (w : NamedAt b starts k) where
       (same_type_by b (node_record b k) (type_in types) (type_of b) (λ n c. u.entry n (smaller k n w.below c)) k (node_record_law b w.file.accepted k w.below)
       ∙ sym (type_of_node b w.file.accepted smaller k w.below))
 
-  pub children_found : {rec types : List ℕ} → rec ≡ node_record b k → TypesBelow b types (k + 1) → {t : Bool} → t ≡ children_typed b (type_in types) rec → t ≡ children_typed b (type_of b) (node_record b k)
+  pub children_found : {rec types : List ℕ} → rec ≡ node_record b k → TypesBelow b types (k + 1) → {t : Bool} → t ≡ children_typed b (type_in types) rec
+      → t ≡ children_typed b (type_of b) (node_record b k)
   children_found {types} er u e =
       e ∙ rw er
       (same_children b (node_record b k) (type_in types) (type_of b) (λ n c. u.entry n (omega (arith, smaller k n w.below c)))

@@ -14,6 +14,7 @@ pub fn read_full<R: Read>(input: &mut R, buffer: &mut [u8]) -> io::Result<usize>
     ensures end { IfOk result (λ n. n < length buffer.new → IsAtEnd (R.remaining input.new)) }
 {
     let mut done: usize = 0;
+    // A read gives as many bytes as it likes, so there is no range to go through; std's `read_exact` does not tell how many came.
     while done < buffer.len() {
         let count = input.read(&mut buffer[done..])?;
         if count == 0 {

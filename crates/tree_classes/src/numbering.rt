@@ -47,6 +47,7 @@ fn find_same(
     ensures { FoundSame b.now places.now classes.now k result }
 {
     let mut next = last;
+    // A chain is followed link by link, so there is no range to go through.
     while 0 < next {
         let j = next - 1;
         if same_key(b, starts, places, classes, rec, j, k) {

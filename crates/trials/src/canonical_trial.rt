@@ -1,87 +1,57 @@
 // A trial of writing a sheet in canonical form: a line says what was answered, whether the output is what it should be, and where writing
 // it again changes a byte.
-use crate::files::{change_words, copy, filled, within};
+use crate::files::{File, changed, filled, within};
 use crate::printer::Printer;
-use crate::shown::{show_named, show_number, show_refusal, show_whether};
+use crate::shown::{show_entry, show_refusal, show_whether};
 use crate::text::numbered;
-use crate::translator_trial::agree;
 use canonical_writer::write_canonical;
-use definitions::Written;
+use definitions::refusals::Refusal;
 use file_writer::{SPACE_BYTES, Space};
 
 // Writes the canonical form of the first `size` bytes of a sheet's file into the first `room` bytes of an output.
 fn formed(
-    sheet: &[u8],
-    size: usize,
-    out: &mut [u8],
-    room: usize,
-    printer: &mut Printer,
-) -> Written {
-    let bytes = within(size, sheet.len(), printer);
-    let out_bytes = within(room, out.len(), printer);
-    write_canonical(&sheet[0..bytes], &mut out[0..out_bytes])
-}
-
-// The same with whole spaces.
-fn formed_in(
     sheet: &Space,
     size: usize,
     out: &mut Space,
     room: usize,
     printer: &mut Printer,
-) -> Written {
-    formed(sheet, size, out, room, printer)
+) -> Result<usize, Refusal> {
+    let size = within(size, SPACE_BYTES, printer);
+    let room = within(room, SPACE_BYTES, printer);
+    write_canonical(&sheet[..size], &mut out[..room])
 }
 
 // Whether a form of `length` bytes is its own form.
 fn own_form(form: &Space, length: usize, printer: &mut Printer) -> bool {
     let mut again = filled();
-    let answer = formed_in(form, length, &mut again, length, printer);
-    match answer {
-        Written::Length(n) => n == length && agree(&again, form),
-        Written::Refused { .. } => false,
-    }
+    formed(form, length, &mut again, length, printer) == Ok(length) && again == *form
 }
 
-// A trial. The entry has the sheet's bytes, the output's bytes, and the changes. The expected output is the expected form of `length`
-// bytes and past it what stood there before; where the sheet is refused, the whole output is what stood there before.
-pub(crate) fn try_canonical(
-    text: &[u8],
-    from: usize,
-    base: &Space,
-    expected: &Space,
-    length: usize,
-    printer: &mut Printer,
-) {
-    let mut sheet = [0u8; SPACE_BYTES];
-    copy(base, SPACE_BYTES, &mut sheet);
-    change_words(text, from, &mut sheet, printer);
+// A trial. The entry has the sheet's bytes, the output's bytes, and the changes. The expected output is the expected form and past it
+// what stood there before; where the sheet is refused, the whole output is what stood there before.
+pub(crate) fn try_canonical(entry: &[u8], base: &Space, expected: &File, printer: &mut Printer) {
+    let sheet = changed(entry, base, printer);
     let mut out = filled();
-    let before = filled();
-    let size = numbered(text, from, 0, printer) as usize;
-    let room = numbered(text, from, 1, printer) as usize;
-    let answer = formed_in(&sheet, size, &mut out, room, printer);
-    show_named(b"  canonical ", text, from, b": ", printer);
+    let size = numbered(entry, 0, printer) as usize;
+    let room = numbered(entry, 1, printer) as usize;
+    let answer = formed(&sheet, size, &mut out, room, printer);
+    show_entry("  canonical ", entry, ": ", printer);
     let right = match answer {
-        Written::Length(n) => {
-            show_number(b"length ", n, b"", printer);
-            show_whether(
-                own_form(&out, n, printer),
-                b"",
-                b", AGAIN: OTHERWISE",
-                printer,
-            );
-            n == length && agree(&out, expected)
+        Ok(n) => {
+            printer.print(format_args!("length {n}"));
+            let own = own_form(&out, n, printer);
+            show_whether(own, "", ", AGAIN: OTHERWISE", printer);
+            n == expected.size && out == expected.bytes
         }
-        Written::Refused { number, place } => {
-            show_refusal(number, place, printer);
-            agree(&out, &before)
+        Err(refusal) => {
+            show_refusal(refusal, printer);
+            out == filled()
         }
     };
     show_whether(
         right,
-        b", output as it should be\n",
-        b", OUTPUT WRONG\n",
+        ", output as it should be\n",
+        ", OUTPUT WRONG\n",
         printer,
     );
 }

@@ -1,18 +1,19 @@
 // Files written and changed as the text of the trials says, outputs, and readings.
 ghost use Rattle.std.specs.Prelude.{◌≤◌};
+ghost use Rattle.trials.specs.declared.files.TheConstants.{READINGS_ROOM};
 
 use crate::printer::Printer;
 use crate::shown::show_misfit;
-use crate::text::{COMMA, after, number, number_starts, place, signed_bits, until, word};
+use crate::text::{COMMA, after, from_number, number, number_starts, rest, signed_at, until, word};
 use definitions::sizes::{CELL_BYTES, MOST_READINGS, MOST_ROWS};
 use file_writer::{SPACE_BYTES, Space, change, put};
-use operators::bits::number_of;
-use std::num::wrapping_add_u32;
+use std::array;
 
 // More readings than an entry lists: some more than one row too many can have.
-pub(crate) const READINGS_ROOM: usize = (MOST_ROWS as usize + 1) * MOST_READINGS + 8;
+const READINGS_ROOM: usize = (MOST_ROWS as usize + 1) * MOST_READINGS + 8;
 
-pub(crate) type Readings = [i32; READINGS_ROOM];
+// How many words a cell has.
+const CELL_WORDS: usize = CELL_BYTES / 2;
 
 // A size that fits; of one that does not the trial's line says so, and the trial goes on with the greatest.
 pub(crate) fn within(size: usize, greatest: usize, printer: &mut Printer) -> usize
@@ -26,204 +27,172 @@ pub(crate) fn within(size: usize, greatest: usize, printer: &mut Printer) -> usi
 }
 
 // What a file and an output hold before anything is written: no two places near each other have the same byte.
-pub(crate) fn fill(out: &mut Space) {
-    for i in 0..SPACE_BYTES {
-        out[i] = (i % 251) as u8;
-    }
+pub(crate) fn filled() -> Space {
+    array::from_fn(|i| (i % 251) as u8)
 }
 
-// A space that holds just that.
-pub(crate) fn filled() -> Space {
-    let mut space = [0u8; SPACE_BYTES];
-    fill(&mut space);
+// The same past the first `size` bytes of a file.
+pub(crate) fn filled_past(file: &Space, size: usize) -> Space {
+    let end = size.min(SPACE_BYTES);
+    let mut space = filled();
+    space[..end].copy_from_slice(&file[..end]);
     space
 }
 
 // A word at a turn, from 0: it grows by its step from turn to turn, modulo 65,536.
 fn at_turn(word: u16, step: u16, turn: u16) -> u16 {
-    ((word as u64 + (step as u64) * (turn as u64) % 65536) % 65536) as u16
+    word.wrapping_add(step.wrapping_mul(turn))
 }
 
-// The word whose digits start at a place, at a turn.
-fn word_at_turn(text: &[u8], at: usize, turn: u16, printer: &mut Printer) -> u16 {
-    at_turn(
-        word(text, at, printer),
-        word(text, after(text, at, b'+'), printer),
-        turn,
-    )
+// The word that a text starts with, at a turn.
+fn word_at_turn(text: &[u8], turn: u16, printer: &mut Printer) -> u16 {
+    at_turn(word(text, printer), word(after(text, b'+'), printer), turn)
 }
 
-// Writes a word that fits, and answers the place after it.
-fn put_word(file: &mut Space, at: usize, word: u16, printer: &mut Printer) -> usize {
-    let next = put(file, at, word);
-    if next == at {
-        show_misfit(printer);
+// How many turns a part of an entry has: the number after `x`, or one. Two bytes stand before its words.
+fn turns(part: &[u8], printer: &mut Printer) -> u16 {
+    match rest(part, 2) {
+        [b'x', count @ ..] => word(count, printer),
+        _ => 1,
     }
-    next
 }
 
-// Writes one turn of an entry's words, and answers the place after them.
-fn put_turn(
-    text: &[u8],
-    from: usize,
-    turn: u16,
-    file: &mut Space,
-    at: usize,
-    printer: &mut Printer,
-) -> usize {
-    let end = until(text, from, COMMA);
-    let mut next = at;
-    for i in from..end {
-        if number_starts(text, i) {
-            next = put_word(file, next, word_at_turn(text, i, turn, printer), printer);
+// A file that is written, and how many bytes of it.
+#[derive(Drop)]
+pub(crate) struct File {
+    pub(crate) bytes: Space,
+    pub(crate) size: usize,
+}
+
+impl File {
+    pub(crate) fn new() -> File {
+        File {
+            bytes: filled(),
+            size: 0,
         }
     }
-    next
-}
 
-// How many words a cell has.
-const CELL_WORDS: u32 = CELL_BYTES as u32 / 2;
-
-// Writes one turn of a cell, and answers the place after it: the entry's first number is the cell's last word, and the numbers after
-// it, 0 where there are none, are the words before. More numbers do not fit.
-fn put_cell(
-    text: &[u8],
-    from: usize,
-    turn: u16,
-    file: &mut Space,
-    at: usize,
-    printer: &mut Printer,
-) -> usize {
-    let mut next = at;
-    for k in 1..CELL_WORDS {
-        next = put_word(
-            file,
-            next,
-            word_at_turn(text, place(text, from, k), turn, printer),
-            printer,
-        );
+    // Writes a word that fits.
+    fn put_word(&mut self, word: u16, printer: &mut Printer) {
+        let next = put(&mut self.bytes, self.size, word);
+        if next == self.size {
+            show_misfit(printer);
+        }
+        self.size = next;
     }
-    if place(text, from, CELL_WORDS) < text.len() {
-        show_misfit(printer);
-    }
-    put_word(
-        file,
-        next,
-        word(text, place(text, from, 0), printer),
-        printer,
-    )
-}
 
-// How many turns an entry has: the number after `x`, or one.
-fn turns(text: &[u8], from: usize, printer: &mut Printer) -> u16 {
-    if from < text.len() {
-        if text[from] == b'x' {
-            return word(text, from + 1, printer);
+    // Writes one turn of an entry's words.
+    fn put_turn(&mut self, entry: &[u8], turn: u16, printer: &mut Printer) {
+        for at in 0..until(entry, COMMA) {
+            if number_starts(entry, at) {
+                let word = word_at_turn(rest(entry, at), turn, printer);
+                self.put_word(word, printer);
+            }
         }
     }
-    1
-}
 
-// Writes an entry's words, or its cells, all turns of them, and answers the place after them.
-pub(crate) fn put_entry(
-    text: &[u8],
-    from: usize,
-    cells: bool,
-    file: &mut Space,
-    at: usize,
-    printer: &mut Printer,
-) -> usize {
-    let count = turns(text, from, printer);
-    let mut next = at;
-    for turn in 0..count {
-        if cells {
-            next = put_cell(text, from, turn, file, next, printer);
-        } else {
-            next = put_turn(text, from, turn, file, next, printer);
+    // Writes one turn of a cell: the entry's first number is the cell's last word, and the numbers after it, 0 where there are
+    // none, are the words before. More numbers do not fit.
+    fn put_cell(&mut self, entry: &[u8], turn: u16, printer: &mut Printer) {
+        for k in 1..CELL_WORDS {
+            let word = word_at_turn(from_number(entry, k), turn, printer);
+            self.put_word(word, printer);
+        }
+        if !from_number(entry, CELL_WORDS).is_empty() {
+            show_misfit(printer);
+        }
+        let last = word(from_number(entry, 0), printer);
+        self.put_word(last, printer);
+    }
+
+    // Writes an entry's words, all turns of them.
+    pub(crate) fn put_words(&mut self, entry: &[u8], printer: &mut Printer) {
+        for turn in 0..turns(entry, printer) {
+            self.put_turn(entry, turn, printer);
         }
     }
-    next
-}
 
-// Copies the first `size` bytes of a file.
-pub(crate) fn copy(from: &Space, size: usize, to: &mut Space) {
-    for i in 0..SPACE_BYTES {
-        if i < size {
-            to[i] = from[i];
+    // Writes an entry's cells, all turns of them.
+    pub(crate) fn put_cells(&mut self, entry: &[u8], printer: &mut Printer) {
+        for turn in 0..turns(entry, printer) {
+            self.put_cell(entry, turn, printer);
         }
     }
 }
 
-// Makes the changes that an entry lists: `r.j=w` sets word `j` of record `r`, of which word 0 is the length and word 1 the
+// A file with the changes that an entry lists: `r.j=w` sets word `j` of record `r`, of which word 0 is the length and word 1 the
 // kind. A number that no dot follows is no change.
-pub(crate) fn change_words(text: &[u8], from: usize, file: &mut Space, printer: &mut Printer) {
-    let end = until(text, from, COMMA);
-    for i in from..end {
-        if number_starts(text, i) {
-            let j = after(text, i, b'.');
-            if j < text.len() {
-                let record = number(text, i, printer) as usize;
-                change(
-                    file,
-                    record,
-                    word(text, j, printer),
-                    word(text, after(text, j, b'='), printer),
-                );
+pub(crate) fn changed(entry: &[u8], base: &Space, printer: &mut Printer) -> Space {
+    let mut file = *base;
+    for at in 0..until(entry, COMMA) {
+        if number_starts(entry, at) {
+            let text = rest(entry, at);
+            let place = after(text, b'.');
+            if !place.is_empty() {
+                let record = number(text, printer) as usize;
+                let value = word(after(place, b'='), printer);
+                change(&mut file, record, word(place, printer), value);
             }
         }
     }
+    file
 }
 
-// The reading whose digits start at a place, at a turn.
-fn reading(text: &[u8], at: usize, turn: u16, printer: &mut Printer) -> i32 {
-    let step = word(text, after(text, at, b'+'), printer);
-    let grown = at_turn(0, step, turn);
-    number_of(wrapping_add_u32(signed_bits(text, at, printer), grown as u32))
-}
-
-// Puts one turn of the readings that an entry lists after a bar, past the first `count`, and answers how many there are then; a
-// reading past the room has no place.
-fn put_row(
-    text: &[u8],
-    from: usize,
-    turn: u16,
-    readings: &mut Readings,
+// Readings, and how many they are.
+#[derive(Drop)]
+pub(crate) struct Readings {
+    values: [i32; READINGS_ROOM],
     count: usize,
-    printer: &mut Printer,
-) -> usize {
-    let end = until(text, from, COMMA);
-    let mut next = count;
-    for i in until(text, from, b'|')..end {
-        if number_starts(text, i) {
-            if next < READINGS_ROOM {
-                readings[next] = reading(text, i, turn, printer);
-                next += 1;
+    ghost fits: { count ≤ READINGS_ROOM },
+}
+
+impl Readings {
+    // The readings that an entry lists after a bar, all turns of them.
+    pub(crate) fn of(entry: &[u8], printer: &mut Printer) -> Readings {
+        let mut readings = Readings {
+            values: [0; READINGS_ROOM],
+            count: 0,
+        };
+        let part = entry
+            .get(until(entry, b'|')..until(entry, COMMA))
+            .unwrap_or(&[]);
+        for turn in 0..turns(part, printer) {
+            readings.push_row(part, turn, printer);
+        }
+        if readings.count == READINGS_ROOM {
+            show_misfit(printer);
+        }
+        readings
+    }
+
+    // Adds one turn of the readings that a part of an entry lists.
+    fn push_row(&mut self, part: &[u8], turn: u16, printer: &mut Printer) {
+        for at in 0..part.len() {
+            if number_starts(part, at) {
+                let step = word(after(rest(part, at), b'+'), printer);
+                let grown = i32::from(at_turn(0, step, turn));
+                self.push(signed_at(part, at, printer).wrapping_add(grown));
             }
         }
     }
-    next
-}
 
-// How many turns the readings of an entry have.
-fn reading_turns(text: &[u8], from: usize, printer: &mut Printer) -> u16 {
-    let bar = until(text, from, b'|');
-    if bar < text.len() {
-        return turns(text, bar + 2, printer);
+    // Adds a reading; one past the room has no place.
+    fn push(&mut self, value: i32) {
+        if self.count < READINGS_ROOM {
+            self.values[self.count] = value;
+            self.count += 1;
+        }
     }
-    1
-}
 
-// Puts the readings that an entry lists after a bar, all turns of them, and answers how many they are.
-pub(crate) fn put_readings(
-    text: &[u8],
-    from: usize,
-    readings: &mut Readings,
-    printer: &mut Printer,
-) -> usize {
-    let rows = reading_turns(text, from, printer);
-    let mut count: usize = 0;
-    for turn in 0..rows {
-        count = put_row(text, from, turn, readings, count, printer);
+    // Sets the reading at a position that has one.
+    pub(crate) fn set(&mut self, position: u32, value: i32) {
+        let at = position as usize;
+        if at < READINGS_ROOM {
+            self.values[at] = value;
+        }
     }
-    count
+
+    pub(crate) fn listed(&self) -> &[i32] {
+        &self.values[..self.count]
+    }
 }

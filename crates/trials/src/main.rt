@@ -5,7 +5,7 @@
 // their runs; sheets and their canonical forms; translations that no translator writes, and their runs, also on rows, for a hirer
 // and in searches; answer records and their views; cells and their listings. The file `stdout` has what each should answer by
 // document 01, and by document 02 for rows (request 1), products (2), the length that is asked (3), labels (4), hirers (5), what
-// cells remember (7), cells given back (9), the driver's view (10), types (11), searches (12) and canonical forms (13). Files and
+// cells remember (7), cells given back (9), the driver's view (10), types (11), searches (12) and canonical forms (13). Written and
 // translations are worked out by hand from these and document 002, and so are the readers' answers; those for types, the runs with
 // their steps and cells, and of the trials for labels the translations too, were worked out by models written from the documents
 // alone. A record is its length, its kind and its fields; in a change, word 0 of a record is its length, word 1 its kind, and the
@@ -65,7 +65,7 @@ mod translator_trial;
 mod view_trial;
 
 use crate::canonical_trial::try_canonical;
-use crate::files::{fill, put_entry};
+use crate::files::File;
 use crate::hirer_trial::try_for_hirer;
 use crate::length_trial::try_length;
 use crate::listing_trial::try_listing;
@@ -74,167 +74,72 @@ use crate::reader_trial::try_reader;
 use crate::rows_trial::try_rows;
 use crate::run_trial::{try_joined, try_run};
 use crate::search_trial::try_search;
-use crate::shown::{show_misfit, show_named};
-use crate::text::{line_starts, numbered};
+use crate::shown::{show_entry, show_misfit};
+use crate::text::{entry_at, line_starts};
 use crate::translator_trial::try_translator;
 use crate::view_trial::try_view;
 use definitions::Layout;
-use file_writer::{SPACE_BYTES, Space};
 use standard_input::read_full;
 use std::io;
 
 // More bytes than the text of the trials has.
 const TEXT_BYTES: usize = 131072;
 
-// How many bytes are written of the sheet, of the translation and of the cells.
-#[derive(Clone, Copy)]
-struct Sizes {
-    sheet: usize,
-    translation: usize,
-    cells: usize,
+// The sheet, the translation and the cells that entries write.
+#[derive(Drop)]
+struct Written {
+    sheet: File,
+    translation: File,
+    cells: File,
 }
 
-// Carries out an entry that writes files.
-fn written(
-    text: &[u8],
-    letter: u8,
-    from: usize,
-    sizes: Sizes,
-    sheet: &mut Space,
-    translation: &mut Space,
-    cells: &mut Space,
-    printer: &mut Printer,
-) -> Sizes {
-    if letter == b'=' {
-        fill(sheet);
-        fill(translation);
-        fill(cells);
-        return Sizes {
-            sheet: 0,
-            translation: 0,
-            cells: 0,
-        };
+impl Written {
+    fn new() -> Written {
+        Written {
+            sheet: File::new(),
+            translation: File::new(),
+            cells: File::new(),
+        }
     }
-    if letter == b's' {
-        let size = put_entry(text, from, false, sheet, sizes.sheet, printer);
-        return Sizes {
-            sheet: size,
-            ..sizes
-        };
-    }
-    if letter == b't' {
-        let size = put_entry(text, from, false, translation, sizes.translation, printer);
-        return Sizes {
-            translation: size,
-            ..sizes
-        };
-    }
-    if letter == b'c' || letter == b'k' {
-        let first = if letter == b'c' { sizes.cells } else { 0 };
-        let size = put_entry(text, from, true, cells, first, printer);
-        return Sizes {
-            cells: size,
-            ..sizes
-        };
-    }
-    sizes
-}
 
-// Carries out an entry that shows what is tried, or tries it: each kind of trial is a branch here and a file of its own.
-fn tried(
-    text: &[u8],
-    letter: u8,
-    from: usize,
-    sizes: Sizes,
-    sheet: &Space,
-    translation: &Space,
-    cells: &Space,
-    printer: &mut Printer,
-) {
-    if letter == b'=' {
-        show_named(b"", text, from, b"\n", printer);
+    // Carries out an entry that writes files.
+    fn write(&mut self, letter: u8, entry: &[u8], printer: &mut Printer) {
+        match letter {
+            b'=' => *self = Written::new(),
+            b's' => self.sheet.put_words(entry, printer),
+            b't' => self.translation.put_words(entry, printer),
+            b'c' => self.cells.put_cells(entry, printer),
+            b'k' => {
+                self.cells.size = 0;
+                self.cells.put_cells(entry, printer);
+            }
+            _ => {}
+        }
     }
-    if letter == b'-' {
-        show_named(b"- ", text, from, b"\n", printer);
-    }
-    if letter == b'S' {
-        try_reader(text, from, Layout::Sheet, sheet, printer);
-    }
-    if letter == b'T' {
-        try_reader(text, from, Layout::Translation, translation, printer);
-    }
-    if letter == b'r' {
-        let size = numbered(text, from, 0, printer) as usize;
-        let room = numbered(text, from, 1, printer) as usize;
-        try_translator(sheet, size, room, translation, sizes.translation, printer);
-    }
-    if letter == b'm' {
-        try_length(text, from, sheet, printer);
-    }
-    if letter == b'o' {
-        try_canonical(text, from, sheet, translation, sizes.translation, printer);
-    }
-    if letter == b'j' {
-        try_joined(text, from, sheet, cells, printer);
-    }
-    if letter == b'u' {
-        try_run(text, from, translation, cells, printer);
-    }
-    if letter == b'w' {
-        try_rows(text, from, translation, cells, printer);
-    }
-    if letter == b'h' {
-        try_for_hirer(text, from, translation, cells, printer);
-    }
-    if letter == b'f' {
-        try_search(text, from, translation, cells, printer);
-    }
-    if letter == b'l' {
-        try_listing(text, from, cells, printer);
-    }
-    if letter == b'v' {
-        try_view(text, from, translation, printer);
-    }
-}
 
-// Carries out the entry at a place, whose words start two bytes on.
-fn entry(
-    text: &[u8],
-    at: usize,
-    sizes: Sizes,
-    sheet: &mut Space,
-    translation: &mut Space,
-    cells: &mut Space,
-    printer: &mut Printer,
-) -> Sizes {
-    if text.len() <= at {
-        return sizes;
+    // Carries out an entry that shows what is tried, or tries it: each kind of trial is an arm here and a file of its own.
+    fn try_entry(&self, letter: u8, entry: &[u8], printer: &mut Printer) {
+        let sheet = &self.sheet.bytes;
+        let translation = &self.translation.bytes;
+        let cells = &self.cells;
+        match letter {
+            b'=' => show_entry("", entry, "\n", printer),
+            b'-' => show_entry("- ", entry, "\n", printer),
+            b'S' => try_reader(entry, Layout::Sheet, sheet, printer),
+            b'T' => try_reader(entry, Layout::Translation, translation, printer),
+            b'r' => try_translator(entry, sheet, &self.translation, printer),
+            b'm' => try_length(entry, sheet, printer),
+            b'o' => try_canonical(entry, sheet, &self.translation, printer),
+            b'j' => try_joined(entry, sheet, cells, printer),
+            b'u' => try_run(entry, translation, cells, printer),
+            b'w' => try_rows(entry, translation, cells, printer),
+            b'h' => try_for_hirer(entry, translation, cells, printer),
+            b'f' => try_search(entry, translation, cells, printer),
+            b'l' => try_listing(entry, &cells.bytes, printer),
+            b'v' => try_view(entry, translation, printer),
+            _ => {}
+        }
     }
-    if text.len() - at <= 2 {
-        return sizes;
-    }
-    let letter = text[at];
-    let after = written(
-        text,
-        letter,
-        at + 2,
-        sizes,
-        sheet,
-        translation,
-        cells,
-        printer,
-    );
-    tried(
-        text,
-        letter,
-        at + 2,
-        after,
-        sheet,
-        translation,
-        cells,
-        printer,
-    );
-    after
 }
 
 fn main(rt: HostRuntime) -> io::Result<()> {
@@ -244,25 +149,15 @@ fn main(rt: HostRuntime) -> io::Result<()> {
     if size == text.len() {
         show_misfit(&mut printer);
     }
-    let mut sheet = [0u8; SPACE_BYTES];
-    let mut translation = [0u8; SPACE_BYTES];
-    let mut cells = [0u8; SPACE_BYTES];
-    let mut sizes = Sizes {
-        sheet: 0,
-        translation: 0,
-        cells: 0,
-    };
+    let text = &text[..size];
+    let mut written = Written::new();
     for at in 0..size {
-        if line_starts(&text, at) {
-            sizes = entry(
-                &text,
-                at,
-                sizes,
-                &mut sheet,
-                &mut translation,
-                &mut cells,
-                &mut printer,
-            );
+        if line_starts(text, at) {
+            let entry = entry_at(text, at);
+            if let [letter, ..] = entry {
+                written.write(*letter, entry, &mut printer);
+                written.try_entry(*letter, entry, &mut printer);
+            }
         }
     }
     printer.end()

@@ -1,4 +1,5 @@
 // The standard output. The first write that fails is kept, and nothing is written after it.
+use std::fmt::Display;
 use std::io;
 use std::io::{Print, Stdout};
 
@@ -23,10 +24,9 @@ impl Printer {
         }
     }
 
-    // Writes a number in decimal digits.
-    pub(crate) fn write_number(&mut self, number: usize) {
+    pub(crate) fn print<D: Display + Drop>(&mut self, value: D) {
         if self.result.is_ok() {
-            self.result = self.output.print(number);
+            self.result = self.output.print(value);
         }
     }
 

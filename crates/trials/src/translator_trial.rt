@@ -1,86 +1,56 @@
 // A trial of the translator: a sheet is translated, and a line says what was answered, whether the output is what it should
 // be, and where asking for the length answers otherwise.
-use crate::files::{copy, filled, within};
-use crate::length_trial::{asked_in, same_answer};
+use crate::files::{File, filled, filled_past, within};
+use crate::length_trial::asked;
 use crate::printer::Printer;
-use crate::shown::{show_number, show_refusal, show_whether};
-use check::same;
-use definitions::Written;
-use file_writer::Space;
+use crate::shown::{show_refusal, show_whether};
+use crate::text::numbered;
+use definitions::refusals::Refusal;
+use file_writer::{SPACE_BYTES, Space};
 use translator::translate;
-
-// Whether two outputs hold the same bytes.
-pub(crate) fn agree(one: &Space, other: &Space) -> bool {
-    same(one, other)
-}
 
 // Whether an output is as it was before, past the first `changed` bytes.
 pub(crate) fn rest_kept(out: &Space, changed: usize) -> bool {
-    let mut right = filled();
-    copy(out, changed, &mut right);
-    agree(out, &right)
+    *out == filled_past(out, changed)
 }
 
 // Translates the first `size` bytes of a sheet's file into the first `room` bytes of an output.
-fn translated(
-    sheet: &[u8],
-    size: usize,
-    out: &mut [u8],
-    room: usize,
-    printer: &mut Printer,
-) -> Written {
-    let bytes = within(size, sheet.len(), printer);
-    let out_bytes = within(room, out.len(), printer);
-    translate(&sheet[0..bytes], &mut out[0..out_bytes])
-}
-
-// The same with whole spaces.
-pub(crate) fn translated_in(
+pub(crate) fn translated(
     sheet: &Space,
     size: usize,
     out: &mut Space,
     room: usize,
     printer: &mut Printer,
-) -> Written {
-    translated(sheet, size, out, room, printer)
+) -> Result<usize, Refusal> {
+    let size = within(size, SPACE_BYTES, printer);
+    let room = within(room, SPACE_BYTES, printer);
+    translate(&sheet[..size], &mut out[..room])
 }
 
-// A trial. The expected output is the expected translation of `length` bytes and past it what stood there before; where the
-// sheet is refused, the whole output is what stood there before.
-pub(crate) fn try_translator(
-    sheet: &Space,
-    size: usize,
-    room: usize,
-    expected: &Space,
-    length: usize,
-    printer: &mut Printer,
-) {
+// A trial. The entry has the sheet's bytes and the output's. The expected output is the expected translation and past it what stood
+// there before; where the sheet is refused, the whole output is what stood there before.
+pub(crate) fn try_translator(entry: &[u8], sheet: &Space, expected: &File, printer: &mut Printer) {
+    let size = numbered(entry, 0, printer) as usize;
+    let room = numbered(entry, 1, printer) as usize;
     let mut out = filled();
-    let before = filled();
-    show_number(b"  ", size, b" bytes", printer);
-    show_number(b" into ", room, b": ", printer);
-    let answer = translated_in(sheet, size, &mut out, room, printer);
-    let asked = asked_in(sheet, size, room, printer);
+    printer.print(format_args!("  {size} bytes into {room}: "));
+    let answer = translated(sheet, size, &mut out, room, printer);
+    let length = asked(sheet, size, room, printer);
     let right = match answer {
-        Written::Length(n) => {
-            show_number(b"length ", n, b"", printer);
-            n == length && agree(&out, expected)
+        Ok(n) => {
+            printer.print(format_args!("length {n}"));
+            n == expected.size && out == expected.bytes
         }
-        Written::Refused { number, place } => {
-            show_refusal(number, place, printer);
-            agree(&out, &before)
+        Err(refusal) => {
+            show_refusal(refusal, printer);
+            out == filled()
         }
     };
-    show_whether(
-        same_answer(answer, asked),
-        b"",
-        b", LENGTH ASKED: OTHERWISE",
-        printer,
-    );
+    show_whether(answer == length, "", ", LENGTH ASKED: OTHERWISE", printer);
     show_whether(
         right,
-        b", output as it should be\n",
-        b", OUTPUT WRONG\n",
+        ", output as it should be\n",
+        ", OUTPUT WRONG\n",
         printer,
     );
 }

@@ -4,6 +4,7 @@
 
 ghost use Rattle.zifnora.specs.Program.{ShowsAnswer};
 
+use allowances::Allowances;
 use definitions::sizes::{CELL_BYTES, SHEET_BYTES, TRANSLATION_BYTES};
 use join::translate_and_run;
 use report::{LINE_BYTES, Line, write_line};
@@ -14,13 +15,13 @@ use std::io;
 const INPUT_BYTES: usize = SHEET_BYTES + 1;
 
 // "1,000 steps, nesting 100, 100 cells".
-const STEPS: u32 = 1000;
+const ALLOWANCES: Allowances = Allowances {
+    steps: 1000,
+    nesting: 100,
+    cells: 100,
+};
 
-const NESTING: u32 = 100;
-
-const CELLS: u32 = 100;
-
-const LENT_BYTES: usize = CELLS as usize * CELL_BYTES;
+const LENT_BYTES: usize = ALLOWANCES.cells as usize * CELL_BYTES;
 
 // Writes the line of a sheet's answer, and answers its length.
 fn show_answer(sheet: &[u8], line: &mut Line) -> usize
@@ -30,15 +31,7 @@ fn show_answer(sheet: &[u8], line: &mut Line) -> usize
     let mut cells = [0u8; LENT_BYTES];
     let mut lent: &mut [u8] = &mut cells;
     let readings = [0i32; 0];
-    let answer = translate_and_run(
-        sheet,
-        &mut translation,
-        &readings,
-        STEPS,
-        NESTING,
-        CELLS,
-        &mut lent,
-    );
+    let answer = translate_and_run(sheet, &mut translation, &readings, ALLOWANCES, &mut lent);
     write_line(answer, line)
 }
 

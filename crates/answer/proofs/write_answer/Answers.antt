@@ -6,8 +6,10 @@ use Rattle.answer.proofs.write_answer.Goals as goal
 
 pub returns-in_err-require : goal.returns-in_err-require
 returns-in_err-require c =
-    let passed = passed_on c.from_residual.result c.in_err-require.field-0.0 c.from_residual.ensures.1 in
-    record_short (passed ∙ c.in_err-require.ensures) passed
+    let from = c.from_residual in
+    let err = c.in_err-require in
+    let passed = passed_on from.result err.field-0.0 from.ensures.1 in
+    record_short (passed ∙ err.ensures) passed
 
 pub returns : goal.returns
 returns c =

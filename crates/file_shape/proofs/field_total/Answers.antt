@@ -1,4 +1,5 @@
 -- `file_shape::field_total` meets its contract. The loop's invariant: the total is the sum over the functions passed.
+use mathlib.Core.Path.{◌∙◌}
 use native.Mathlib.Omega.{arith}
 use Rattle.file_records.proofs.Indices.{indexed_field, as_many}
 use Rattle.laws.proofs.Runs.{total_none, total_more, total_fields}
@@ -15,7 +16,7 @@ loop-f-preserved c =
       search rules,
       search rules,
       total_more _ _ _ _ _ _ loop.invariant.3
-          (indexed_field _ _ _ _ _ _ _ loop.invariant.1 (omega arith) c.indexed.ensures c.field.ensures),
+          (indexed_field _ _ _ _ _ _ _ loop.invariant.1 (omega arith) c.indexed.ensures (c.from-total.ensures ∙ c.field.ensures)),
     )
 
 pub returns : goal.returns

@@ -1,7 +1,7 @@
 -- `file_shape::field_total` meets its contract. The loop's invariant: the total is the sum over the functions passed.
 use Rattle.laws.proofs.Runs.{Totalled}
 use Rattle.file_records.specs.Index.{Indexed}
-use Prim.Native.Nat.{◌≤◌, ◌-◌, ◌+◌, ◌*◌}
+use Prim.Native.Nat.{◌≤◌, ◌+◌, ◌*◌}
 use Rattle.file_shape.proofs.field_total.Given as goal
 
 abbrev pub invariant-loop-f : goal.invariant-loop-f

@@ -12,36 +12,24 @@ returns-then-not-is_due c = search shape_not_due
 pub returns-then-not-allows : goal.returns-then-not-allows
 returns-then-not-allows c = search shape_length
 
-pub returns-then-left-n : goal.returns-then-left-n
-returns-then-left-n c = search shape_cut
+pub returns-then-left-from : goal.returns-then-left-from
+returns-then-left-from c =
+    shape_cut _ _ _ _ (omega arith) (omega arith) _ _ c.word_inside-k.ensures c.word_inside-n.ensures _ c.is_due.ensures c.if-not-is_due.false _
+    c.allows.ensures c.if-not-allows.false (omega arith)
 
 pub returns-then-not-operator_code : goal.returns-then-not-operator_code
 returns-then-not-operator_code c =
-    let word_inside = c.word_inside-k in
-    let word_inside2 = c.word_inside-n in
-    let is_due = c.is_due in
-    let if2 = c.if-not-is_due in
-    let allows = c.allows in
-    let if3 = c.if-not-allows in
-    let record_at = c.record_at-rec in
-    shape_code _ _ _ _ (omega arith) (omega arith) _ _ word_inside.ensures word_inside2.ensures _ is_due.ensures if2.false _
-    allows.ensures if3.false (omega arith) _ record_at.ensures _ c.operator_code.ensures
-    c.if-not-operator_code.true
+    shape_code _ _ _ _ (omega arith) (omega arith) _ _ c.word_inside-k.ensures c.word_inside-n.ensures _ c.is_due.ensures c.if-not-is_due.false _
+    c.allows.ensures c.if-not-allows.false (omega arith) _ c.record_at-rec.ensures _ c.operator_code.ensures c.if-not-operator_code.true
 
 pub returns-then-not-counts : goal.returns-then-not-counts
 returns-then-not-counts c =
-    let word_inside = c.word_inside-k in
-    let word_inside2 = c.word_inside-n in
-    let is_due = c.is_due in
-    let if2 = c.if-not-is_due in
-    let allows = c.allows in
-    let if3 = c.if-not-allows in
-    let record_at = c.record_at-rec in
-    let operator_code = c.operator_code in
-    let if5 = c.if-not-operator_code in
-    shape_counts _ _ _ _ (omega arith) (omega arith) _ _ word_inside.ensures word_inside2.ensures _ is_due.ensures
-    if2.false _ allows.ensures if3.false (omega arith) _ record_at.ensures _ operator_code.ensures
-    if5.false _ c.counts.ensures c.if-not-counts.true
+    shape_counts _ _ _ _ (omega arith) (omega arith) _ _ c.word_inside-k.ensures c.word_inside-n.ensures _ c.is_due.ensures c.if-not-is_due.false _
+    c.allows.ensures c.if-not-allows.false (omega arith) _ c.record_at-rec.ensures _ c.operator_code.ensures c.if-not-operator_code.false _
+    c.counts.ensures c.if-not-counts.true
 
 pub returns : goal.returns
-returns c = search shape_accepted
+returns c =
+    shape_accepted _ _ _ _ (omega arith) (omega arith) _ _ c.word_inside-k.ensures c.word_inside-n.ensures _ c.is_due.ensures c.if-not-is_due.false _
+    c.allows.ensures c.if-not-allows.false (omega arith) _ c.record_at-rec.ensures _ c.operator_code.ensures c.if-not-operator_code.false _
+    c.counts.ensures c.if-not-counts.false

@@ -33,7 +33,7 @@ loop-r-preserved c =
     let loop = c.loop-r in
     let loop_test = c.loop-r-test in
     let shape_at = c.shape_at in
-    goes_on loop.invariant loop_test.true shape_at.ensures (ap as_verdict c.in_ok-shape_at.was) c.word.ensures
+    goes_on loop.invariant loop_test.true shape_at.ensures (ap as_verdict c.in_ok-shape_at.was) (c.from-at.ensures ∙ c.word.ensures)
 
 pub returns-then-at-b : goal.returns-then-at-b
 returns-then-at-b c =

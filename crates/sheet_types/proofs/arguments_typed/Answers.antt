@@ -1,4 +1,5 @@
 -- `sheet_types::arguments_typed` meets its contract. The loop's invariant: the arguments so far have the types declared.
+use borrow.Author.Rules.{rules}
 use mathlib.Core.Path.{refl, ◌∙◌}
 use native.Mathlib.Omega.{arith}
 use Rattle.laws.proofs.Tests.{tests_begin, tests_go_on, tests_fail, tests_end, same_test, differ_test}
@@ -9,26 +10,16 @@ pub returns-then-n-lt1 : goal.returns-then-n-lt1
 returns-then-n-lt1 c = arguments_tested _ _ _ (tests_end (tests_begin {n = 0} (omega (arith, c.field_count-n.ensures, c.if-n-lt1.true))) (omega arith))
 
 pub loop-i-init : goal.loop-i-init
-loop-i-init c = tests_begin (omega (arith, c.field_count-n.ensures))
+loop-i-init c = search (rules, tests_begin)
 
 pub returns-then-type_in-field : goal.returns-then-type_in-field
 returns-then-type_in-field c =
-    let loop = c.loop-i in
-    let loop_test = c.loop-i-test in
-    let field_inside = c.field_inside in
-    let type_in = c.type_in in
     arguments_tested _ _ _
-    (tests_fail loop.invariant loop_test.true (differ_test (type_in.ensures ∙ rw field_inside.ensures refl) c.field.ensures c.if-type_in-field.true))
+    (tests_fail c.loop-i.invariant c.loop-i-test.true (differ_test (c.type_in.ensures ∙ rw c.field_inside.ensures refl) c.field.ensures c.if-type_in-field.true))
 
 pub loop-i-preserved : goal.loop-i-preserved
 loop-i-preserved c =
-    let loop = c.loop-i in
-    let loop_test = c.loop-i-test in
-    let field_inside = c.field_inside in
-    let type_in = c.type_in in
-    tests_go_on loop.invariant loop_test.true (same_test (type_in.ensures ∙ rw field_inside.ensures refl) c.field.ensures c.if-type_in-field.false)
+    tests_go_on c.loop-i.invariant c.loop-i-test.true (same_test (c.type_in.ensures ∙ rw c.field_inside.ensures refl) c.field.ensures c.if-type_in-field.false)
 
 pub returns : goal.returns
-returns c =
-    let loop = c.loop-i in
-    arguments_tested _ _ _ (tests_end loop.invariant c.loop-i-test.false)
+returns c = search (rules, arguments_tested, tests_end)

@@ -7,54 +7,26 @@ use Rattle.sheet_types.proofs.types.Goals as goal
 pub loop-k-init : goal.loop-k-init
 loop-k-init c =
     let pre = c.requires in
-    let first_node = c.first_node-first in
-    typing_begins pre.0 pre.1 (search rules) first_node.ensures (c.from-count.ensures ∙ c.nodes.ensures)
+    typing_begins pre.0 pre.1 (search rules) c.first_node-first.ensures (c.from-count.ensures ∙ c.nodes.ensures)
 
 pub type_at-t-requires : goal.type_at-t-requires
-type_at-t-requires c =
-    let loop = c.loop-k in
-    let loop_test = c.loop-k-test in
-    (typed_at loop.invariant loop_test.true, typing_record loop.invariant loop_test.true c.indexed-rec.ensures)
+type_at-t-requires c = search (rules, typed_at, typing_record)
 
 pub bounds-types-k : goal.bounds-types-k
-bounds-types-k c =
-    let loop = c.loop-k in
-    let loop_test = c.loop-k-test in
-    typing_room loop.invariant loop_test.true
+bounds-types-k c = search typing_room
 
 pub children_typed-requires : goal.children_typed-requires
-children_typed-requires c =
-    let loop = c.loop-k in
-    let loop_test = c.loop-k-test in
-    let indexed = c.indexed-rec in
-    (named_at loop.invariant loop_test.true, typing_record loop.invariant loop_test.true indexed.ensures)
+children_typed-requires c = search (rules, named_at, typing_record)
 
 pub returns-then-not-children_typed : goal.returns-then-not-children_typed
-returns-then-not-children_typed c =
-    let loop = c.loop-k in
-    let loop_test = c.loop-k-test in
-    let indexed = c.indexed-rec in
-    let type_at = c.type_at-t in
-    children_refused loop.invariant loop_test.true indexed.ensures type_at.ensures c.children_typed.ensures c.if-not-children_typed.true
+returns-then-not-children_typed c = search children_refused
 
 pub returns-then-not-result_typed : goal.returns-then-not-result_typed
 returns-then-not-result_typed c =
-    let loop = c.loop-k in
-    let loop_test = c.loop-k-test in
-    let indexed = c.indexed-rec in
-    let type_at = c.type_at-t in
-    let children_typed = c.children_typed in
-    let if1 = c.if-not-children_typed in
-    result_refused loop.invariant loop_test.true indexed.ensures type_at.ensures children_typed.ensures
-    if1.false c.result_typed.ensures c.if-not-result_typed.true
+    result_refused c.loop-k.invariant c.loop-k-test.true c.indexed-rec.ensures c.type_at-t.ensures c.children_typed.ensures
+    c.if-not-children_typed.false c.result_typed.ensures c.if-not-result_typed.true
 
 pub loop-k-preserved : goal.loop-k-preserved
 loop-k-preserved c =
-    let loop = c.loop-k in
-    let loop_test = c.loop-k-test in
-    let indexed = c.indexed-rec in
-    let type_at = c.type_at-t in
-    let children_typed = c.children_typed in
-    let if1 = c.if-not-children_typed in
-    typing_goes_on loop.invariant loop_test.true indexed.ensures type_at.ensures children_typed.ensures
-    if1.false c.result_typed.ensures c.if-not-result_typed.false
+    typing_goes_on c.loop-k.invariant c.loop-k-test.true c.indexed-rec.ensures c.type_at-t.ensures c.children_typed.ensures
+    c.if-not-children_typed.false c.result_typed.ensures c.if-not-result_typed.false

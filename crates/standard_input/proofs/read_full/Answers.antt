@@ -5,4 +5,6 @@ use Rattle.standard_input.proofs.read_full.Goals as goal
 
 pub loop-done-preserved : goal.loop-done-preserved
 loop-done-preserved g c =
-    (search rules, reads_on _ _ _ _ _ _ _ _ c.loop-done.invariant.0 c.in_ok-count.ensures.bound.0 c.loop-done.invariant.1 c.in_ok-count.ensures.bytes.0)
+    let before = c.loop-done.invariant in
+    let read = c.in_ok-count.ensures in
+    (search rules, reads_on _ _ _ _ _ _ _ _ before.0 read.bound.0 before.1 read.bytes.0)

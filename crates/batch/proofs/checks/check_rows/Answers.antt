@@ -1,19 +1,21 @@
 -- `batch::checks::check_rows` meets its contract: the three tests in their order.
-use Rattle.batch.proofs.Refusals.{product_fits, checked}
+use Rattle.std.proofs.Common.{◌∙◌}
+use Rattle.laws.proofs.Refusals.{passed_on}
+use Rattle.batch.proofs.Refusals.{readings_refused, allowance_refused, room_checked}
 use Rattle.batch.proofs.checks.check_rows.Goals as goal
 
-pub overflow_mul-count : goal.overflow_mul-count
-overflow_mul-count c =
-    let wide32 = c.wide32-count in
-    record { fits = product_fits wide32.ensures.1 c.wide-width.ensures.1 }
+pub returns-in_err-require : goal.returns-in_err-require
+returns-in_err-require c =
+    let test = c.in_err-require in
+    passed_on c.from_residual.result test.field-0.0 c.from_residual.ensures.1 ∙ readings_refused _ _ _ _ _ _ _ (c.from-width.ensures ∙ c.readings.ensures) test.ensures
+
+pub returns-in_err-require-2 : goal.returns-in_err-require-2
+returns-in_err-require-2 c =
+    let test = c.in_err-require-2 in
+    let passed = c.from_residual-in_err-require-2 in
+    passed_on passed.result test.field-0.0 passed.ensures.1
+    ∙ allowance_refused _ _ _ _ _ _ _ (c.from-width.ensures ∙ c.readings.ensures) c.in_ok-require.ensures c.rows_allowed.ensures test.ensures
 
 pub returns : goal.returns
 returns c =
-    let required = c.required-counted in
-    let wide = c.wide-width in
-    let readings = c.readings in
-    let wide32 = c.wide32-count in
-    let required2 = c.required-within in
-    let rows_allowed = c.rows_allowed in
-    checked _ _ _ _ _ _ _ wide32.ensures.0 wide.ensures.0 readings.ensures rows_allowed.ensures
-    required.ensures required2.ensures c.required-roomy.ensures c.and_then.ensures c.and_then-2.ensures
+    room_checked _ _ _ _ _ _ _ (c.from-width.ensures ∙ c.readings.ensures) c.in_ok-require.ensures c.rows_allowed.ensures c.in_ok-require-2.ensures c.require-3.ensures

@@ -3,6 +3,4 @@ use Rattle.cells.proofs.Entries.{callee_by}
 use Rattle.cells.proofs.cell.callee_at.Goals as goal
 
 pub returns : goal.returns
-returns c =
-    let wide = c.wide in
-    callee_by _ wide.ensures.0 c.index.ensures c.word.ensures
+returns c = callee_by _ c.from.ensures c.index.ensures c.word.ensures

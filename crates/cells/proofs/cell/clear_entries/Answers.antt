@@ -1,12 +1,8 @@
--- `cells::cell::clear_entries` meets its contract: the bytes before the one reached are zero.
-use Rattle.cells.proofs.Entries.{none_cleared, one_cleared, all_cleared}
+-- `cells::cell::clear_entries` meets its contract: the part that was filled is the entries.
+use Rattle.std.proofs.Common.{arith}
+use Rattle.cells.proofs.Entries.{cleared}
 use Rattle.cells.proofs.cell.clear_entries.Goals as goal
 
-pub loop-i-init : goal.loop-i-init
-loop-i-init c = none_cleared _ _
-
-pub loop-i-preserved : goal.loop-i-preserved
-loop-i-preserved c = one_cleared c.loop-i.invariant c.loop-i-test.true
-
 pub returns : goal.returns
-returns c = all_cleared c.loop-i.invariant c.loop-i-test.false
+returns c =
+    cleared _ _ _ _ 62 (omega arith) (omega (arith, c.requires)) (c.fill.ensures.after (λ y e. e))

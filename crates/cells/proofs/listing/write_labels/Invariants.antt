@@ -1,6 +1,5 @@
--- `cells::listing::write_labels` meets its contract. The invariant: what is to be written from here on gives the whole output; the measure is what is left to write.
+-- `cells::listing::write_labels` meets its contract. The invariant: what is to be written from here on gives the whole output.
 use Rattle.cells.proofs.Walks.{WrittenSo}
-use Prim.Native.Nat.{◌-◌}
 use Rattle.cells.proofs.listing.write_labels.Given as goal
 
 abbrev pub invariant-loop-i : goal.invariant-loop-i

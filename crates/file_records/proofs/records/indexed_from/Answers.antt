@@ -3,8 +3,5 @@ use Rattle.file_records.proofs.Indices.{record_past}
 use native.Mathlib.Omega.{arith}
 use Rattle.file_records.proofs.records.indexed_from.Goals as goal
 
-pub returns-then-first-ge-MOST_RECORDS : goal.returns-then-first-ge-MOST_RECORDS
-returns-then-first-ge-MOST_RECORDS c = record_past _ _ _ _ (omega arith) c.record_at.ensures
-
-pub returns-then-i-ge-MOST_RECORDS : goal.returns-then-i-ge-MOST_RECORDS
-returns-then-i-ge-MOST_RECORDS c = record_past _ _ _ _ (omega arith) c.record_at-then-i-ge-MOST_RECORDS.ensures
+pub returns-else-first-lt-MOST_RECORDS : goal.returns-else-first-lt-MOST_RECORDS
+returns-else-first-lt-MOST_RECORDS c = record_past _ _ _ _ (omega (arith, c.else-first-lt-MOST_RECORDS.either)) c.record_at.ensures

@@ -1,7 +1,7 @@
 -- `file_records::records::start` meets its contract. The loop's invariant: the place is where record i starts.
 use Rattle.definitions.specs.Records.{start_of}
 use mathlib.Core.Path.{◌≡◌}
-use Prim.Native.Nat.{◌≤◌, ◌-◌}
+use Prim.Native.Nat.{◌≤◌}
 use Rattle.file_records.proofs.records.start.Given as goal
 
 abbrev pub invariant-loop-i : goal.invariant-loop-i

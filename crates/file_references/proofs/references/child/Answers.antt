@@ -11,5 +11,5 @@ returns-then-every_other c = search child_other
 pub returns-then-from_first : goal.returns-then-from_first
 returns-then-from_first c = search child_first
 
-pub returns : goal.returns
-returns c = search child_second
+pub returns-else-from_first : goal.returns-else-from_first
+returns-else-from_first c = search child_second

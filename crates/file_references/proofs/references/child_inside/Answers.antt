@@ -15,44 +15,25 @@ field_inside-requires c =
     omega (arith, room_other _ pre.0 pre.1 c.every_other.ensures c.if-every_other.true)
 
 pub returns-then-every_other : goal.returns-then-every_other
-returns-then-every_other c =
-    let pre = c.requires in
-    let every_other = c.every_other in
-    child_other _ _ _ _ pre.1 _ every_other.ensures c.if-every_other.true c.field_inside.ensures
+returns-then-every_other c = search child_other
 
 pub field_inside-requires-then-from_first : goal.field_inside-requires-then-from_first
 field_inside-requires-then-from_first c =
     let pre = c.requires in
-    let every_other = c.every_other in
-    let if1 = c.if-every_other in
-    room_first _ pre.0 pre.1 every_other.ensures if1.false c.from_first.ensures c.if-from_first.true
+    room_first _ pre.0 pre.1 c.every_other.ensures c.if-every_other.false c.from_first.ensures c.if-from_first.true
 
 pub returns-then-from_first : goal.returns-then-from_first
-returns-then-from_first c =
-    let pre = c.requires in
-    let every_other = c.every_other in
-    let if1 = c.if-every_other in
-    let from_First = c.from_first in
-    child_first _ _ _ _ pre.1 _ every_other.ensures if1.false _ from_First.ensures c.if-from_first.true c.field_inside-then-from_first.ensures
+returns-then-from_first c = search child_first
 
 pub overflow_add-j : goal.overflow_add-j
 overflow_add-j c =
     let pre = c.requires in
-    let every_other = c.every_other in
-    let if1 = c.if-every_other in
-    omega (arith, field_room _ _ (room_second _ pre.0 pre.1 every_other.ensures if1.false c.from_first.ensures c.if-from_first.false))
+    omega (arith, field_room _ _ (room_second _ pre.0 pre.1 c.every_other.ensures c.if-every_other.false c.from_first.ensures c.if-from_first.false))
 
-pub field_inside-requires-2 : goal.field_inside-requires-2
-field_inside-requires-2 c =
+pub field_inside-requires-else-from_first : goal.field_inside-requires-else-from_first
+field_inside-requires-else-from_first c =
     let pre = c.requires in
-    let every_other = c.every_other in
-    let if1 = c.if-every_other in
-    omega (arith, room_second _ pre.0 pre.1 every_other.ensures if1.false c.from_first.ensures c.if-from_first.false)
+    omega (arith, room_second _ pre.0 pre.1 c.every_other.ensures c.if-every_other.false c.from_first.ensures c.if-from_first.false)
 
-pub returns : goal.returns
-returns c =
-    let pre = c.requires in
-    let every_other = c.every_other in
-    let if1 = c.if-every_other in
-    let from_First = c.from_first in
-    child_second _ _ _ _ pre.1 _ every_other.ensures if1.false _ from_First.ensures c.if-from_first.false c.field_inside-2.ensures
+pub returns-else-from_first : goal.returns-else-from_first
+returns-else-from_first c = search child_second

@@ -1,38 +1,22 @@
--- `file_references::references::children_below` meets its contract: the tests of the kind in the definition's order, then the fields that it names.
-use Rattle.laws.proofs.References.{below_other, below_first, below_second, below_none}
-use mathlib.Core.Bool.{true}
+-- `file_references::references::children_below` meets its contract. The loop's invariant: every node so far is below the limit.
+use Rattle.laws.proofs.Tests.{tests_begin, tests_go_on, tests_fail, tests_end, below_test, below_not}
+use mathlib.Core.Path.{◌∙◌}
+use native.Mathlib.Omega.{arith}
 use Rattle.file_references.proofs.references.children_below.Goals as goal
 
-pub returns-then-every_other : goal.returns-then-every_other
-returns-then-every_other c =
-    let kind = c.kind-k in
-    let every_other = c.every_other in
-    below_other _ _ kind.ensures _ every_other.ensures c.if-every_other.true c.other_fields_below.ensures
+pub loop-j-init : goal.loop-j-init
+loop-j-init c = tests_begin c.children-count.ensures
 
-pub returns-then-from_first : goal.returns-then-from_first
-returns-then-from_first c =
-    let kind = c.kind-k in
-    let every_other = c.every_other in
-    let if1 = c.if-every_other in
-    let from_First = c.from_first in
-    below_first _ _ kind.ensures _ every_other.ensures if1.false from_First.ensures c.if-from_first.true c.fields_below.ensures
+pub child_inside-requires : goal.child_inside-requires
+child_inside-requires c = (omega (arith, c.loop-j.invariant.count, c.loop-j-test.true), c.kind-k.ensures)
 
-pub returns-then-from_second : goal.returns-then-from_second
-returns-then-from_second c =
-    let kind = c.kind-k in
-    let every_other = c.every_other in
-    let if1 = c.if-every_other in
-    let from_First = c.from_first in
-    let if2 = c.if-from_first in
-    let from_Second = c.from_second in
-    below_second _ _ kind.ensures _ every_other.ensures if1.false from_First.ensures if2.false from_Second.ensures
-    c.if-from_second.true c.fields_below-then-from_second.ensures
+pub returns-then-limit-from : goal.returns-then-limit-from
+returns-then-limit-from c =
+    tests_fail c.loop-j.invariant c.loop-j-test.true (below_not (c.from.ensures ∙ c.child_inside.ensures) c.if-limit-from.true)
+
+pub loop-j-preserved : goal.loop-j-preserved
+loop-j-preserved c =
+    tests_go_on c.loop-j.invariant c.loop-j-test.true (below_test (c.from.ensures ∙ c.child_inside.ensures) c.if-limit-from.false)
 
 pub returns : goal.returns
-returns c =
-    let kind = c.kind-k in
-    let every_other = c.every_other in
-    let if1 = c.if-every_other in
-    let from_First = c.from_first in
-    let if2 = c.if-from_first in
-    below_none _ _ kind.ensures true every_other.ensures if1.false from_First.ensures if2.false c.from_second.ensures c.if-from_second.false
+returns c = tests_end c.loop-j.invariant c.loop-j-test.false

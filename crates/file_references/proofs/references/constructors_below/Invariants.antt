@@ -2,7 +2,6 @@
 use Rattle.laws.proofs.Tests.{Testing}
 use Rattle.definitions.specs.References.{clauses, clause_constructor}
 use lib.Dec.{ltb}
-use Prim.Native.Nat.{◌-◌}
 use Rattle.file_references.proofs.references.constructors_below.Given as goal
 
 abbrev pub invariant-loop-j : goal.invariant-loop-j

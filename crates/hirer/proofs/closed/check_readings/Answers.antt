@@ -26,7 +26,7 @@ returns-then-not-node_allowed c =
     let loop = c.loop-k in
     let loop_test = c.loop-k-test in
     let node_allowed = c.node_allowed in
-    closing_refused loop.invariant loop_test.true node_allowed.ensures c.if-not-node_allowed.true c.wide.ensures.0
+    closing_refused loop.invariant loop_test.true node_allowed.ensures c.if-not-node_allowed.true c.from.ensures
 
 pub loop-k-preserved : goal.loop-k-preserved
 loop-k-preserved c =

@@ -1,21 +1,24 @@
 -- `reading_search::checks::check_search` meets its contract: 9, 10 and 23 in this order.
-use mathlib.Core.Path.{◌∙◌}
-use mir.Syntax.{w32}
-use Rattle.definitions.specs.ReadingSearch.{range_fits}
-use Rattle.operators.proofs.Answers.{read_both}
-use Rattle.reading_search.proofs.Refusals.{checked}
+use Rattle.std.proofs.Common.{◌∙◌}
+use Rattle.laws.proofs.Refusals.{passed_on}
+use Rattle.reading_search.specs.Queries.{query_of}
+use Rattle.reading_search.proofs.Refusals.{readings_refused, allowance_refused, range_checked}
 use Rattle.reading_search.proofs.checks.check_search.Goals as goal
+
+pub returns-in_err-require : goal.returns-in_err-require
+returns-in_err-require c =
+    let test = c.in_err-require in
+    passed_on c.from_residual.result test.field-0.0 c.from_residual.ensures.1
+    ∙ readings_refused _ _ (query_of c.args.query) _ _ _ (c.from.ensures ∙ c.readings.ensures) test.ensures
+
+pub returns-in_err-require-2 : goal.returns-in_err-require-2
+returns-in_err-require-2 c =
+    let test = c.in_err-require-2 in
+    let passed = c.from_residual-in_err-require-2 in
+    passed_on passed.result test.field-0.0 passed.ensures.1
+    ∙ allowance_refused _ _ (query_of c.args.query) _ _ _ (c.from.ensures ∙ c.readings.ensures) c.in_ok-require.ensures c.fit.ensures test.ensures
 
 pub returns : goal.returns
 returns c =
-    let range-fits = c.range_fits in
-    let fits = c.ranges in
-    let args = c.args in
-    let wide = c.wide in
-    let readings = c.readings in
-    let allowed = c.allowed in
-    let required = c.required-counted in
-    let required2 = c.required-within in
-    let ranged = range-fits.ensures ∙ read_both w32 _ _ fits.lowest fits.highest (range_fits args.file.now args.position) in
-    checked _ _ _ _ _ _ _ _ wide.ensures.0 readings.ensures allowed.ensures ranged required.ensures required2.ensures c.required-ranged.ensures
-    c.and_then.ensures c.and_then-2.ensures
+    range_checked _ _ (query_of c.args.query) _ _ _ (c.from.ensures ∙ c.readings.ensures) c.in_ok-require.ensures c.fit.ensures
+    c.in_ok-require-2.ensures c.range_fits.ensures c.require-3.ensures

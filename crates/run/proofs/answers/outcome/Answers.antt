@@ -5,11 +5,11 @@ use Rattle.run.proofs.answers.outcome.Goals as goal
 pub value_outcome-requires : goal.value_outcome-requires
 value_outcome-requires c =
     let pre = c.requires in
-    value_in_table _ _ c.in-Value.is (pre)
+    value_in_table _ _ c.in-Ok.is (pre)
 
-pub returns-in-Value : goal.returns-in-Value
-returns-in-Value c =
-    shown_value _ _ _ _ c.in-Value.is c.value_outcome.ensures
+pub returns-in-Ok : goal.returns-in-Ok
+returns-in-Ok c =
+    shown_value _ _ _ _ c.in-Ok.is c.value_outcome.ensures
 
-pub returns-in-Ended : goal.returns-in-Ended
-returns-in-Ended c = shown_end _ _ _ c.in-Ended.is
+pub returns-in-Err : goal.returns-in-Err
+returns-in-Err c = shown_end _ _ _ c.in-Err.is

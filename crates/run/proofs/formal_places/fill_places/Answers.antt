@@ -16,7 +16,7 @@ set_places-requires c =
 pub loop-f-preserved : goal.loop-f-preserved
 loop-f-preserved c =
     filling_goes_on c.requires.0.accepted c.loop-f.invariant c.loop-f-test.true c.parameter_count-n.ensures
-    c.wide-first.ensures.0 c.set_places.ensures
+    c.from-first.ensures c.set_places.ensures
 
 pub returns : goal.returns
 returns c =

@@ -1,5 +1,4 @@
 -- `run::formal_places::fill_places` meets its contract: the places of the formals of the functions passed are right.
-use Prim.Native.Nat.{◌-◌}
 use Rattle.run.proofs.Places.{FillingPlaces}
 use Rattle.run.proofs.formal_places.fill_places.Given as goal
 

@@ -6,10 +6,10 @@ pub loop-j-init : goal.loop-j-init
 loop-j-init c = setting_begins c.requires
 
 pub bounds-places-first : goal.bounds-places-first
-bounds-places-first c = setting_room c.loop-j.invariant c.loop-j-test.true c.wide.ensures.0
+bounds-places-first c = setting_room c.loop-j.invariant c.loop-j-test.true c.from.ensures
 
 pub loop-j-preserved : goal.loop-j-preserved
-loop-j-preserved c = setting_goes_on c.loop-j.invariant c.loop-j-test.true c.wide.ensures.0
+loop-j-preserved c = setting_goes_on c.loop-j.invariant c.loop-j-test.true c.from.ensures
 
 pub returns : goal.returns
 returns c = setting_ends c.loop-j.invariant c.loop-j-test.false

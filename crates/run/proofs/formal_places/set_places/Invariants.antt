@@ -1,5 +1,4 @@
 -- `run::formal_places::set_places` meets its contract: the places of the formals passed are set.
-use Prim.Native.Nat.{◌-◌}
 use Rattle.run.proofs.Places.{SettingPlaces}
 use Rattle.run.proofs.formal_places.set_places.Given as goal
 

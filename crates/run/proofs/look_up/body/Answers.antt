@@ -2,19 +2,19 @@
 use Rattle.run.proofs.LookUps.{function_limit, end_least, body_reached}
 use Rattle.run.proofs.look_up.body.Goals as goal
 
-pub bounds-ends-wide : goal.bounds-ends-wide
-bounds-ends-wide c =
+pub bounds-ends-from : goal.bounds-ends-from
+bounds-ends-from c =
     let pre = c.requires in
-    function_limit _ _ _ _ _ pre.0 pre.1 c.wide.ensures.0
+    function_limit _ _ _ _ _ pre.0 pre.1 c.from.ensures
 
 pub overflow_sub-result : goal.overflow_sub-result
 overflow_sub-result c =
     let pre = c.requires in
-    let wide = c.wide in
-    end_least _ _ _ _ _ _ pre.0 pre.1 wide.ensures.0 c.wide-end.ensures.0
+    let from = c.from in
+    end_least _ _ _ _ _ _ pre.0 pre.1 from.ensures c.from-end.ensures
 
 pub returns : goal.returns
 returns c =
     let pre = c.requires in
-    let wide = c.wide in
-    body_reached _ _ _ _ _ _ pre.0 pre.1 wide.ensures.0 c.wide-end.ensures.0
+    let from = c.from in
+    body_reached _ _ _ _ _ _ pre.0 pre.1 from.ensures c.from-end.ensures

@@ -1,5 +1,4 @@
 -- `run::look_up::clause` meets its contract: the clauses passed have other tags.
-use Prim.Native.Nat.{◌-◌}
 use Rattle.run.proofs.LookUps.{Choosing}
 use Rattle.run.proofs.look_up.clause.Given as goal
 

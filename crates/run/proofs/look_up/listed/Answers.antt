@@ -7,9 +7,9 @@ pub returns-then-i-count : goal.returns-then-i-count
 unfolding found_of
 returns-then-i-count c =
     let if1 = c.if-i-count in
-    let wide = c.wide in
-    let wide2 = c.wide-then-i-count in
-    listed_there _ _ _ _ _ _ _ wide.ensures.0 wide2.ensures.0 if1.true c.field_of.ensures
+    let from = c.from in
+    let from2 = c.from-then-i-count in
+    listed_there _ _ _ _ _ _ _ from.ensures from2.ensures if1.true c.field_of.ensures
 
 pub returns-else-i-count : goal.returns-else-i-count
 unfolding found_of

@@ -6,4 +6,4 @@ pub returns : goal.returns
 returns c =
     let pre = c.requires in
     let first_node = c.first_node in
-    node_reached _ _ _ _ _ _ pre.0 pre.1 c.wide.ensures.0 first_node.ensures.0 c.indexed.ensures
+    node_reached _ _ _ _ _ _ pre.0 pre.1 c.from.ensures first_node.ensures.0 c.indexed.ensures

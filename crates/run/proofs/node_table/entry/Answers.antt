@@ -5,4 +5,4 @@ use Rattle.run.proofs.node_table.entry.Goals as goal
 pub returns : goal.returns
 returns c =
     let args = c.args in
-    entry_at args.tab.now _ _ c.wide.ensures.0
+    entry_at args.tab.now _ _ c.from.ensures

@@ -12,17 +12,17 @@ entry_at-x-requires c =
     let pre = c.requires in
     (pre.0, pre.1, filling_below _ _ _ _ c.loop-k.invariant c.loop-k-test.true)
 
-pub bounds-tab-wide : goal.bounds-tab-wide
-bounds-tab-wide c =
+pub bounds-tab-from : goal.bounds-tab-from
+bounds-tab-from c =
     let loop = c.loop-k in
     let loop_test = c.loop-k-test in
-    filling_room _ _ _ _ loop.invariant _ loop_test.true c.wide.ensures.0
+    filling_room _ _ _ _ loop.invariant _ loop_test.true c.from.ensures
 
 pub loop-k-preserved : goal.loop-k-preserved
 loop-k-preserved c =
     let loop = c.loop-k in
     let loop_test = c.loop-k-test in
-    filling_goes_on _ _ _ _ loop.invariant _ _ loop_test.true c.wide.ensures.0 c.entry_at-x.ensures
+    filling_goes_on _ _ _ _ loop.invariant _ _ loop_test.true c.from.ensures c.entry_at-x.ensures
 
 pub returns : goal.returns
 returns c = filled _ _ _ _ c.loop-k.invariant c.loop-k-test.false

@@ -7,4 +7,4 @@ use Rattle.run.proofs.node_table.reading.Goals as goal
 pub returns : goal.returns
 returns c =
     number_as _ _ (record { sfits = search rules })
-    (reading_at c.args.tab.now _ _ _ c.wide.ensures.0 c.number_of.ensures)
+    (reading_at c.args.tab.now _ _ _ c.from.ensures c.number_of.ensures)

@@ -5,4 +5,4 @@ use mir.ValLaws.{to_z-of_z}
 use Rattle.run.proofs.node_table.set_reading.Goals as goal
 
 pub returns : goal.returns
-returns c = rw (c.bits_of-bits.ensures, to_z-of_z w32 _ c.ranges.z) refl
+returns c = rw (c.from.ensures, c.bits_of-bits.ensures, to_z-of_z w32 _ c.ranges.z) refl

@@ -1,6 +1,4 @@
 -- `run::node_table::set_readings` meets its contract: the readings passed are set, and the nodes stay.
-use Prim.Native.Nat.{◌-◌}
-use lib.ListN.{length}
 use Rattle.run.proofs.ReadingEntries.{SettingReadings}
 use Rattle.run.proofs.node_table.set_readings.Given as goal
 

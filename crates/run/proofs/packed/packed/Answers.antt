@@ -2,10 +2,10 @@
 use Rattle.run.proofs.Packing.{value_packed, ended_packed}
 use Rattle.run.proofs.packed.packed.Goals as goal
 
-pub returns-in-Value : goal.returns-in-Value
-returns-in-Value c =
-    value_packed _ _ _ c.in-Value.is c.packed_value.ensures
+pub returns-in-Ok : goal.returns-in-Ok
+returns-in-Ok c =
+    value_packed _ _ _ c.in-Ok.is c.packed_value.ensures
 
-pub returns-in-Ended : goal.returns-in-Ended
-returns-in-Ended c =
-    ended_packed _ _ _ c.in-Ended.is c.entry_with.ensures
+pub returns-in-Err : goal.returns-in-Err
+returns-in-Err c =
+    ended_packed _ _ _ c.in-Err.is c.entry_with.ensures

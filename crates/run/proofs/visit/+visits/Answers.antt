@@ -1,19 +1,16 @@
 -- The cycle of visits meets its contracts.
-use mathlib.Core.Path.{sym, ◌∙◌}
+use mathlib.Core.Path.{refl, sym, ◌∙◌}
 use native.Mathlib.Omega.{arith}
 use mir.Syntax.{w32}
 use mir.ValLaws.{to_z-of_z}
 use borrow.Author.Rules.{rules}
-use Rattle.run.proofs.EntryReads.{kind_read, kind_last, first_read, reading_narrow, entry_room, node_room, clauses_fit, actual_room}
+use Rattle.run.proofs.EntryReads.{kind_read, kind_last, first_read, reading_narrow, entry_room, node_room, actual_room}
 use Rattle.run.proofs.SimpleSteps.{number_ends, reading_ends, tuple_ends}
 use Rattle.run.proofs.Visiting.{no_step_left, no_nesting_left, kind_asked, step_counted}
 use Rattle.run.proofs.CallSteps.{call_ends, live_below, body_due, body_asked, body_returned}
-use Rattle.run.proofs.Packing.{opens, opens_value}
-use Rattle.run.proofs.Remains.{visit_asked, visit_returned, node_missed, node_found}
-use Rattle.run.proofs.Operands.{no_constructor, of_case, GivesOf, operand_awaits, operand_asked, operand_visited, operand_ended}
-use Rattle.run.proofs.Operands.{operand_unwanted, tuple_room, no_number, of_conditional, of_operator, of_select, fields_room}
-use Rattle.run.proofs.ConstructorSteps.{case_seeks, select_tag, select_seeks}
-use Rattle.run.proofs.NumberSteps.{conditional_onward, right_awaits, result_ends}
+use Rattle.run.proofs.Remains.{visit_asked, visit_returned}
+use Rattle.run.proofs.Operands.{choice_awaits, left_awaits, right_awaits, operand_asked, operand_visited}
+use Rattle.run.proofs.Operands.{choice_known, choice_visits, choice_ends, left_missed, operator_returned}
 use Rattle.run.proofs.FormalSteps.{formal_ends, cell_read, known_returned, formal_seeks, actual_missed, actual_asked, actual_returned}
 use Rattle.run.proofs.visit.+visits.Goals as goal
 
@@ -58,15 +55,6 @@ visit-returns-then-kind-eq-CALL t c =
     let step_taken = step_counted c.requires c.if-left-eq0.false c.if-limits-eq0.false in
     step_taken.returned c.visit_call.ensures
 
-pub visit-visit_select-requires : goal.visit-visit_select-requires
-visit-visit_select-requires t c =
-    kind_asked (c.decreases, c.requires) c.if-left-eq0.false c.if-limits-eq0.false (kind_read c.requires c.entry-node.ensures c.kind_in-kind.ensures c.if-kind-eq-SELECT.true)
-
-pub visit-returns-then-kind-eq-SELECT : goal.visit-returns-then-kind-eq-SELECT
-visit-returns-then-kind-eq-SELECT t c =
-    let step_taken = step_counted c.requires c.if-left-eq0.false c.if-limits-eq0.false in
-    step_taken.returned c.visit_select.ensures
-
 pub visit-visit_operator-requires : goal.visit-visit_operator-requires
 visit-visit_operator-requires t c =
     kind_asked (c.decreases, c.requires) c.if-left-eq0.false c.if-limits-eq0.false (kind_read c.requires c.entry-node.ensures c.kind_in-kind.ensures c.if-kind-eq-OPERATOR.true)
@@ -80,7 +68,7 @@ pub visit-reading-requires : goal.visit-reading-requires
 visit-reading-requires t c =
     let read = kind_read c.requires c.entry-node.ensures c.kind_in-kind.ensures c.if-kind-eq-READING.true in
     let node = (kind_asked (c.decreases, c.requires) c.if-left-eq0.false c.if-limits-eq0.false read).1 in
-    reading_narrow node (first_read node c.entry-node.ensures (λ q. omega (arith, q)) c.first_in.ensures)
+    reading_narrow node (first_read node.equipped node.node c.entry-node.ensures (λ q. omega (arith, q)) c.first_in.ensures)
 
 pub visit-returns-then-kind-eq-READING : goal.visit-returns-then-kind-eq-READING
 visit-returns-then-kind-eq-READING t c =
@@ -90,26 +78,17 @@ visit-returns-then-kind-eq-READING t c =
     c.first_in.ensures (to_z-of_z w32 _ (record { sfits = search rules })) c.reading.ensures
     c.packed-then-kind-eq-READING.ensures c.number-then-kind-eq-READING.ensures)
 
-pub visit-visit_conditional-requires : goal.visit-visit_conditional-requires
-visit-visit_conditional-requires t c =
-    kind_asked (c.decreases, c.requires) c.if-left-eq0.false c.if-limits-eq0.false (kind_read c.requires c.entry-node.ensures c.kind_in-kind.ensures c.if-kind-eq-CONDITIONAL.true)
-
-pub visit-returns-then-kind-eq-CONDITIONAL : goal.visit-returns-then-kind-eq-CONDITIONAL
-visit-returns-then-kind-eq-CONDITIONAL t c =
-    let step_taken = step_counted c.requires c.if-left-eq0.false c.if-limits-eq0.false in
-    step_taken.returned c.visit_conditional.ensures
-
-pub visit-visit_case-requires : goal.visit-visit_case-requires
-visit-visit_case-requires t c =
-    kind_asked (c.decreases, c.requires) c.if-left-eq0.false c.if-limits-eq0.false
-    (kind_last c.requires c.entry-node.ensures c.kind_in-kind.ensures
-    c.if-kind-eq-NUMBER.false c.if-kind-eq-READING.false c.if-kind-eq-FORMAL.false c.if-kind-eq-SELECT.false c.if-kind-eq-OPERATOR.false
-    c.if-kind-eq-CONDITIONAL.false c.if-kind-eq-CALL.false c.if-kind-eq-TUPLE.false)
+pub visit-visit_operand-requires : goal.visit-visit_operand-requires
+visit-visit_operand-requires t c =
+    let kind = kind_last c.requires c.entry-node.ensures c.kind_in-kind.ensures c.if-kind-eq-NUMBER.false c.if-kind-eq-READING.false
+    c.if-kind-eq-FORMAL.false c.if-kind-eq-OPERATOR.false c.if-kind-eq-CALL.false c.if-kind-eq-TUPLE.false in
+    let asked = kind_asked (c.decreases, c.requires) c.if-left-eq0.false c.if-limits-eq0.false kind.0 in
+    (asked.0, (asked.1, kind.1))
 
 pub visit-returns : goal.visit-returns
 visit-returns t c =
     let step_taken = step_counted c.requires c.if-left-eq0.false c.if-limits-eq0.false in
-    step_taken.returned c.visit_case.ensures
+    step_taken.returned c.visit_operand.ensures
 
 -- A call meets its contract: one cell more is alive, the body is visited under it, and the call is closed.
 pub visit_call-returns-then-limits-live : goal.visit_call-returns-then-limits-live
@@ -119,140 +98,22 @@ pub visit_call-entry-node-requires : goal.visit_call-entry-node-requires
 visit_call-entry-node-requires t c = node_room c.requires
 
 pub visit_call-open_call-requires : goal.visit_call-open_call-requires
-visit_call-open_call-requires t c = (c.requires.context.size, live_below (c.decreases, c.requires) c.if-limits-live.false)
+visit_call-open_call-requires t c = live_below (c.decreases, c.requires) c.if-limits-live.false
 
 pub visit_call-visit-x-requires : goal.visit_call-visit-x-requires
 visit_call-visit-x-requires t c =
     let due = body_due c.args.cells.now (c.decreases, c.requires) c.if-limits-live.false c.entry-node.ensures
-    c.wide32.ensures.0 c.first_in.ensures c.second_in.ensures c.third_in.ensures c.add_cell.ensures c.open_call.ensures in
+    c.first_in.ensures c.second_in.ensures c.third_in.ensures c.add_cell.ensures c.open_call.ensures in
     body_asked due c.pair_of-body.ensures
 
 pub visit_call-close_call-requires : goal.visit_call-close_call-requires
-visit_call-close_call-requires t c = (c.visit-x.ensures.size, live_below (c.decreases, c.requires) c.if-limits-live.false)
+visit_call-close_call-requires t c = live_below (c.decreases, c.requires) c.if-limits-live.false
 
 pub visit_call-returns : goal.visit_call-returns
 visit_call-returns t c =
     let due = body_due c.args.cells.now (c.decreases, c.requires) c.if-limits-live.false c.entry-node.ensures
-    c.wide32.ensures.0 c.first_in.ensures c.second_in.ensures c.third_in.ensures c.add_cell.ensures c.open_call.ensures in
+    c.first_in.ensures c.second_in.ensures c.third_in.ensures c.add_cell.ensures c.open_call.ensures in
     body_returned due c.pair_of-body.ensures c.visit-x.ensures c.kind_in.ensures c.close_call.ensures
-
--- A case meets its contract: its scrutinee is visited, gives a constructor, and the clause with its tag is sought.
-pub visit_case-entry-requires : goal.visit_case-entry-requires
-visit_case-entry-requires t c = node_room c.requires
-
-pub visit_case-visit-scrutinee-requires : goal.visit_case-visit-scrutinee-requires
-visit_case-visit-scrutinee-requires t c =
-    let awaits = operand_awaits {cells = c.args.cells.now} of_case (c.decreases, c.requires) c.entry.ensures c.first_in-n.ensures in
-    operand_asked awaits c.pair_of.ensures
-
-pub visit_case-returns-in_default : goal.visit_case-returns-in_default
-visit_case-returns-in_default t c =
-    let awaits = operand_awaits {cells = c.args.cells.now} of_case (c.decreases, c.requires) c.entry.ensures c.first_in-n.ensures in
-    let operand = operand_visited awaits c.pair_of.ensures c.visit-scrutinee.ensures in
-    operand_ended operand (opens c.opened-state.ensures.0 c.in_default.is)
-
-pub visit_case-returns-in_default-value : goal.visit_case-returns-in_default-value
-visit_case-returns-in_default-value t c =
-    let awaits = operand_awaits {cells = c.args.cells.now} of_case (c.decreases, c.requires) c.entry.ensures c.first_in-n.ensures in
-    let operand = operand_visited awaits c.pair_of.ensures c.visit-scrutinee.ensures in
-    operand_unwanted operand (λ rs. no_constructor)
-    (opens_value c.opened-state.ensures.0 c.in-Value.is c.in_default-value.is)
-    c.packed.ensures c.ended.ensures
-
-pub visit_case-entry-requires-2 : goal.visit_case-entry-requires-2
-visit_case-entry-requires-2 t c =
-    let awaits = operand_awaits {cells = c.args.cells.now} of_case (c.decreases, c.requires) c.entry.ensures c.first_in-n.ensures in
-    let operand = operand_visited awaits c.pair_of.ensures c.visit-scrutinee.ensures in
-    let gives : GivesOf operand c.in-Constructor.is = record { visited = operand; told = opens_value c.opened-state.ensures.0 c.in-Value.is c.in-Constructor.is } in
-    tuple_room gives
-
-pub visit_case-entry-list-requires : goal.visit_case-entry-list-requires
-visit_case-entry-list-requires t c =
-    let awaits = operand_awaits {cells = c.args.cells.now} of_case (c.decreases, c.requires) c.entry.ensures c.first_in-n.ensures in
-    let operand = operand_visited awaits c.pair_of.ensures c.visit-scrutinee.ensures in
-    let gives : GivesOf operand c.in-Constructor.is = record { visited = operand; told = opens_value c.opened-state.ensures.0 c.in-Value.is c.in-Constructor.is } in
-    node_room gives.visited.node
-
-pub visit_case-clause-place-requires : goal.visit_case-clause-place-requires
-visit_case-clause-place-requires t c =
-    let awaits = operand_awaits {cells = c.args.cells.now} of_case (c.decreases, c.requires) c.entry.ensures c.first_in-n.ensures in
-    let operand = operand_visited awaits c.pair_of.ensures c.visit-scrutinee.ensures in
-    let gives : GivesOf operand c.in-Constructor.is = record { visited = operand; told = opens_value c.opened-state.ensures.0 c.in-Value.is c.in-Constructor.is } in
-    clauses_fit gives.visited.node c.entry-list.ensures c.second_in.ensures c.third_in.ensures
-
-pub visit_case-found_at-found-requires : goal.visit_case-found_at-found-requires
-visit_case-found_at-found-requires t c = c.clause-place.ensures.1
-
-pub visit_case-returns-in_default-found : goal.visit_case-returns-in_default-found
-visit_case-returns-in_default-found t c =
-    let awaits = operand_awaits {cells = c.args.cells.now} of_case (c.decreases, c.requires) c.entry.ensures c.first_in-n.ensures in
-    let operand = operand_visited awaits c.pair_of.ensures c.visit-scrutinee.ensures in
-    let gives : GivesOf operand c.in-Constructor.is = record { visited = operand; told = opens_value c.opened-state.ensures.0 c.in-Value.is c.in-Constructor.is } in
-    let sought = case_seeks _ gives c.entry-2.ensures c.first_in-tag.ensures c.entry-list.ensures c.second_in.ensures c.third_in.ensures c.clause-place.ensures c.found_at-found.ensures in
-    node_missed sought c.in_default-found.is c.packed-in_default-found.ensures c.ended-in_default-found.ensures
-
-pub visit_case-visit-requires : goal.visit_case-visit-requires
-visit_case-visit-requires t c =
-    let awaits = operand_awaits {cells = c.args.cells.now} of_case (c.decreases, c.requires) c.entry.ensures c.first_in-n.ensures in
-    let operand = operand_visited awaits c.pair_of.ensures c.visit-scrutinee.ensures in
-    let gives : GivesOf operand c.in-Constructor.is = record { visited = operand; told = opens_value c.opened-state.ensures.0 c.in-Value.is c.in-Constructor.is } in
-    let sought = case_seeks _ gives c.entry-2.ensures c.first_in-tag.ensures c.entry-list.ensures c.second_in.ensures c.third_in.ensures c.clause-place.ensures c.found_at-found.ensures in
-    visit_asked (node_found sought c.in-Node.is) c.pair_of-2.ensures
-
-pub visit_case-returns : goal.visit_case-returns
-visit_case-returns t c =
-    let awaits = operand_awaits {cells = c.args.cells.now} of_case (c.decreases, c.requires) c.entry.ensures c.first_in-n.ensures in
-    let operand = operand_visited awaits c.pair_of.ensures c.visit-scrutinee.ensures in
-    let gives : GivesOf operand c.in-Constructor.is = record { visited = operand; told = opens_value c.opened-state.ensures.0 c.in-Value.is c.in-Constructor.is } in
-    let sought = case_seeks _ gives c.entry-2.ensures c.first_in-tag.ensures c.entry-list.ensures c.second_in.ensures c.third_in.ensures c.clause-place.ensures c.found_at-found.ensures in
-    visit_returned (node_found sought c.in-Node.is) c.pair_of-2.ensures
-    c.visit.ensures
-
--- An if meets its contract: its condition is visited, gives a number, and a branch is taken.
-pub visit_conditional-entry-requires : goal.visit_conditional-entry-requires
-visit_conditional-entry-requires t c = node_room c.requires
-
-pub visit_conditional-visit-condition-requires : goal.visit_conditional-visit-condition-requires
-visit_conditional-visit-condition-requires t c =
-    let awaits = operand_awaits {cells = c.args.cells.now} of_conditional (c.decreases, c.requires) c.entry.ensures c.first_in-n.ensures in
-    operand_asked awaits c.pair_of.ensures
-
-pub visit_conditional-returns-in_default : goal.visit_conditional-returns-in_default
-visit_conditional-returns-in_default t c =
-    let awaits = operand_awaits {cells = c.args.cells.now} of_conditional (c.decreases, c.requires) c.entry.ensures c.first_in-n.ensures in
-    let operand = operand_visited awaits c.pair_of.ensures c.visit-condition.ensures in
-    operand_ended operand (opens c.opened-state.ensures.0 c.in_default.is)
-
-pub visit_conditional-returns-in_default-value : goal.visit_conditional-returns-in_default-value
-visit_conditional-returns-in_default-value t c =
-    let awaits = operand_awaits {cells = c.args.cells.now} of_conditional (c.decreases, c.requires) c.entry.ensures c.first_in-n.ensures in
-    let operand = operand_visited awaits c.pair_of.ensures c.visit-condition.ensures in
-    operand_unwanted operand (λ rs. no_number)
-    (opens_value c.opened-state.ensures.0 c.in-Value.is c.in_default-value.is)
-    c.packed.ensures c.ended.ensures
-
-pub visit_conditional-entry-node-requires : goal.visit_conditional-entry-node-requires
-visit_conditional-entry-node-requires t c =
-    let awaits = operand_awaits {cells = c.args.cells.now} of_conditional (c.decreases, c.requires) c.entry.ensures c.first_in-n.ensures in
-    let operand = operand_visited awaits c.pair_of.ensures c.visit-condition.ensures in
-    let gives : GivesOf operand c.in-Number.is = record { visited = operand; told = opens_value c.opened-state.ensures.0 c.in-Value.is c.in-Number.is } in
-    node_room gives.visited.node
-
-pub visit_conditional-visit-requires : goal.visit_conditional-visit-requires
-visit_conditional-visit-requires t c =
-    let awaits = operand_awaits {cells = c.args.cells.now} of_conditional (c.decreases, c.requires) c.entry.ensures c.first_in-n.ensures in
-    let operand = operand_visited awaits c.pair_of.ensures c.visit-condition.ensures in
-    let gives : GivesOf operand c.in-Number.is = record { visited = operand; told = opens_value c.opened-state.ensures.0 c.in-Value.is c.in-Number.is } in
-    let taken = conditional_onward gives (to_z-of_z w32 _ (record { sfits = search rules })) c.entry-node.ensures c.second_in.ensures c.third_in.ensures c.branch-m.ensures in
-    visit_asked taken c.pair_of-2.ensures
-
-pub visit_conditional-returns : goal.visit_conditional-returns
-visit_conditional-returns t c =
-    let awaits = operand_awaits {cells = c.args.cells.now} of_conditional (c.decreases, c.requires) c.entry.ensures c.first_in-n.ensures in
-    let operand = operand_visited awaits c.pair_of.ensures c.visit-condition.ensures in
-    let gives : GivesOf operand c.in-Number.is = record { visited = operand; told = opens_value c.opened-state.ensures.0 c.in-Value.is c.in-Number.is } in
-    let taken = conditional_onward gives (to_z-of_z w32 _ (record { sfits = search rules })) c.entry-node.ensures c.second_in.ensures c.third_in.ensures c.branch-m.ensures in
-    visit_returned taken c.pair_of-2.ensures c.visit.ensures
 
 -- A formal meets its contract: its cell is read, and what it remembers is returned, or the actual that the head label names is sought,
 pub visit_formal-returns-then-w-eq0 : goal.visit_formal-returns-then-w-eq0
@@ -266,29 +127,26 @@ visit_formal-returns-then-is_value t c =
     let read = cell_read {cells = c.args.cells.now} (c.decreases, c.requires) c.if-w-eq0.false c.entry-node.ensures c.first_in-place.ensures c.is_own-own.ensures c.recall-known.ensures in
     known_returned read (sym c.is_value.ensures ∙ c.if-is_value.true)
 
-pub visit_formal-listed-found-requires : goal.visit_formal-listed-found-requires
-visit_formal-listed-found-requires t c = actual_room c.requires c.entry-node.ensures c.second_in.ensures c.third_in.ensures
+pub visit_formal-listed-requires : goal.visit_formal-listed-requires
+visit_formal-listed-requires t c = actual_room c.requires c.entry-node.ensures c.second_in.ensures c.third_in.ensures
 
 pub visit_formal-returns-in_default : goal.visit_formal-returns-in_default
 visit_formal-returns-in_default t c =
     let read = cell_read {cells = c.args.cells.now} (c.decreases, c.requires) c.if-w-eq0.false c.entry-node.ensures c.first_in-place.ensures c.is_own-own.ensures c.recall-known.ensures in
-    let sought = formal_seeks read (sym c.is_value.ensures ∙ c.if-is_value.false) c.entry-node.ensures c.cell_in-cell.ensures c.second_in.ensures c.third_in.ensures c.listed-found.ensures in
+    let sought = formal_seeks read (sym c.is_value.ensures ∙ c.if-is_value.false) c.entry-node.ensures c.cell_in-cell.ensures c.second_in.ensures c.third_in.ensures c.listed.ensures in
     actual_missed sought c.in_default.is c.packed-in_default.ensures c.ended-in_default.ensures
 
 pub visit_formal-visit-x-requires : goal.visit_formal-visit-x-requires
 visit_formal-visit-x-requires t c =
     let read = cell_read {cells = c.args.cells.now} (c.decreases, c.requires) c.if-w-eq0.false c.entry-node.ensures c.first_in-place.ensures c.is_own-own.ensures c.recall-known.ensures in
-    let sought = formal_seeks read (sym c.is_value.ensures ∙ c.if-is_value.false) c.entry-node.ensures c.cell_in-cell.ensures c.second_in.ensures c.third_in.ensures c.listed-found.ensures in
-    actual_asked sought c.in-Node.is c.pair_of.ensures
-
-pub visit_formal-note_constructor-requires : goal.visit_formal-note_constructor-requires
-visit_formal-note_constructor-requires t c = c.visit-x.ensures.size
+    let sought = formal_seeks read (sym c.is_value.ensures ∙ c.if-is_value.false) c.entry-node.ensures c.cell_in-cell.ensures c.second_in.ensures c.third_in.ensures c.listed.ensures in
+    actual_asked sought c.in-Some.is c.pair_of.ensures
 
 pub visit_formal-returns : goal.visit_formal-returns
 visit_formal-returns t c =
     let read = cell_read {cells = c.args.cells.now} (c.decreases, c.requires) c.if-w-eq0.false c.entry-node.ensures c.first_in-place.ensures c.is_own-own.ensures c.recall-known.ensures in
-    let sought = formal_seeks read (sym c.is_value.ensures ∙ c.if-is_value.false) c.entry-node.ensures c.cell_in-cell.ensures c.second_in.ensures c.third_in.ensures c.listed-found.ensures in
-    actual_returned sought c.in-Node.is c.pair_of.ensures c.visit-x.ensures
+    let sought = formal_seeks read (sym c.is_value.ensures ∙ c.if-is_value.false) c.entry-node.ensures c.cell_in-cell.ensures c.second_in.ensures c.third_in.ensures c.listed.ensures in
+    actual_returned sought c.in-Some.is c.pair_of.ensures c.visit-x.ensures
     c.remember.ensures c.kind_in.ensures c.note_constructor.ensures
 
 -- An operator meets its contract: its left operand is visited and gives a number, and so its right one.
@@ -297,153 +155,58 @@ visit_operator-entry-requires t c = node_room c.requires
 
 pub visit_operator-visit-first-requires : goal.visit_operator-visit-first-requires
 visit_operator-visit-first-requires t c =
-    let left_awaited = operand_awaits {cells = c.args.cells.now} of_operator (c.decreases, c.requires) c.entry.ensures c.second_in-n.ensures in
-    operand_asked left_awaited c.pair_of.ensures
+    operand_asked (left_awaits {cells = c.args.cells.now} (c.decreases, c.requires) c.entry.ensures c.second_in-n.ensures) c.pair_of.ensures
 
-pub visit_operator-returns-in_default : goal.visit_operator-returns-in_default
-visit_operator-returns-in_default t c =
-    let left_awaited = operand_awaits {cells = c.args.cells.now} of_operator (c.decreases, c.requires) c.entry.ensures c.second_in-n.ensures in
-    let left = operand_visited left_awaited c.pair_of.ensures c.visit-first.ensures in
-    operand_ended left (opens c.opened-state.ensures.0 c.in_default.is)
-
-pub visit_operator-returns-in_default-value : goal.visit_operator-returns-in_default-value
-visit_operator-returns-in_default-value t c =
-    let left_awaited = operand_awaits {cells = c.args.cells.now} of_operator (c.decreases, c.requires) c.entry.ensures c.second_in-n.ensures in
-    let left = operand_visited left_awaited c.pair_of.ensures c.visit-first.ensures in
-    operand_unwanted left (λ rs. no_number)
-    (opens_value c.opened-state.ensures.0 c.in-Value.is c.in_default-value.is)
-    c.packed.ensures c.ended.ensures
+pub visit_operator-returns-in-Err : goal.visit_operator-returns-in-Err
+visit_operator-returns-in-Err t c =
+    let awaits = left_awaits {cells = c.args.cells.now} (c.decreases, c.requires) c.entry.ensures c.second_in-n.ensures in
+    left_missed (operand_visited awaits c.pair_of.ensures c.visit-first.ensures) c.in-Err.ensures
 
 pub visit_operator-entry-requires-2 : goal.visit_operator-entry-requires-2
-visit_operator-entry-requires-2 t c =
-    let left_awaited = operand_awaits {cells = c.args.cells.now} of_operator (c.decreases, c.requires) c.entry.ensures c.second_in-n.ensures in
-    let left = operand_visited left_awaited c.pair_of.ensures c.visit-first.ensures in
-    let left_gives : GivesOf left c.in-Number.is = record { visited = left; told = opens_value c.opened-state.ensures.0 c.in-Value.is c.in-Number.is } in
-    node_room left_gives.visited.node
+visit_operator-entry-requires-2 t c = node_room c.requires
 
 pub visit_operator-visit-second-requires : goal.visit_operator-visit-second-requires
 visit_operator-visit-second-requires t c =
-    let left_awaited = operand_awaits {cells = c.args.cells.now} of_operator (c.decreases, c.requires) c.entry.ensures c.second_in-n.ensures in
-    let left = operand_visited left_awaited c.pair_of.ensures c.visit-first.ensures in
-    let left_gives : GivesOf left c.in-Number.is = record { visited = left; told = opens_value c.opened-state.ensures.0 c.in-Value.is c.in-Number.is } in
-    let right_awaited = right_awaits left_gives c.entry-2.ensures c.third_in-m.ensures in
-    operand_asked right_awaited c.pair_of-2.ensures
-
-pub visit_operator-returns-in_default-outcome : goal.visit_operator-returns-in_default-outcome
-visit_operator-returns-in_default-outcome t c =
-    let left_awaited = operand_awaits {cells = c.args.cells.now} of_operator (c.decreases, c.requires) c.entry.ensures c.second_in-n.ensures in
-    let left = operand_visited left_awaited c.pair_of.ensures c.visit-first.ensures in
-    let left_gives : GivesOf left c.in-Number.is = record { visited = left; told = opens_value c.opened-state.ensures.0 c.in-Value.is c.in-Number.is } in
-    let right_awaited = right_awaits left_gives c.entry-2.ensures c.third_in-m.ensures in
-    let right = operand_visited right_awaited c.pair_of-2.ensures c.visit-second.ensures in
-    operand_ended right (opens c.opened-state-2.ensures.0 c.in_default-outcome.is)
-
-pub visit_operator-returns-in_default-value-2 : goal.visit_operator-returns-in_default-value-2
-visit_operator-returns-in_default-value-2 t c =
-    let left_awaited = operand_awaits {cells = c.args.cells.now} of_operator (c.decreases, c.requires) c.entry.ensures c.second_in-n.ensures in
-    let left = operand_visited left_awaited c.pair_of.ensures c.visit-first.ensures in
-    let left_gives : GivesOf left c.in-Number.is = record { visited = left; told = opens_value c.opened-state.ensures.0 c.in-Value.is c.in-Number.is } in
-    let right_awaited = right_awaits left_gives c.entry-2.ensures c.third_in-m.ensures in
-    let right = operand_visited right_awaited c.pair_of-2.ensures c.visit-second.ensures in
-    operand_unwanted right (λ rs. no_number)
-    (opens_value c.opened-state-2.ensures.0 c.in-Value-outcome.is c.in_default-value-2.is)
-    c.packed-in_default-value-2.ensures c.ended-in_default-value-2.ensures
+    let awaits = left_awaits {cells = c.args.cells.now} (c.decreases, c.requires) c.entry.ensures c.second_in-n.ensures in
+    let left = operand_visited awaits c.pair_of.ensures c.visit-first.ensures in
+    operand_asked (right_awaits left c.in-Ok.ensures c.entry-2.ensures c.third_in-m.ensures) c.pair_of-2.ensures
 
 pub visit_operator-entry-requires-3 : goal.visit_operator-entry-requires-3
-visit_operator-entry-requires-3 t c =
-    let left_awaited = operand_awaits {cells = c.args.cells.now} of_operator (c.decreases, c.requires) c.entry.ensures c.second_in-n.ensures in
-    let left = operand_visited left_awaited c.pair_of.ensures c.visit-first.ensures in
-    let left_gives : GivesOf left c.in-Number.is = record { visited = left; told = opens_value c.opened-state.ensures.0 c.in-Value.is c.in-Number.is } in
-    let right_awaited = right_awaits left_gives c.entry-2.ensures c.third_in-m.ensures in
-    let right = operand_visited right_awaited c.pair_of-2.ensures c.visit-second.ensures in
-    let right_gives : GivesOf right c.in-Number-value.is = record { visited = right; told = opens_value c.opened-state-2.ensures.0 c.in-Value-outcome.is c.in-Number-value.is } in
-    node_room right_gives.visited.node
+visit_operator-entry-requires-3 t c = node_room c.requires
 
 pub visit_operator-returns : goal.visit_operator-returns
 visit_operator-returns t c =
-    let left_awaited = operand_awaits {cells = c.args.cells.now} of_operator (c.decreases, c.requires) c.entry.ensures c.second_in-n.ensures in
-    let left = operand_visited left_awaited c.pair_of.ensures c.visit-first.ensures in
-    let left_gives : GivesOf left c.in-Number.is = record { visited = left; told = opens_value c.opened-state.ensures.0 c.in-Value.is c.in-Number.is } in
-    let right_awaited = right_awaits left_gives c.entry-2.ensures c.third_in-m.ensures in
-    let right = operand_visited right_awaited c.pair_of-2.ensures c.visit-second.ensures in
-    let right_gives : GivesOf right c.in-Number-value.is = record { visited = right; told = opens_value c.opened-state-2.ensures.0 c.in-Value-outcome.is c.in-Number-value.is } in
-    result_ends _ right_gives (to_z-of_z w32 _ (record { sfits = search rules }))
-    (to_z-of_z w32 _ (record { sfits = search rules })) c.entry-3.ensures c.first_in.ensures
-    c.compute.ensures c.packed-2.ensures c.given.ensures
+    let awaits = left_awaits {cells = c.args.cells.now} (c.decreases, c.requires) c.entry.ensures c.second_in-n.ensures in
+    let left = operand_visited awaits c.pair_of.ensures c.visit-first.ensures in
+    let right = operand_visited (right_awaits left c.in-Ok.ensures c.entry-2.ensures c.third_in-m.ensures) c.pair_of-2.ensures c.visit-second.ensures in
+    operator_returned right (to_z-of_z w32 _ (record { sfits = search rules })) c.entry-3.ensures c.first_in.ensures c.operated.ensures
 
--- A selection meets its contract: its tuple is visited, gives a constructor, and the tag or a field is taken.
-pub visit_select-entry-requires : goal.visit_select-entry-requires
-visit_select-entry-requires t c = node_room c.requires
+-- A selection, an if and a case meet their contract: the operand is visited, and then the node that its outcome chooses.
+pub visit_operand-entry-requires : goal.visit_operand-entry-requires
+visit_operand-entry-requires t c = node_room c.requires.0
 
-pub visit_select-visit-tuple-requires : goal.visit_select-visit-tuple-requires
-visit_select-visit-tuple-requires t c =
-    let awaits = operand_awaits {cells = c.args.cells.now} of_select (c.decreases, c.requires) c.entry.ensures c.first_in-n.ensures in
-    operand_asked awaits c.pair_of.ensures
+pub visit_operand-visit-x-requires : goal.visit_operand-visit-x-requires
+visit_operand-visit-x-requires t c =
+    operand_asked (choice_awaits {cells = c.args.cells.now} (c.decreases, c.requires.0) c.requires.1 c.entry.ensures c.first_in-n.ensures) c.pair_of.ensures
 
-pub visit_select-returns-in_default : goal.visit_select-returns-in_default
-visit_select-returns-in_default t c =
-    let awaits = operand_awaits {cells = c.args.cells.now} of_select (c.decreases, c.requires) c.entry.ensures c.first_in-n.ensures in
-    let operand = operand_visited awaits c.pair_of.ensures c.visit-tuple.ensures in
-    operand_ended operand (opens c.opened-state.ensures.0 c.in_default.is)
+pub visit_operand-next_visit-requires : goal.visit_operand-next_visit-requires
+visit_operand-next_visit-requires t c =
+    let awaits = choice_awaits {cells = c.args.cells.now} (c.decreases, c.requires.0) c.requires.1 c.entry.ensures c.first_in-n.ensures in
+    (choice_known (operand_visited awaits c.pair_of.ensures c.visit-x.ensures), c.requires.1)
 
-pub visit_select-returns-in_default-value : goal.visit_select-returns-in_default-value
-visit_select-returns-in_default-value t c =
-    let awaits = operand_awaits {cells = c.args.cells.now} of_select (c.decreases, c.requires) c.entry.ensures c.first_in-n.ensures in
-    let operand = operand_visited awaits c.pair_of.ensures c.visit-tuple.ensures in
-    operand_unwanted operand (λ rs. no_constructor)
-    (opens_value c.opened-state.ensures.0 c.in-Value.is c.in_default-value.is)
-    c.packed.ensures c.ended.ensures
+pub visit_operand-visit-requires : goal.visit_operand-visit-requires
+visit_operand-visit-requires t c =
+    let awaits = choice_awaits {cells = c.args.cells.now} (c.decreases, c.requires.0) c.requires.1 c.entry.ensures c.first_in-n.ensures in
+    let operand = operand_visited awaits c.pair_of.ensures c.visit-x.ensures in
+    visit_asked (choice_visits operand c.next_visit.ensures c.in-Ok.is) (refl, refl)
 
-pub visit_select-entry-requires-2 : goal.visit_select-entry-requires-2
-visit_select-entry-requires-2 t c =
-    let awaits = operand_awaits {cells = c.args.cells.now} of_select (c.decreases, c.requires) c.entry.ensures c.first_in-n.ensures in
-    let operand = operand_visited awaits c.pair_of.ensures c.visit-tuple.ensures in
-    let gives : GivesOf operand c.in-Constructor.is = record { visited = operand; told = opens_value c.opened-state.ensures.0 c.in-Value.is c.in-Constructor.is } in
-    node_room gives.visited.node
+pub visit_operand-returns-in-Ok : goal.visit_operand-returns-in-Ok
+visit_operand-returns-in-Ok t c =
+    let awaits = choice_awaits {cells = c.args.cells.now} (c.decreases, c.requires.0) c.requires.1 c.entry.ensures c.first_in-n.ensures in
+    let operand = operand_visited awaits c.pair_of.ensures c.visit-x.ensures in
+    visit_returned (choice_visits operand c.next_visit.ensures c.in-Ok.is) (refl, refl) c.visit.ensures
 
-pub visit_select-entry-fields-requires : goal.visit_select-entry-fields-requires
-visit_select-entry-fields-requires t c =
-    let awaits = operand_awaits {cells = c.args.cells.now} of_select (c.decreases, c.requires) c.entry.ensures c.first_in-n.ensures in
-    let operand = operand_visited awaits c.pair_of.ensures c.visit-tuple.ensures in
-    let gives : GivesOf operand c.in-Constructor.is = record { visited = operand; told = opens_value c.opened-state.ensures.0 c.in-Value.is c.in-Constructor.is } in
-    tuple_room gives
-
-pub visit_select-returns-then-i-eq0 : goal.visit_select-returns-then-i-eq0
-visit_select-returns-then-i-eq0 t c =
-    let awaits = operand_awaits {cells = c.args.cells.now} of_select (c.decreases, c.requires) c.entry.ensures c.first_in-n.ensures in
-    let operand = operand_visited awaits c.pair_of.ensures c.visit-tuple.ensures in
-    let gives : GivesOf operand c.in-Constructor.is = record { visited = operand; told = opens_value c.opened-state.ensures.0 c.in-Value.is c.in-Constructor.is } in
-    select_tag gives c.entry-2.ensures c.second_in-i.ensures c.entry-fields.ensures
-    c.if-i-eq0.true c.first_in.ensures c.packed-then-i-eq0.ensures c.tag.ensures
-
-pub visit_select-listed-found-requires : goal.visit_select-listed-found-requires
-visit_select-listed-found-requires t c =
-    let awaits = operand_awaits {cells = c.args.cells.now} of_select (c.decreases, c.requires) c.entry.ensures c.first_in-n.ensures in
-    let operand = operand_visited awaits c.pair_of.ensures c.visit-tuple.ensures in
-    let gives : GivesOf operand c.in-Constructor.is = record { visited = operand; told = opens_value c.opened-state.ensures.0 c.in-Value.is c.in-Constructor.is } in
-    fields_room gives c.entry-fields.ensures c.second_in.ensures c.third_in.ensures
-
-pub visit_select-returns-in_default-found : goal.visit_select-returns-in_default-found
-visit_select-returns-in_default-found t c =
-    let awaits = operand_awaits {cells = c.args.cells.now} of_select (c.decreases, c.requires) c.entry.ensures c.first_in-n.ensures in
-    let operand = operand_visited awaits c.pair_of.ensures c.visit-tuple.ensures in
-    let gives : GivesOf operand c.in-Constructor.is = record { visited = operand; told = opens_value c.opened-state.ensures.0 c.in-Value.is c.in-Constructor.is } in
-    let sought = select_seeks gives c.entry-2.ensures c.second_in-i.ensures c.entry-fields.ensures c.if-i-eq0.false c.second_in.ensures c.third_in.ensures c.listed-found.ensures in
-    node_missed sought c.in_default-found.is c.packed-in_default-found.ensures c.ended-in_default-found.ensures
-
-pub visit_select-visit-requires : goal.visit_select-visit-requires
-visit_select-visit-requires t c =
-    let awaits = operand_awaits {cells = c.args.cells.now} of_select (c.decreases, c.requires) c.entry.ensures c.first_in-n.ensures in
-    let operand = operand_visited awaits c.pair_of.ensures c.visit-tuple.ensures in
-    let gives : GivesOf operand c.in-Constructor.is = record { visited = operand; told = opens_value c.opened-state.ensures.0 c.in-Value.is c.in-Constructor.is } in
-    let sought = select_seeks gives c.entry-2.ensures c.second_in-i.ensures c.entry-fields.ensures c.if-i-eq0.false c.second_in.ensures c.third_in.ensures c.listed-found.ensures in
-    visit_asked (node_found sought c.in-Node.is) c.pair_of-2.ensures
-
-pub visit_select-returns : goal.visit_select-returns
-visit_select-returns t c =
-    let awaits = operand_awaits {cells = c.args.cells.now} of_select (c.decreases, c.requires) c.entry.ensures c.first_in-n.ensures in
-    let operand = operand_visited awaits c.pair_of.ensures c.visit-tuple.ensures in
-    let gives : GivesOf operand c.in-Constructor.is = record { visited = operand; told = opens_value c.opened-state.ensures.0 c.in-Value.is c.in-Constructor.is } in
-    let sought = select_seeks gives c.entry-2.ensures c.second_in-i.ensures c.entry-fields.ensures c.if-i-eq0.false c.second_in.ensures c.third_in.ensures c.listed-found.ensures in
-    visit_returned (node_found sought c.in-Node.is) c.pair_of-2.ensures
-    c.visit.ensures
+pub visit_operand-returns-in-Err : goal.visit_operand-returns-in-Err
+visit_operand-returns-in-Err t c =
+    let awaits = choice_awaits {cells = c.args.cells.now} (c.decreases, c.requires.0) c.requires.1 c.entry.ensures c.first_in-n.ensures in
+    choice_ends (operand_visited awaits c.pair_of.ensures c.visit-x.ensures) c.next_visit.ensures c.in-Err.is

@@ -5,13 +5,11 @@ use Rattle.sheet_rules.proofs.patterns.clause_of.Goals as goal
 
 pub returns-then-from-k : goal.returns-then-from-k
 returns-then-from-k c =
-    let loop = c.loop-j in
-    clause_found loop.invariant c.loop-j-test.true (c.from.ensures ∙ c.child.ensures) c.if-from-k.true (c.from-then-from-k.ensures ∙ c.clause_constructor.ensures)
+    clause_found c.loop-j.invariant c.loop-j-test.true (c.from.ensures ∙ c.child.ensures) c.if-from-k.true (c.from-then-from-k.ensures ∙ c.clause_constructor.ensures)
 
 pub loop-j-preserved : goal.loop-j-preserved
 loop-j-preserved c =
-    let loop = c.loop-j in
-    clause_left_fewer loop.invariant c.loop-j-test.true (c.from.ensures ∙ c.child.ensures) c.if-from-k.false
+    clause_left_fewer c.loop-j.invariant c.loop-j-test.true (c.from.ensures ∙ c.child.ensures) c.if-from-k.false
 
 pub returns : goal.returns
 returns c = clause_not_found c.loop-j.invariant c.loop-j-test.false

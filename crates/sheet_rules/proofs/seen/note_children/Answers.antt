@@ -6,11 +6,9 @@ use borrow.Author.Rules.{rules}
 use Rattle.sheet_rules.proofs.seen.note_children.Goals as goal
 
 pub loop-j-init : goal.loop-j-init
-loop-j-init c = (search rules, c.children-count.ensures, noted_none c.requires)
+loop-j-init c = search (rules, noted_none)
 
 pub loop-j-preserved : goal.loop-j-preserved
 loop-j-preserved c =
     let loop = c.loop-j in
-    let child_inside = c.child_inside in
-    let from = c.from in
-    (omega arith, loop.invariant.1, noted_more loop.invariant.2 (from.ensures ∙ child_inside.ensures) c.note_child.ensures)
+    (omega arith, loop.invariant.1, noted_more loop.invariant.2 (c.from.ensures ∙ c.child_inside.ensures) c.note_child.ensures)

@@ -3,14 +3,10 @@ use Rattle.sheet_rules.proofs.TreeSteps.{node_in_table, owner_in_table, body_tes
 use Rattle.sheet_rules.proofs.tree.is_body.Goals as goal
 
 pub bounds-owners-k : goal.bounds-owners-k
-bounds-owners-k c = node_in_table c.requires
+bounds-owners-k c = search node_in_table
 
 pub bounds-ends-from : goal.bounds-ends-from
-bounds-ends-from c =
-    let pre = c.requires in
-    owner_in_table pre c.from.ensures
+bounds-ends-from c = owner_in_table c.requires c.from.ensures
 
 pub returns : goal.returns
-returns c =
-    let pre = c.requires in
-    body_test pre c.from.ensures c.from-2.ensures
+returns c = body_test c.requires c.from.ensures c.from-2.ensures

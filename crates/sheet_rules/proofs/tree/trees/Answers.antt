@@ -1,4 +1,5 @@
 -- `sheet_rules::tree::trees` meets its contract. The loop's invariant: the rules of the nodes passed are accepted.
+use borrow.Author.Rules.{rules}
 use Rattle.sheet_rules.proofs.Ruling.{ruling_begins, ruling_more, ruling_refused}
 use Rattle.sheet_rules.proofs.TreeSteps.{tree_refused, tree_accepted}
 use mathlib.Core.Path.{◌∙◌, refl}
@@ -7,15 +8,10 @@ use Rattle.sheet_rules.proofs.tree.trees.Goals as goal
 pub loop-k-init : goal.loop-k-init
 loop-k-init c =
     let pre = c.requires in
-    let first_node = c.first_node-first in
-    (ruling_begins pre.0 first_node.ensures (c.from-count.ensures ∙ c.nodes.ensures), pre.1, pre.2, pre.3)
+    (ruling_begins pre.0 c.first_node-first.ensures (c.from-count.ensures ∙ c.nodes.ensures), pre.1, pre.2, pre.3)
 
 pub returns-then-not-tree_right : goal.returns-then-not-tree_right
-returns-then-not-tree_right c =
-    let loop = c.loop-k in
-    let loop_test = c.loop-k-test in
-    ruling_refused loop.invariant.0 loop_test.true
-    (tree_refused _ _ _ _ loop.invariant.0.start c.tree_right.ensures c.if-not-tree_right.true)
+returns-then-not-tree_right c = search (rules, ruling_refused, tree_refused)
 
 pub loop-k-preserved : goal.loop-k-preserved
 loop-k-preserved c =

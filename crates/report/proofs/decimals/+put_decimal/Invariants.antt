@@ -1,5 +1,0 @@
--- The number falls.
-use Rattle.report.proofs.decimals.+put_decimal.Given as goal
-
-abbrev pub decreases-put_decimal : goal.decreases-put_decimal
-decreases-put_decimal l = l.n

@@ -1,0 +1,165 @@
+-- How a selection, an if and a case go on with the outcome of their operand: to a visit, or to an end.
+use mathlib.Core.Path.{◌≡◌, refl, sym, subst, ◌∙◌}
+use Prim.Native.Nat.{ℕ, zero, suc, ◌+◌, ◌*◌, ◌-◌, ◌≤◌, ◌<◌}
+use mathlib.Core.List.{List}
+use mathlib.Core.Option.{none, some}
+use mathlib.Core.Bool.{cond}
+use native.Mathlib.Numerals.{sub-one}
+use lib.IntN.{ℤ, pos}
+use lib.ListN.{length, get_or, get_elem?}
+use lib.Dec.{ltb}
+use Rattle.std.specs.Prelude.{Result, Ok, Err, Some, None}
+use Rattle.definitions.specs.Sizes.{most_nodes}
+use Rattle.definitions.specs.Numbers.{no_clause, no_field}
+use Rattle.definitions.specs.Bytes.{word}
+use Rattle.definitions.specs.Records.{kind_of, field}
+use Rattle.definitions.specs.Operators.{is_zero}
+use Rattle.definitions.specs.NodeFields.{fields_from, chosen}
+use Rattle.definitions.specs.Layouts.{nodes, node_record}
+use Rattle.definitions.specs.TranslationKinds as kinds
+use Rattle.definitions.specs.TranslationNodes.{tag_of, tuple_fields}
+use Rattle.definitions.specs.Rule as Rule
+use Rattle.definitions.specs.Rule.{Visit, reach, value, integer, ended, node_due, selected}
+use Rattle.lent_rule.specs.Lent.{Lent}
+use Rattle.lent_rule.specs.Standing.{TupleAt, Inside}
+use Rattle.run.specs.NodeTable.{kind_part, first_part, second_part, third_part}
+use Rattle.run.specs.Packed.{Outcome, outcome_in}
+use Rattle.run.specs.States.{Found, below, above, ending_of, found_of, found_in, clauses_at}
+use Rattle.run.specs.GoingOn.{number_of, constructor_of, goes_on, next_reached, OperandKnown, GoesOn, Chooses, a_select, a_conditional, a_case}
+use Rattle.run.proofs.Endings.{number_goes, number_misses, constructor_is, constructor_goes, constructor_misses, node_missing, node_there}
+use Rattle.run.proofs.EntryReads.{plain_select, plain_conditional, second_read, third_read, tag_read, member_room, member_read, clause_read, entry_room}
+use Rattle.run.proofs.Nodes.{branch_child, member_child, clause_child}
+
+-- to an end, and to the visit of a node
+module _ {b : List ℕ} {at kind x : ℕ} where
+  pub to_end : {y : ℕ} → ((visit : Visit ℕ Lent) (s : Rule.State Lent) → goes_on b at (ending_of (outcome_in x)) visit s kind ≡ reach (ending_of (outcome_in y)) s)
+      → GoesOn b at kind x (Err y)
+  unfolding next_reached
+  to_end h = record { same = h; there = λ q. cc; written = λ q i l. cc }
+
+  pub to_visit : {p k w : ℕ} → (below p ≡ k) × (above p ≡ w)
+      → ((visit : Visit ℕ Lent) (s : Rule.State Lent) → goes_on b at (ending_of (outcome_in x)) visit s kind ≡ visit k w s)
+      → k < nodes b → ((most : ℕ) → Inside b most (ending_of (outcome_in x)) → above at ≤ most → w ≤ most) → GoesOn b at kind x (Ok p)
+  unfolding next_reached
+  to_visit {p} {k} {w} e h n i =
+      record {
+        same = λ visit s. rw (e.0, e.1) (h visit s);
+        there = λ {p = r} q. let z : r ≡ p = cc in rw (z, e.0) n;
+        written = λ {p = r} {most} q u l. let z : r ≡ p = cc in rw (z, e.1) (i most u l);
+      }
+
+-- the tuple that an operand gave
+inside_tuple : (b : List ℕ) (x most : ℕ) {m u : ℕ} → Ok (m, u) ≡ constructor_of (ending_of (outcome_in x)) → Inside b most (ending_of (outcome_in x))
+    → TupleAt b m × (u ≤ most)
+inside_tuple b x most g i = rw (constructor_is (ending_of (outcome_in x)) g) at i
+
+module _ {b tab : List ℕ} {at kind x m u : ℕ} (q : OperandKnown b tab at kind x) (g : Ok (m, u) ≡ constructor_of (ending_of (outcome_in x))) where
+  tuple_known : TupleAt b m
+  tuple_known = (inside_tuple b x q.most g q.inside).0
+
+  pub tuple_room : m < most_nodes
+  tuple_room = entry_room q.equipped tuple_known.below
+
+  pub fields_room : {e s c : ℕ} → e ≡ get_or tab m 0 → s ≡ second_part e → c ≡ third_part e → s + 4 + 2 * c ≤ length b
+  fields_room f es ec = member_room q.equipped tuple_known f es ec
+
+selects_tag : (b : List ℕ) (visit : Visit ℕ Lent) (i m u tag : ℕ) (s : Rule.State Lent) → i ≡ 0 → tag ≡ field (node_record b m) 0
+    → selected b visit i m u s ≡ reach (value (integer (pos tag))) s
+unfolding selected tag_of
+selects_tag b visit i m u tag s z e = rw (z, e) refl
+
+selects_field : (b : List ℕ) (visit : Visit ℕ Lent) (i m u : ℕ) (s : Rule.State Lent) → (i ≡ 0 → ⊥)
+    → selected b visit i m u s ≡ node_due (get_elem? (fields_from (node_record b m) 1) (i - 1)) no_field s (λ k. visit k u s)
+unfolding selected tuple_fields
+selects_field b visit zero m u s z = absurd (z refl)
+selects_field b visit (suc i) m u s z = rw (sub-one (suc i)) refl
+
+-- a selection: at index 0 the tag, and else the field that it counts from 1, under the tuple's own context
+module _ {b tab : List ℕ} {at x : ℕ} (q : OperandKnown b tab at kinds.select x) where
+  pub select_misses : {y : ℕ} → Err (ending_of (outcome_in y)) ≡ constructor_of (ending_of (outcome_in x)) → GoesOn b at kinds.select x (Err y)
+  unfolding goes_on
+  select_misses h = to_end (λ visit s. constructor_misses _ s _ h)
+
+  module _ {m u n i e : ℕ} (g : Ok (m, u) ≡ constructor_of (ending_of (outcome_in x))) (en : n ≡ get_or tab (below at) 0) (ei : i ≡ second_part n)
+      (ee : e ≡ get_or tab m 0) where
+    pub select_tag : {y tag : ℕ} {o : Outcome} → i ≡ 0 → tag ≡ first_part e → outcome_in y ≡ o → ending_of o ≡ value (integer (pos tag))
+        → GoesOn b at kinds.select x (Err y)
+    unfolding goes_on
+    select_tag z et ey eo =
+        let tag = tag_read q.equipped (tuple_known q g) ee et in
+        let index = second_read q.equipped q.node en plain_select ei in
+        to_end (λ visit s. constructor_goes _ s _ g ∙ rw (← index, ey, eo) (selects_tag b visit i m u _ s z tag))
+
+    module _ {s c : ℕ} (o : Found) (z : i ≡ 0 → ⊥) (es : s ≡ second_part e) (ec : c ≡ third_part e)
+        (eo : found_of o ≡ cond (ltb i c) (some (word b (s + 4 + 2 * i))) none) where
+      field_sought : (visit : Visit ℕ Lent) (r : Rule.State Lent) → goes_on b at (ending_of (outcome_in x)) visit r kinds.select
+          ≡ node_due (found_of o) no_field r (λ k. visit k u r)
+      unfolding goes_on
+      field_sought visit r =
+          let index = second_read q.equipped q.node en plain_select ei in
+          let found = member_read q.equipped (tuple_known q g) ee es ec _ _ z eo in
+          constructor_goes _ r _ g ∙ rw (← index, found) (selects_field b visit i m u r z)
+
+      pub field_found : {k p : ℕ} → o ≡ Some k → (below p ≡ k) × (above p ≡ u) → GoesOn b at kinds.select x (Ok p)
+      field_found h e =
+          let found = member_read q.equipped (tuple_known q g) ee es ec _ _ z eo in
+          to_visit e (λ visit r. field_sought visit r ∙ node_there no_field r _ h) (member_child _ q.equipped.accepted (tuple_known q g) found h)
+          (λ most i l. (inside_tuple b x most g i).1)
+
+      pub field_missed : {y : ℕ} {w : Outcome} → o ≡ None → outcome_in y ≡ w → ending_of w ≡ ended no_field → GoesOn b at kinds.select x (Err y)
+      field_missed h ey ew = to_end (λ visit r. field_sought visit r ∙ node_missing no_field r _ h ∙ rw (ey, ew) refl)
+
+-- a case: the first clause with the tag, under the case's context
+module _ {b tab : List ℕ} {at x : ℕ} (q : OperandKnown b tab at kinds.case_of x) where
+  pub case_misses : {y : ℕ} → Err (ending_of (outcome_in y)) ≡ constructor_of (ending_of (outcome_in x)) → GoesOn b at kinds.case_of x (Err y)
+  unfolding goes_on
+  case_misses h = to_end (λ visit s. constructor_misses _ s _ h)
+
+  module _ {m u n tag e s c : ℕ} (p : ℕ) (o : Found) (g : Ok (m, u) ≡ constructor_of (ending_of (outcome_in x))) (en : n ≡ get_or tab m 0) (et : tag ≡ first_part n)
+      (ee : e ≡ get_or tab (below at) 0) (es : s ≡ second_part e) (ec : c ≡ third_part e)
+      (ep : (found_in b p ≡ chosen (clauses_at b s c) tag) × (p + 2 ≤ length b)) (eo : found_of o ≡ found_in b p) where
+    clause_sought : (visit : Visit ℕ Lent) (r : Rule.State Lent) → goes_on b at (ending_of (outcome_in x)) visit r kinds.case_of
+        ≡ node_due (found_of o) no_clause r (λ k. visit k (above at) r)
+    unfolding goes_on tag_of
+    clause_sought visit r =
+        constructor_goes _ r _ g ∙ rw (clause_read q.equipped q.node ee es ec _ p _ ep eo, tag_read q.equipped (tuple_known q g) en et) refl
+
+    pub clause_found : {k y : ℕ} → o ≡ Some k → (below y ≡ k) × (above y ≡ above at) → GoesOn b at kinds.case_of x (Ok y)
+    clause_found h e =
+        to_visit e (λ visit r. clause_sought visit r ∙ node_there no_clause r _ h)
+        (clause_child q.equipped.accepted _ q.node (clause_read q.equipped q.node ee es ec _ p _ ep eo) h) (λ most i l. l)
+
+    pub clause_missed : {y : ℕ} {w : Outcome} → o ≡ None → outcome_in y ≡ w → ending_of w ≡ ended no_clause → GoesOn b at kinds.case_of x (Err y)
+    clause_missed h ey ew = to_end (λ visit r. clause_sought visit r ∙ node_missing no_clause r _ h ∙ rw (ey, ew) refl)
+
+-- an if: nonzero takes the second node, zero the third
+module _ {b tab : List ℕ} {at x : ℕ} (q : OperandKnown b tab at kinds.conditional x) where
+  pub branch_misses : {y : ℕ} → Err (ending_of (outcome_in y)) ≡ number_of (ending_of (outcome_in x)) → GoesOn b at kinds.conditional x (Err y)
+  unfolding goes_on
+  branch_misses h = to_end (λ visit s. number_misses _ s _ h)
+
+  pub branch_goes : {z y : ℤ} {e k second third p : ℕ} → Ok z ≡ number_of (ending_of (outcome_in x)) → y ≡ z → e ≡ get_or tab (below at) 0
+      → second ≡ second_part e → third ≡ third_part e → k ≡ cond (is_zero y) third second → (below p ≡ k) × (above p ≡ above at)
+      → GoesOn b at kinds.conditional x (Ok p)
+  unfolding goes_on
+  branch_goes {z} {k = k} g ey ee es et ek ep =
+      let f : k ≡ cond (is_zero z) (field (node_record b (below at)) 2) (field (node_record b (below at)) 1) =
+      ek ∙ rw (ey, second_read q.equipped q.node ee plain_conditional es, third_read q.equipped q.node ee plain_conditional et) refl in
+      to_visit ep (λ visit s. number_goes _ s _ g ∙ rw f refl) (branch_child q.equipped.accepted z q.node f) (λ most i l. l)
+
+-- the kind that was read of the node
+module _ {b tab : List ℕ} {at kind x : ℕ} (q : OperandKnown b tab at (kind_of (node_record b (below at))) x) where
+  pub kind_known : {e : ℕ} → e ≡ get_or tab (below at) 0 → kind ≡ kind_part e → kind_of (node_record b (below at)) ≡ kind
+  kind_known f g = sym (g ∙ rw f (q.equipped.table.entry (below at) q.node.below).kind)
+
+  pub known_as : kind_of (node_record b (below at)) ≡ kind → OperandKnown b tab at kind x
+  known_as e = subst (λ k. OperandKnown b tab at k x) e q
+
+pub goes_as : {b : List ℕ} {at kind x : ℕ} {r : Result ℕ ℕ} → kind_of (node_record b (below at)) ≡ kind → GoesOn b at kind x r
+    → GoesOn b at (kind_of (node_record b (below at))) x r
+goes_as {b} {at} {kind} {x} {r} e g = subst (λ k. GoesOn b at k x r) (sym e) g
+
+pub chooses_last : {k : ℕ} → Chooses k → (k ≡ kinds.select → ⊥) → (k ≡ kinds.conditional → ⊥) → k ≡ kinds.case_of
+chooses_last a_select n m = absurd (n refl)
+chooses_last a_conditional n m = absurd (m refl)
+chooses_last a_case n m = refl
