@@ -1,18 +1,35 @@
 // Translating a sheet and running it, in one call.
 #![tactic(auto)]
 
-ghost use Rattle.std.specs.Prelude.{◌≡◌, length};
-ghost use Rattle.join.specs.Fitting.{Fits};
-ghost use Rattle.join.specs.Promise.{Joins};
+ghost use Rattle.std.specs.Prelude.{◌≡◌};
+ghost use Rattle.definitions.specs.Refusals.{as_written};
+ghost use Rattle.join.specs.Promise.{join_length, Joins};
 
-use allowances::allowed;
-use answer::{Answer, refused};
-use definitions::{Written, numbers};
+use allowances::Allowances;
+use answer::Answer;
+use definitions::refusals::{Reason, Refusal, require};
 use file_layout::layout;
 use run::run;
 use translation_length::translated_length;
 use translator::translate;
-use widths::wide;
+
+// How long the translation of a sheet will be, or what the sheet, the readings or the allowances are refused for: the sheet's own
+// refusals, then 8, 9 and 10.
+fn check_join(
+    sheet: &[u8],
+    room: usize,
+    readings: &[i32],
+    allowances: Allowances,
+    lent: usize,
+) -> Result<usize, Refusal>
+    ensures { as_written result ≡ join_length sheet.now room readings.now allowances.nesting allowances.cells lent }
+{
+    let size = translated_length(sheet, room)?;
+    let width = usize::from(layout::readings(sheet));
+    require(readings.len() == width, Reason::BadReadings)?;
+    require(allowances.fit(lent), Reason::BadAllowance)?;
+    Ok(size)
+}
 
 // Translates a sheet into a lent buffer and runs the translation on a list of readings, with allowances of steps, nesting and
 // cells, in lent cells. Every refusal is known before the first byte is written. The slice behind `cells` stays the same.
@@ -20,53 +37,18 @@ pub fn translate_and_run(
     sheet: &[u8],
     out: &mut [u8],
     readings: &[i32],
-    steps: u32,
-    nesting: u32,
-    cells_allowed: u32,
+    allowances: Allowances,
     cells: &mut &mut [u8],
 ) -> Answer
-    ensures { Joins sheet.now out.old readings.now steps nesting cells_allowed cells.old.now result out.new cells.new.now
+    ensures { Joins sheet.now out.old readings.now allowances.steps allowances.nesting allowances.cells cells.old.now result
+        out.new cells.new.now
         × (cells.new.ref_ptr ≡ cells.old.ref_ptr) }
 {
-    let expected = translated_length(sheet, out.len());
-    match expected {
-        Written::Refused { number, place } => refused(number, place),
-        Written::Length(size) => {
-            run_translated(
-                sheet,
-                size,
-                out,
-                readings,
-                steps,
-                nesting,
-                cells_allowed,
-                cells,
-            )
+    match check_join(sheet, out.len(), readings, allowances, cells.len()) {
+        Err(refusal) => Answer::from(refusal),
+        Ok(size) => {
+            let _ = translate(sheet, out);
+            run(&out[..size], readings, allowances, cells)
         }
     }
-}
-
-// The same of an accepted sheet, whose translation has this length and fits.
-fn run_translated(
-    sheet: &[u8],
-    size: usize,
-    out: &mut [u8],
-    readings: &[i32],
-    steps: u32,
-    nesting: u32,
-    cells_allowed: u32,
-    cells: &mut &mut [u8],
-) -> Answer
-    requires { Fits sheet.now (length out.old) size }
-    ensures { Joins sheet.now out.old readings.now steps nesting cells_allowed cells.old.now result out.new cells.new.now
-        × (cells.new.ref_ptr ≡ cells.old.ref_ptr) }
-{
-    if readings.len() != wide(layout::readings(sheet)) {
-        return refused(numbers::BAD_READINGS, 0);
-    }
-    if !allowed(nesting, cells_allowed, cells.len()) {
-        return refused(numbers::BAD_ALLOWANCE, 0);
-    }
-    translate(sheet, out);
-    run(&out[..size], readings, steps, nesting, cells_allowed, cells)
 }

@@ -10,33 +10,24 @@ use definitions::numbers;
 use definitions::refusals::Refusal;
 use file_writer::{SPACE_BYTES, Space};
 use reading_search::find_reading;
+use reading_search::query::Query;
 
-// What is asked for: a position, the ends of a range, and the wanted number.
-#[derive(Clone, Copy)]
-struct Query {
-    position: u32,
-    lowest: i32,
-    highest: i32,
-    wanted: i32,
+// What an entry asks for: a position, the ends of a range, and the wanted number.
+fn query_of(entry: &[u8], printer: &mut Printer) -> Query {
+    Query {
+        position: numbered(entry, 0, printer),
+        lowest: signed(entry, 1, printer),
+        highest: signed(entry, 2, printer),
+        wanted: signed(entry, 3, printer),
+    }
 }
 
-impl Query {
-    fn of(entry: &[u8], printer: &mut Printer) -> Query {
-        Query {
-            position: numbered(entry, 0, printer),
-            lowest: signed(entry, 1, printer),
-            highest: signed(entry, 2, printer),
-            wanted: signed(entry, 3, printer),
-        }
-    }
-
-    // How many values the range has.
-    fn count(self) -> u32 {
-        self.highest
-            .wrapping_sub(self.lowest)
-            .cast_unsigned()
-            .wrapping_add(1)
-    }
+// How many values the range has.
+fn value_count(q: Query) -> u32 {
+    q.highest
+        .wrapping_sub(q.lowest)
+        .cast_unsigned()
+        .wrapping_add(1)
 }
 
 // The value at which single runs gave the wanted number, the most cells that any counts, and the cells that they left.
@@ -59,16 +50,7 @@ fn searched(
     let lent_bytes = within(g.lent, SPACE_BYTES, printer);
     let mut cells = filled();
     let mut lent: &mut [u8] = &mut cells[..lent_bytes];
-    let answer = find_reading(
-        &file[..size],
-        readings,
-        q.position,
-        q.lowest,
-        q.highest,
-        q.wanted,
-        g.allowances,
-        &mut lent,
-    );
+    let answer = find_reading(&file[..size], readings, q, g.allowances, &mut lent);
     (answer, cells)
 }
 
@@ -118,12 +100,12 @@ fn show_searched(answer: Result<Option<i32>, Refusal>, q: Query, printer: &mut P
         Ok(Some(value)) => {
             printer.print("found");
             show_value(value, printer);
-            q.count()
+            value_count(q)
         }
         Ok(None) => {
             let number = numbers::NO_VALUE;
             printer.print(format_args!("none {number}"));
-            q.count()
+            value_count(q)
         }
         Err(refusal) => {
             show_refusal(refusal, printer);
@@ -137,7 +119,7 @@ fn show_searched(answer: Result<Option<i32>, Refusal>, q: Query, printer: &mut P
 pub(crate) fn try_search(entry: &[u8], base: &Space, expected: &File, printer: &mut Printer) {
     let translation = changed(entry, base, printer);
     let mut readings = Readings::of(entry, printer);
-    let q = Query::of(entry, printer);
+    let q = query_of(entry, printer);
     let g = Given::of(entry, 4, printer);
     let (answer, cells) = searched(&translation, readings.listed(), q, g, printer);
     show_entry("  find ", entry, ": ", printer);

@@ -8,7 +8,8 @@ ghost use Rattle.zifnora_c.specs.Promise.{translation_code, TranslatesC, WritesC
 
 mod codes;
 
-use crate::codes::{listed_code, record_code, searched_code, written_code};
+use crate::codes::{count_code, record_code, searched_code};
+use allowances::Allowances;
 use answer::write_answer;
 use batch::run_rows;
 use canonical_writer::write_canonical;
@@ -17,6 +18,7 @@ use driver_view::write_view;
 use hirer::run_for_hirer;
 use join::translate_and_run;
 use reading_search::find_reading;
+use reading_search::query::Query;
 use run::run;
 use translation_length::translated_length;
 use translator::translate;
@@ -25,21 +27,21 @@ use translator::translate;
 pub fn zifnora_translate(sheet: &[u8], out: &mut [u8]) -> u64
     ensures { TranslatesC sheet.now out.old result out.new }
 {
-    written_code(translate(sheet, out))
+    count_code(translate(sheet, out))
 }
 
 // What translating a sheet into an output of `room` bytes would answer.
 pub fn zifnora_translated_length(sheet: &[u8], room: u64) -> u64
     ensures { result ≡ translation_code sheet.now room }
 {
-    written_code(translated_length(sheet, room as usize))
+    count_code(translated_length(sheet, room as usize))
 }
 
 // Writes a sheet in canonical form into a lent output.
 pub fn zifnora_canonical_sheet(sheet: &[u8], out: &mut [u8]) -> u64
     ensures { WritesCanonicalC sheet.now out.old result out.new }
 {
-    written_code(write_canonical(sheet, out))
+    count_code(write_canonical(sheet, out))
 }
 
 // Runs a translation, and writes the answer's record.
@@ -59,8 +61,13 @@ pub fn zifnora_run_slice(
     if short != 0 {
         return short;
     }
-    let answer = run(file, readings, steps, nesting, cells_allowed, cells);
-    write_answer(answer, rec);
+    let allowances = Allowances {
+        steps,
+        nesting,
+        cells: cells_allowed,
+    };
+    let answer = run(file, readings, allowances, cells);
+    let _ = write_answer(answer, rec);
     short
 }
 
@@ -83,8 +90,13 @@ pub fn zifnora_run_for_hirer_slice(
     if short != 0 {
         return short;
     }
-    let answer = run_for_hirer(file, set, readings, steps, nesting, cells_allowed, cells);
-    write_answer(answer, rec);
+    let allowances = Allowances {
+        steps,
+        nesting,
+        cells: cells_allowed,
+    };
+    let answer = run_for_hirer(file, set, readings, allowances, cells);
+    let _ = write_answer(answer, rec);
     short
 }
 
@@ -103,17 +115,12 @@ pub fn zifnora_run_rows_slice(
         cells.new.now records.new
         × (cells.new.ref_ptr ≡ cells.old.ref_ptr) }
 {
-    let written = run_rows(
-        file,
-        rows,
-        readings,
+    let allowances = Allowances {
         steps,
         nesting,
-        cells_allowed,
-        cells,
-        records,
-    );
-    written_code(written)
+        cells: cells_allowed,
+    };
+    count_code(run_rows(file, rows, readings, allowances, cells, records))
 }
 
 // Finds the smallest value of a range for a reading with which the run of a translation ends in a wanted number.
@@ -133,19 +140,18 @@ pub fn zifnora_find_reading_slice(
         cells.new.now
         × (cells.new.ref_ptr ≡ cells.old.ref_ptr) }
 {
-    let searched = find_reading(
-        file,
-        readings,
+    let allowances = Allowances {
+        steps,
+        nesting,
+        cells: cells_allowed,
+    };
+    let query = Query {
         position,
         lowest,
         highest,
         wanted,
-        steps,
-        nesting,
-        cells_allowed,
-        cells,
-    );
-    searched_code(searched)
+    };
+    searched_code(find_reading(file, readings, query, allowances, cells))
 }
 
 // Translates a sheet and runs the translation, and writes the answer's record.
@@ -167,8 +173,13 @@ pub fn zifnora_translate_and_run_slice(
     if short != 0 {
         return short;
     }
-    let answer = translate_and_run(sheet, out, readings, steps, nesting, cells_allowed, cells);
-    write_answer(answer, rec);
+    let allowances = Allowances {
+        steps,
+        nesting,
+        cells: cells_allowed,
+    };
+    let answer = translate_and_run(sheet, out, readings, allowances, cells);
+    let _ = write_answer(answer, rec);
     short
 }
 
@@ -176,12 +187,12 @@ pub fn zifnora_translate_and_run_slice(
 pub fn zifnora_list_context(cells: &[u8], cell: u32, out: &mut [u8]) -> u64
     ensures { ListsC cells.now cell out.old result out.new }
 {
-    listed_code(list_context(cells, cell as usize, out))
+    count_code(list_context(cells, cell as usize, out))
 }
 
 // Writes the driver's view of an answer record.
 pub fn zifnora_driver_view(rec: &[u8], out: &mut [u8]) -> u64
     ensures { WritesViewC rec.now out.old result out.new }
 {
-    written_code(write_view(rec, out))
+    count_code(write_view(rec, out))
 }

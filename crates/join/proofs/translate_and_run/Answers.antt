@@ -1,18 +1,17 @@
--- `join::translate_and_run` meets its contract: what translating would refuse, or the run of a translation that fits.
-use Rattle.join.proofs.Joining.{not_translated, length_known, join_not_translated}
+-- `join::translate_and_run` meets its contract: a refusal, or the run of what the translator wrote.
 use mathlib.Core.Path.{refl}
+use native.Mathlib.Omega.{arith}
+use Rattle.join.proofs.Joining.{refused, passed, written_size, joined}
 use Rattle.join.proofs.translate_and_run.Goals as goal
 
-pub run_translated-requires : goal.run_translated-requires
-run_translated-requires c =
-    length_known c.translated_length-expected.ensures c.in-Length.is
+pub returns-in-Err : goal.returns-in-Err
+returns-in-Err c = (refused c.in-Err.ensures c.from.ensures, refl)
 
-pub returns-in-Refused : goal.returns-in-Refused
-returns-in-Refused c =
-    let refusal = not_translated _ _ c.translated_length-expected.ensures c.in-Refused.is in
-    (join_not_translated _ _ _ _ _ _ _ _ _ _ refusal c.refused.ensures, refl)
+pub slice_bounds-run-end : goal.slice_bounds-run-end
+slice_bounds-run-end c = let p = passed _ _ _ _ _ _ c.in-Ok.ensures in omega (arith, p)
 
-pub returns-in-Length : goal.returns-in-Length
-returns-in-Length c =
-    let run_translated = c.run_translated in
-    run_translated.ensures
+pub slice_bounds-run-end-in-Ok : goal.slice_bounds-run-end-in-Ok
+slice_bounds-run-end-in-Ok c = written_size (passed _ _ _ _ _ _ c.in-Ok.ensures) c.translate.ensures
+
+pub returns-in-Ok : goal.returns-in-Ok
+returns-in-Ok c = (joined (passed _ _ _ _ _ _ c.in-Ok.ensures) c.translate.ensures c.run.ensures.0, c.run.ensures.1)

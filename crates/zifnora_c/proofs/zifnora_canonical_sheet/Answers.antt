@@ -3,6 +3,4 @@ use Rattle.zifnora_c.proofs.Coding.{canonical_coded}
 use Rattle.zifnora_c.proofs.zifnora_canonical_sheet.Goals as goal
 
 pub returns : goal.returns
-returns c =
-    let write_canonical = c.write_canonical in
-    canonical_coded write_canonical.ensures c.written_code.ensures
+returns c = canonical_coded c.write_canonical.ensures c.count_code.ensures.written

@@ -9,10 +9,4 @@ returns-then-short-ne0 c = (run_short _ _ c.record_code-short.ensures c.if-short
 pub returns : goal.returns
 returns c =
     let run = c.run_for_hirer-answer.ensures in
-    let record_code = c.record_code-short in
-    let if1 = c.if-short-ne0 in
-    let write_answer = c.write_answer in (
-      run_written _ _ record_code.ensures
-          if1.false run.0.answer run.0.cells write_answer.ensures,
-      run.1,
-    )
+    (run_written _ _ c.record_code-short.ensures c.if-short-ne0.false run.0.answer run.0.cells c.write_answer.ensures, run.1)

@@ -4,5 +4,5 @@ use Rattle.zifnora_c.proofs.zifnora_run_rows_slice.Goals as goal
 
 pub returns : goal.returns
 returns c =
-    let run_rows = c.run_rows-written.ensures in
-    (rows_coded run_rows.0 c.written_code.ensures, run_rows.1)
+    let rows = c.run_rows.ensures in
+    (rows_coded rows.0 c.count_code.ensures.written, rows.1)

@@ -3,6 +3,4 @@ use Rattle.zifnora_c.proofs.Coding.{translate_coded}
 use Rattle.zifnora_c.proofs.zifnora_translate.Goals as goal
 
 pub returns : goal.returns
-returns c =
-    let translate = c.translate in
-    translate_coded translate.ensures c.written_code.ensures
+returns c = translate_coded c.translate.ensures c.count_code.ensures.written

@@ -9,10 +9,4 @@ returns-then-short-ne0 c = (join_short _ _ c.record_code-short.ensures c.if-shor
 pub returns : goal.returns
 returns c =
     let run = c.translate_and_run-answer.ensures in
-    let record_code = c.record_code-short in
-    let if1 = c.if-short-ne0 in
-    let write_answer = c.write_answer in (
-      join_written _ _ record_code.ensures
-          if1.false run.0 write_answer.ensures,
-      run.1,
-    )
+    (join_written _ _ c.record_code-short.ensures c.if-short-ne0.false run.0 c.write_answer.ensures, run.1)
