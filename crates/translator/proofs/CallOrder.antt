@@ -27,7 +27,7 @@ use Rattle.readback.proofs.Totals.{count_weighed}
 use Rattle.readback.proofs.Labels.{first_called}
 use Rattle.readback.proofs.Size.{listed_some, no_arguments, call_arguments}
 use Rattle.tree_classes.specs.Keys.{entry_of}
-use Rattle.call_labels.specs.Tables.{Counts, label_count}
+use Rattle.call_labels.specs.Tables.{label_count}
 use Rattle.call_labels.proofs.CallLabels.{calls_same, CallOf, first_here, label_here}
 use Rattle.translator.specs.Tables.{labels_before, CallOrder, Placing}
 
@@ -54,15 +54,8 @@ module _ (b : List ℕ) where
   pub place_within : (f j : ℕ) → f < functions b → j < label_count b f → labels_before b f + j < nodes b
   place_within f j h l = omega (arith, sum_term f (functions b) (label_count b) h, all_calls, l)
 
-  -- the calls of function f, and those before them, while they are summed
-  module _ {counts : List ℕ} (w : Counts b counts (nodes b)) (shaped : file_shape Sheet b ≡ Accepted) {count f : ℕ} (h : f < count)
-      (e : count ≡ functions b) where
-    pub count_is : get_or counts f 0 ≡ label_count b f
-    count_is = w.entry f (omega (arith, h, e))
-
-    pub total_few : {total : ℕ} → total ≡ labels_before b f → total + get_or counts f 0 ≤ most_nodes
-    total_few s =
-        omega (arith, s, count_is, sum_term f (functions b) (label_count b) (omega (arith, h, e)), all_calls, nodes_limit Sheet b shaped)
+  pub labels_few : file_shape Sheet b ≡ Accepted → sum_of (functions b) (label_count b) ≤ most_nodes
+  labels_few shaped = omega (arith, all_calls, nodes_limit Sheet b shaped)
 
   label_within : (f k : ℕ) → k < nodes b → is_first_of f k ≡ true → count_of k (is_first_of f) < label_count b f
   label_within f k h p = count_term k (nodes b) (is_first_of f) h p

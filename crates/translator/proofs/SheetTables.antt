@@ -7,42 +7,27 @@ use lib.ListN.{length, get_or, set, length-set}
 use Rattle.definitions.specs.Sizes.{most_functions, most_nodes, most_formals, most_fields}
 use Rattle.definitions.specs.Records.{record_at, field}
 use Rattle.definitions.specs.Lists.{sum_of}
-use Rattle.definitions.specs.Layouts.{functions, nodes, first_function, first_node, owner_of, body_of}
+use Rattle.definitions.specs.Layouts.{functions, nodes, first_node, owner_of, body_of}
 use Rattle.definitions.specs.References.{parameters}
+use Rattle.definitions.specs.Shape.{file_shape}
+use Rattle.definitions.specs.Verdict.{Accepted}
 use Rattle.definitions.specs.SheetNodes.{scrutinee_of}
 use Rattle.definitions.specs.Translate.{formal_of}
 use Rattle.definitions.specs.declared.Layout.TheVariants.{Sheet}
 use Rattle.laws.proofs.Lists.{sum_more}
-use Rattle.accepted.proofs.Sums.{sum_term, sum_limit}
+use Rattle.accepted.proofs.Sums.{sum_limit}
 use Rattle.accepted.proofs.Head.{nodes_limit, functions_limit}
 use Rattle.accepted.proofs.Sections.{parameters_limit}
 use Rattle.accepted.proofs.Owners.{owner_below, body_before_end, body_below}
-use Rattle.file_records.specs.Index.{Opened, start_in}
+use Rattle.file_records.specs.Index.{start_in}
 use Rattle.file_records.proofs.Indices.{node_reached}
 use Rattle.file_runs.proofs.RunTables.{entry_more}
-use Rattle.sheet_rules.proofs.SheetTables.{opened_parameters}
 use Rattle.tree_classes.specs.Classes.{ReadTables}
 use Rattle.translator.specs.Tables.{OwnerFormals}
 
--- a parameter count, of a function that the index shows
-module _ {b starts : List ℕ} {f count x : ℕ} (o : Opened Sheet b starts) (h : f < count) (e : count ≡ functions b)
-    (g : x ≡ field (record_at b (start_in starts (first_function Sheet b + f))) 0) where
-  below : f < functions b
-  below = omega (arith, h, e)
-
-  pub parameters_read : x ≡ parameters b f
-  parameters_read = opened_parameters b starts f x o below g
-
-  pub formals_few : {total : ℕ} → total ≡ sum_of f (parameters b) → total + x ≤ most_formals
-  formals_few {total} s =
-      omega (
-        arith,
-        s,
-        parameters_read,
-        sum_term f (functions b) (parameters b) below,
-        sum_limit (functions b) most_fields (parameters b) (parameters_limit b o.accepted),
-        functions_limit Sheet b o.accepted,
-      )
+-- all formals
+pub formals_few : (b : List ℕ) → file_shape Sheet b ≡ Accepted → sum_of (functions b) (parameters b) ≤ most_formals
+formals_few b shaped = omega (arith, sum_limit (functions b) most_fields (parameters b) (parameters_limit b shaped), functions_limit Sheet b shaped)
 
 -- the sums of the terms of the first f functions are in the table
 pub record Summing (at : ℕ → ℕ) (sums : List ℕ) (count total f : ℕ) : Type 0 where

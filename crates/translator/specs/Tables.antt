@@ -19,6 +19,18 @@ use Rattle.call_labels.specs.Tables.{Labels, Counts, label_count, Classed}
 pub record Sums (n : ℕ) (at : ℕ → ℕ) (sums : List ℕ) : Type 0 where
   pub entry : (f : ℕ) → f ≤ n → get_or sums f 0 ≡ sum_of f at
 
+-- calls for the numbers of the first n functions give those of `at`
+abbrev pub Gives : (ℕ → ℕ → Type 0) → ℕ → (ℕ → ℕ) → Type 0
+Gives post n at = (f x : ℕ) → f < n → post f x → x ≡ at f
+
+-- they may be made, and give numbers whose sum a table holds
+pub record Summable (pre : ℕ → Type 0) (post : ℕ → ℕ → Type 0) (n : ℕ) : Type 0 where
+  pub few : n ≤ most_functions
+  pub callable : (f : ℕ) → f < n → pre f
+  pub at : ℕ → ℕ
+  pub given : Gives post n at
+  pub small : sum_of n at ≤ 65535
+
 -- the number of labels of the functions before function f
 abbrev pub labels_before : List ℕ → ℕ → ℕ
 labels_before b f = sum_of f (label_count b)

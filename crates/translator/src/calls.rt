@@ -7,9 +7,9 @@ ghost use Rattle.definitions.specs.Verdict.{Accepted};
 ghost use Rattle.call_labels.specs.Tables.{label_count, Counts};
 ghost use Rattle.translator.specs.Tables.{Sums, CallOrder, Placing, PlaceAt};
 
-use crate::tables::Sums;
+use crate::tables::{Sums, sums};
 use definitions::sheet_kinds;
-use definitions::sizes::{MOST_FUNCTIONS, OfFunctions, OfNodes, Starts};
+use definitions::sizes::{OfFunctions, OfNodes, Starts};
 use file_layout::layout::{first_node, functions, nodes};
 use file_records::records::{field, indexed, kind};
 
@@ -18,14 +18,7 @@ pub(crate) fn first_calls(b: &[u8], counts: &OfFunctions) -> Sums
     requires { (file_shape Sheet b.now ≡ Accepted) × Counts b.now counts.now (nodes b.now) }
     ensures { Sums (functions b.now) (label_count b.now) result }
 {
-    let count = usize::from(functions(b));
-    let mut firsts = [0u16; MOST_FUNCTIONS + 1];
-    let mut total: u16 = 0;
-    for f in 0..count {
-        total += counts[f];
-        firsts[f + 1] = total;
-    }
-    firsts
+    sums(usize::from(functions(b)), |f| counts[f])
 }
 
 // Puts node `k`, where it is the first call with its label, in its place.
