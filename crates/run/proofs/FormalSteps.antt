@@ -96,11 +96,6 @@ pub record ActualSought (b tab : List ℕ) (t limits at : ℕ) (counts : Counts)
 abbrev pub behind : MutBor (List ℕ) → List ℕ → MutBor (List ℕ)
 behind cells list = record { ref_ptr = cells.ref_ptr; ghost_name = cells.ghost_name; now = list }
 
--- the lent bytes are told by an equation of which they are the left side
-abbrev pub ReadBy : {b tab : List ℕ} {t limits at : ℕ} {counts : Counts} {bytes : List ℕ} → Asked b tab t limits at counts bytes kinds.formal → MutBor (List ℕ)
-    → Bool → ℕ → ℕ → {list first : List ℕ} → list ≡ first → Type 0
-ReadBy {b} {tab} {t} {limits} {at} {counts} a cells own i known {list} e = CellRead b tab t limits at counts cells own i known list
-
 module _ {b tab : List ℕ} {t limits at : ℕ} {counts : Counts} {cells : MutBor (List ℕ)} where
   pub cell_read : {e place known : ℕ} {own : Bool} {first list : List ℕ} → Asked b tab t limits at counts cells.now kinds.formal → (above at ≡ 0 → ⊥)
       → e ≡ get_or tab (below at) 0 → place ≡ first_part e → (own ≡ eqb (place / 8) (callee_at cells.now (above at))) × (first ≡ cells.now)

@@ -63,13 +63,6 @@ ended_packed o n x eo t =
 pub value_packed : (o : Outcome) (v : Value) (x : ℕ) → o ≡ Ok v → outcome_in x ≡ Ok v → outcome_in x ≡ o
 value_packed o v x eo e = e ∙ sym eo
 
--- an outcome by the state that was opened
-pub opens : {o p q : Outcome} → o ≡ p → o ≡ q → p ≡ q
-opens e f = sym e ∙ f
-
-pub opens_value : {o p : Outcome} {v w : Value} → o ≡ p → o ≡ Ok v → v ≡ w → p ≡ Ok w
-opens_value e f g = sym e ∙ f ∙ ap Ok g
-
 pub last_opened : {end : State} {after : List ℕ} {r : Reached ℕ Lent} (x : ℕ) (counts : Counts)
     → (end.outcome ≡ outcome_in x) × (end.left ≡ counts.left) × (end.most ≡ counts.most) → reached_of x counts after ≡ r → Leaves end after r
 unfolding reached_of reach state_of

@@ -5,16 +5,14 @@ use mathlib.Core.List.{List}
 use native.Mathlib.Omega.{arith}
 use lib.IntN.{ℤ}
 use denote.MutBor.{MutBor}
-use Rattle.std.specs.Prelude.{Some, None}
 use Rattle.definitions.specs.Layouts.{nodes}
-use Rattle.definitions.specs.Rule.{Ending, Reached, reach, ended, node_due}
+use Rattle.definitions.specs.Rule.{Ending, Reached, reach}
 use Rattle.live_counts.specs.declared.Counts.{Counts}
 use Rattle.lent_rule.specs.Lent.{Lent}
 use Rattle.run.specs.NodeTable.{ReadingsIn}
 use Rattle.run.specs.Packed.{Outcome, outcome_in}
-use Rattle.run.specs.States.{Found, below, above, ending_of, found_of, counted_state, visits, evaluates, Equipped, InContext, Visitable, Evaluable, Visits, Evaluates}
+use Rattle.run.specs.States.{below, above, ending_of, counted_state, visits, evaluates, Equipped, InContext, Visitable, Evaluable, Visits, Evaluates}
 use Rattle.run.proofs.Outcomes.{reached_as}
-use Rattle.run.proofs.Endings.{node_missing, node_there}
 use Rattle.run.proofs.Counting.{visitable_at, visits_at}
 
 -- the node of `at` worked out, from counts and lent bytes
@@ -78,15 +76,6 @@ pub record Onward (b tab : List ℕ) (t limits at : ℕ) (counts : Counts) (cell
   pub there : k < nodes b
   pub written : w ≤ counts'.most
 
--- it goes on to the visit of the node that was found, under context w, or ends with a fault
-pub record Sought (b tab : List ℕ) (t limits at : ℕ) (counts : Counts) (cells : MutBor (List ℕ)) (counts' : Counts) (cells' : MutBor (List ℕ))
-    (w fault : ℕ) (o : Found) : Type 0 where
-  pub remains : Remains b tab t limits at counts cells counts' cells'
-      (λ rs. node_due (found_of o) fault (counted_state counts' cells'.now)
-      (λ k. visits b rs (above limits) (below limits) k w (counted_state counts' cells'.now)))
-  pub there : {k : ℕ} → o ≡ Some k → k < nodes b
-  pub written : w ≤ counts'.most
-
 module _ {b tab : List ℕ} {t limits at : ℕ} {counts : Counts} {cells : MutBor (List ℕ)} {counts' : Counts} {cells' : MutBor (List ℕ)} where
   module _ {k w p : ℕ} (r : Onward b tab t limits at counts cells counts' cells' k w) (e : (below p ≡ k) × (above p ≡ w)) where
     -- what the visit asks, and what it gives is returned
@@ -100,11 +89,3 @@ module _ {b tab : List ℕ} {t limits at : ℕ} {counts : Counts} {cells : MutBo
           same = λ rs h. visits_at e v rs h ∙ sym (r.remains.same rs h);
           stays = v.stays ∙ r.remains.stays;
         }
-
-  module _ {w fault : ℕ} {o : Found} (s : Sought b tab t limits at counts cells counts' cells' w fault o) where
-    pub node_missed : {x : ℕ} {q : Outcome} → o ≡ None → outcome_in x ≡ q → ending_of q ≡ ended fault
-        → Evaluates b tab limits at counts cells x counts' cells'
-    node_missed e f g = remains_ends (remains_as s.remains (λ rs. node_missing fault _ _ e)) f g
-
-    pub node_found : {k : ℕ} → o ≡ Some k → Onward b tab t limits at counts cells counts' cells' k w
-    node_found e = record { remains = remains_as s.remains (λ rs. node_there fault _ _ e); there = s.there e; written = s.written }

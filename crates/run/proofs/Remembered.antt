@@ -1,12 +1,11 @@
 -- What is recalled and remembered: a value has the number of the entry that remembers it.
-use mathlib.Core.Path.{◌≡◌, refl, sym, ◌∙◌}
+use mathlib.Core.Path.{◌≡◌, refl, ◌∙◌}
 use Prim.Native.Nat.{ℕ, ◌/◌, ◌%◌}
 use mathlib.Core.List.{List, [], ◌∷◌}
 use mathlib.Core.Option.{some}
 use mathlib.Core.Bool.{Bool, true, false, cond}
 use native.Mathlib.Omega.{arith}
 use native.Mathlib.Decide.{ℕ_discrete}
-use lib.Dec.{eqb}
 use borrow.Author.Tests.{eq-eqb, ne_eqb}
 use mir.Syntax.{w32}
 use mir.Val.{to_z}
@@ -39,16 +38,6 @@ held x = by (ℕ_discrete (x % 65536) 1) (ℕ_discrete (x % 65536) 2)
     by (yes e) d = a_number e
     by (no n) (yes e) = a_constructor e
     by (no n) (no m) = an_end n m
-
--- whether it is a value, by its kind
-module _ (x : ℕ) {kind : ℕ} (e : kind ≡ x % 65536) where
-  pub told_value : kind ≡ 1 → true ≡ is_value_in x
-  unfolding is_value_in
-  told_value h = rw (eq-eqb (x % 65536) 1 (sym e ∙ h)) refl
-
-  pub told_other : (kind ≡ 1 → ⊥) → eqb kind 2 ≡ is_value_in x
-  unfolding is_value_in
-  told_other h = rw (ne_eqb (x % 65536) 1 (λ q. h (e ∙ q)), e) refl
 
 -- an entry that is a value is recalled, with the outcome of its number; else the visit goes on
 entry_number_law : (x : ℕ) → x % 65536 ≡ 1 → entry_of x ≡ some (Rule.integer (to_z w32 (x / 65536 % 4294967296)))

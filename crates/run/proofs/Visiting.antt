@@ -54,6 +54,3 @@ pub record Counted (b tab : List ℕ) (limits at : ℕ) (counts : Counts) (cells
 module _ {b tab : List ℕ} {limits at : ℕ} {counts : Counts} {bytes : List ℕ} (a : Visitable b tab limits at counts bytes) where
   pub step_counted : {cells : MutBor (List ℕ)} → (counts.left ≡ 0 → ⊥) → (below limits ≡ 0 → ⊥) → Counted b tab limits at counts cells
   step_counted l n = record { returned = visit_taken l n }
-
-  abbrev pub CountedBy : MutBor (List ℕ) → Type 0
-  CountedBy cells = Counted b tab limits at counts cells

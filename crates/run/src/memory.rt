@@ -26,9 +26,7 @@ pub(crate) fn recall(cells: &mut [u8], own: bool, c: u16, i: u16) -> u64
 pub(crate) fn remember(cells: &mut [u8], own: bool, c: u16, i: u16, x: u64)
     ensures { cells.new ≡ bytes_remembering own cells.old c i (ending_of (outcome_in x)) }
 {
-    if own {
-        if is_value(x) {
-            write_entry(cells, c, i, x);
-        }
+    if own && is_value(x) {
+        write_entry(cells, c, i, x);
     }
 }

@@ -40,33 +40,28 @@ pub(crate) fn packed(o: Outcome) -> u64
 }
 
 // Whether the outcome of a number is a value.
+#[tactic(auto, unfolding(crate::specs::Packed::is_value_in))]
 pub(crate) fn is_value(x: u64) -> bool
     ensures { result ≡ is_value_in x }
 {
     let kind = kind_in(x);
-    if kind == entry::NUMBER {
-        return true;
-    }
-    kind == entry::CONSTRUCTOR
+    kind == entry::NUMBER || kind == entry::CONSTRUCTOR
 }
 
 // The outcome of a number.
 pub(crate) fn outcome_in(x: u64) -> Outcome
     ensures { result ≡ outcome_in x }
 {
-    let kind = kind_in(x);
-    if kind == entry::NUMBER {
-        return Ok(Value::Number(number_in(x)));
-    }
-    if kind == entry::CONSTRUCTOR {
-        return Ok(Value::Constructor {
+    match kind_in(x) {
+        entry::NUMBER => Ok(Value::Number(number_in(x))),
+        entry::CONSTRUCTOR => Ok(Value::Constructor {
             node: first_in(x),
             context: second_in(x),
-        });
+        }),
+        _ => Err(End {
+            number: first_in(x),
+        }),
     }
-    Err(End {
-        number: first_in(x),
-    })
 }
 
 // The state after a visit: the outcome that it returned, the steps left and the most cells alive together.
