@@ -4,7 +4,9 @@ ghost use Rattle.trials.specs.declared.files.TheConstants.{READINGS_ROOM};
 
 use crate::printer::Printer;
 use crate::shown::show_misfit;
-use crate::text::{COMMA, after, from_number, number, number_starts, rest, signed_at, until, word};
+use crate::text::{
+    COMMA, WORDS, after, from_number, number, number_starts, rest, signed_at, until, word,
+};
 use definitions::sizes::{CELL_BYTES, MOST_READINGS, MOST_ROWS};
 use file_writer::{SPACE_BYTES, Space, change, put};
 use std::array;
@@ -65,11 +67,9 @@ pub(crate) struct File {
 }
 
 impl File {
-    pub(crate) fn new() -> File {
-        File {
-            bytes: filled(),
-            size: 0,
-        }
+    // A file of which nothing is written.
+    pub(crate) fn new(bytes: Space) -> File {
+        File { bytes, size: 0 }
     }
 
     // Writes a word that fits.
@@ -83,7 +83,7 @@ impl File {
 
     // Writes one turn of an entry's words.
     fn put_turn(&mut self, entry: &[u8], turn: u16, printer: &mut Printer) {
-        for at in 0..until(entry, COMMA) {
+        for at in WORDS..until(entry, COMMA) {
             if number_starts(entry, at) {
                 let word = word_at_turn(rest(entry, at), turn, printer);
                 self.put_word(word, printer);
@@ -124,7 +124,7 @@ impl File {
 // kind. A number that no dot follows is no change.
 pub(crate) fn changed(entry: &[u8], base: &Space, printer: &mut Printer) -> Space {
     let mut file = *base;
-    for at in 0..until(entry, COMMA) {
+    for at in WORDS..until(entry, COMMA) {
         if number_starts(entry, at) {
             let text = rest(entry, at);
             let place = after(text, b'.');
@@ -153,11 +153,8 @@ impl Readings {
             values: [0; READINGS_ROOM],
             count: 0,
         };
-        let part = entry
-            .get(until(entry, b'|')..until(entry, COMMA))
-            .unwrap_or(&[]);
-        for turn in 0..turns(part, printer) {
-            readings.push_row(part, turn, printer);
+        for turn in 0..turns(rest(entry, until(entry, b'|')), printer) {
+            readings.push_row(entry, turn, printer);
         }
         if readings.count == READINGS_ROOM {
             show_misfit(printer);
@@ -165,13 +162,13 @@ impl Readings {
         readings
     }
 
-    // Adds one turn of the readings that a part of an entry lists.
-    fn push_row(&mut self, part: &[u8], turn: u16, printer: &mut Printer) {
-        for at in 0..part.len() {
-            if number_starts(part, at) {
-                let step = word(after(rest(part, at), b'+'), printer);
+    // Adds one turn of the readings that an entry lists.
+    fn push_row(&mut self, entry: &[u8], turn: u16, printer: &mut Printer) {
+        for at in until(entry, b'|')..until(entry, COMMA) {
+            if number_starts(entry, at) {
+                let step = word(after(rest(entry, at), b'+'), printer);
                 let grown = i32::from(at_turn(0, step, turn));
-                self.push(signed_at(part, at, printer).wrapping_add(grown));
+                self.push(signed_at(entry, at, printer).wrapping_add(grown));
             }
         }
     }

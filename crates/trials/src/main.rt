@@ -65,7 +65,7 @@ mod translator_trial;
 mod view_trial;
 
 use crate::canonical_trial::try_canonical;
-use crate::files::File;
+use crate::files::{File, filled};
 use crate::hirer_trial::try_for_hirer;
 use crate::length_trial::try_length;
 use crate::listing_trial::try_listing;
@@ -75,10 +75,11 @@ use crate::rows_trial::try_rows;
 use crate::run_trial::{try_joined, try_run};
 use crate::search_trial::try_search;
 use crate::shown::{show_entry, show_misfit};
-use crate::text::{entry_at, line_starts};
+use crate::text::{line_starts, rest};
 use crate::translator_trial::try_translator;
 use crate::view_trial::try_view;
 use definitions::Layout;
+use file_writer::{SPACE_BYTES, Space};
 use standard_input::read_full;
 use std::io;
 
@@ -94,18 +95,19 @@ struct Written {
 }
 
 impl Written {
-    fn new() -> Written {
+    // Nothing, over the same bytes in each.
+    fn new(bytes: Space) -> Written {
         Written {
-            sheet: File::new(),
-            translation: File::new(),
-            cells: File::new(),
+            sheet: File::new(bytes),
+            translation: File::new(bytes),
+            cells: File::new(bytes),
         }
     }
 
     // Carries out an entry that writes files.
     fn write(&mut self, letter: u8, entry: &[u8], printer: &mut Printer) {
         match letter {
-            b'=' => *self = Written::new(),
+            b'=' => *self = Written::new(filled()),
             b's' => self.sheet.put_words(entry, printer),
             b't' => self.translation.put_words(entry, printer),
             b'c' => self.cells.put_cells(entry, printer),
@@ -149,12 +151,12 @@ fn main(rt: HostRuntime) -> io::Result<()> {
     if size == text.len() {
         show_misfit(&mut printer);
     }
-    let text = &text[..size];
-    let mut written = Written::new();
+    let text = &text;
+    let mut written = Written::new([0; SPACE_BYTES]);
     for at in 0..size {
         if line_starts(text, at) {
-            let entry = entry_at(text, at);
-            if let [letter, ..] = entry {
+            let entry = rest(text, at);
+            if let [letter, _, _, ..] = entry {
                 written.write(*letter, entry, &mut printer);
                 written.try_entry(*letter, entry, &mut printer);
             }

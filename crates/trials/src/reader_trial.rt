@@ -2,7 +2,7 @@
 use crate::files::{changed, within};
 use crate::printer::Printer;
 use crate::shown::{show_entry, show_refusal};
-use crate::text::numbered;
+use crate::text::{WORDS, number, rest};
 use definitions::Layout;
 use definitions::refusals::Refusal;
 use file_writer::{SPACE_BYTES, Space};
@@ -25,7 +25,7 @@ fn read(layout: Layout, file: &[u8]) -> Result<(), Refusal> {
 // A trial. The entry has the number of bytes that are read, the changes, and after a comma what the trial is.
 pub(crate) fn try_reader(entry: &[u8], layout: Layout, base: &Space, printer: &mut Printer) {
     let file = changed(entry, base, printer);
-    let stated = numbered(entry, 0, printer) as usize;
+    let stated = number(rest(entry, WORDS), printer) as usize;
     show_entry("  ", entry, ": ", printer);
     let size = within(stated, SPACE_BYTES, printer);
     match read(layout, &file[..size]) {

@@ -1,6 +1,6 @@
 // What the trials write: their entries, refusals, and answers' records.
 use crate::printer::Printer;
-use crate::text::rest;
+use crate::text::{WORDS, entry_end};
 use definitions::answer_record;
 use definitions::refusals::Refusal;
 use file_fields::bytes::{word, word32};
@@ -8,7 +8,7 @@ use file_fields::bytes::{word, word32};
 // An entry's words between two others.
 pub(crate) fn show_entry(before: &str, entry: &[u8], after: &str, printer: &mut Printer) {
     printer.print(before);
-    printer.write(rest(entry, 2));
+    printer.write(entry.get(WORDS..entry_end(entry)).unwrap_or(&[]));
     printer.print(after);
 }
 

@@ -1,7 +1,5 @@
 // The text of the trials: entries, and the numbers in them. An entry begins at the start of a line with its letter, and goes
-// on over the lines that begin with a blank. It is passed on from its letter up to its end.
-ghost use Rattle.std.specs.Prelude.{◌≤◌, length};
-
+// on over the lines that begin with a blank. It is passed on from its letter up to the end of the text; its words start two bytes on.
 use crate::printer::Printer;
 use crate::shown::show_misfit;
 
@@ -41,17 +39,20 @@ pub(crate) fn rest(text: &[u8], from: usize) -> &[u8] {
     text.get(from..).unwrap_or(&[])
 }
 
-// The entry that starts at a place.
-pub(crate) fn entry_at(text: &[u8], from: usize) -> &[u8] {
-    let end = (from..text.len()).find(|&at| entry_ends(text, at));
-    text.get(from..end.unwrap_or(text.len())).unwrap_or(&[])
+// Where the words of an entry start.
+pub(crate) const WORDS: usize = 2;
+
+// Where an entry ends.
+pub(crate) fn entry_end(entry: &[u8]) -> usize {
+    (WORDS..entry.len())
+        .find(|&at| entry_ends(entry, at))
+        .unwrap_or(entry.len())
 }
 
-// Where a byte first stands in an entry; else the entry's end.
-pub(crate) fn until(entry: &[u8], byte: u8) -> usize
-    ensures { result ≤ length entry.now }
-{
-    entry.iter().position(|&b| b == byte).unwrap_or(entry.len())
+// Where a byte first stands in an entry's words; else the entry's end.
+pub(crate) fn until(entry: &[u8], byte: u8) -> usize {
+    let end = entry_end(entry);
+    (WORDS..end).find(|&at| has(entry, at, byte)).unwrap_or(end)
 }
 
 // Whether a number of its own starts at a place: a digit after a space or a minus.
@@ -104,9 +105,9 @@ pub(crate) fn after(text: &[u8], byte: u8) -> &[u8] {
     }
 }
 
-// Where number `k` of an entry starts, from 0; the entry's end where it has not as many.
+// Where number `k` of an entry starts, from 0; the text's end where it has not as many.
 fn place(entry: &[u8], k: usize) -> usize {
-    (0..until(entry, COMMA))
+    (WORDS..until(entry, COMMA))
         .filter(|&at| number_starts(entry, at))
         .nth(k)
         .unwrap_or(entry.len())
