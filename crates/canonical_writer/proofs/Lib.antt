@@ -6,6 +6,7 @@ pub mod RecordsFrom
 pub mod BodyOrder
 pub mod Passing
 pub mod ChildOrder
+pub mod Copying
 pub mod FieldWriting
 pub mod NodeWriting
 pub mod Promises

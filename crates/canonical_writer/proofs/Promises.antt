@@ -1,11 +1,11 @@
 -- How the promise comes about: the reader's refusal, an output that is too short, or the canonical form written.
 use mathlib.Core.Path.{◌≡◌, refl, sym, ◌∙◌}
 use Prim.Native.Nat.{ℕ, ◌+◌, ◌*◌, ◌≤◌}
-use mathlib.Core.List.{List, ◌++◌}
+use mathlib.Core.List.{List}
 use native.Mathlib.Omega.{arith}
 use native.Mathlib.Nat.{zero-add}
-use lib.ListN.{length, take, drop, length-append}
-use lib.Seq.{sets, sets-eq, length-take-le}
+use lib.ListN.{length, take, length-append}
+use lib.Seq.{sets, sets-eq}
 use lib.Dec.{leb}
 use borrow.Author.Tests.{leb-true}
 use Rattle.std.specs.Prelude.{Result}
@@ -100,20 +100,14 @@ module _ {b starts : List ℕ} (p : AcceptedSheet b starts) {first end : ℕ} (e
   sections_within = omega (arith, parts, length_kept b accepted)
 
   -- they are copied over the front of an output
-  sections_copied : (out : List ℕ) → length b ≤ length out → take end b ++ drop end out ≡ sets out 0 (take end b)
-  sections_copied out h =
-      let n : length (take end b) ≡ end = length-take-le end b sections_within in
-      let m : 0 + length (take end b) ≡ end = rw (n, zero-add) refl in
-      rw (sets-eq (take end b) out 0 (omega (arith, n, sections_within, h)), m) refl
-
-  pub canonical_written : {out copied o : List ℕ} {n : ℕ} {o' : List ℕ} → length b ≤ length out → copied ≡ take end b → o ≡ copied ++ drop end out → WroteWords o end (tree_words 0 (bodies b)) n o'
+  pub canonical_written : {out o : List ℕ} {n : ℕ} {o' : List ℕ} → o ≡ sets out 0 (take end b) → WroteWords o end (tree_words 0 (bodies b)) n o'
       → WroteCanonical b out n o'
   unfolding canonical sections
-  canonical_written {out} h c g w =
+  canonical_written {out} g w =
       let fits : end + 2 * length (tree_words 0 (bodies b)) ≤ translation_bytes
       = omega (arith, parts, length_kept b accepted, within_limit Sheet b (sheet_shape b accepted)) in
       let front : 0 + length (take (start_of b (first_node b)) b) ≡ end = omega (arith, end_is, sections_length b accepted) in
       record {
         all = w.place fits ∙ parts;
-        output = w.output fits ∙ rw (g, c, sections_copied _ h, end_is) (rw (front ∙ end_is) at (sets_append (take (start_of b (first_node b)) b) (bytes_of (tree_words 0 (bodies b))) out 0));
+        output = w.output fits ∙ rw (g, end_is) (rw (front ∙ end_is) at (sets_append (take (start_of b (first_node b)) b) (bytes_of (tree_words 0 (bodies b))) out 0));
       }

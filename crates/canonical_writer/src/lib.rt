@@ -13,16 +13,19 @@ use crate::order::fill_order;
 use crate::sizes::fill_sizes;
 use crate::writing::write;
 use definitions::refusals::{Reason, Refusal, require};
-use definitions::sizes::{Ends, MOST_NODES, Starts};
-use format::sheet::read_sheet;
+use definitions::sizes::{Ends, MOST_FUNCTIONS, MOST_NODES, MOST_RECORDS, Starts};
+use format::sheet::fill_sheet;
 
 // Writes the canonical form of a sheet into a lent output. The answer is its length, and the output starts with the canonical form
 // and stays as it was past it; or it is the refusal, and the output stays as it was.
 pub fn write_canonical(sheet: &[u8], out: &mut [u8]) -> Result<usize, Refusal>
     ensures { WritesCanonical sheet.now out.old (as_written result) out.new }
 {
-    let tables = read_sheet(sheet)?;
-    write_accepted(sheet, &tables.starts, &tables.ends, out)
+    let mut starts = [0u16; MOST_RECORDS];
+    let mut ends = [0u16; MOST_FUNCTIONS];
+    let mut owners = [0u8; MOST_NODES];
+    fill_sheet(sheet, &mut starts, &mut ends, &mut owners)?;
+    write_accepted(sheet, &starts, &ends, out)
 }
 
 // Writes the canonical form of an accepted sheet, which has the sheet's length.

@@ -1,4 +1,6 @@
 // The canonical form, by the tables of sizes and of order: the sections as they are, then the nodes with their new numbers.
+ghost use Rattle.std.specs.Prelude.{◌≡◌, ◌≤◌, length, take};
+ghost use Rattle.std.proofs.lemmas.List.Edits.{sets};
 ghost use Rattle.definitions.specs.CanonicalSheet.{fields_of, bodies, field_words, tree_words};
 ghost use Rattle.translation_words.specs.Writing.{WroteWords};
 ghost use Rattle.canonical_writer.specs.Order.{entry_at, first_number, numbered_words};
@@ -9,6 +11,16 @@ use file_layout::layout::{first_node, nodes};
 use file_records::records::{field_count, field_inside, indexed, kind, start_in};
 use file_references::references::names_node;
 use translation_words::{put, put_start};
+
+// Copies the first `end` bytes, by a loop: with std's `copy_from_slice` the archive would need `memmove`.
+fn copy(b: &[u8], end: usize, out: &mut [u8])
+    requires { (end ≤ length b.now) × (length b.now ≤ length out.old) }
+    ensures { out.new ≡ sets out.old 0 (take end b.now) }
+{
+    for i in 0..end {
+        out[i] = b[i];
+    }
+}
 
 // Writes the fields of node `k`, which gets number `q` and has the record `rec`: a field that names a node names its new number.
 #[tactic(auto, using(crate::proofs::Passing::child_step))]
@@ -92,6 +104,6 @@ pub(crate) fn write(
     ensures { WroteCanonical b.now out.old result out.new }
 {
     let end = start_in(starts, first_node(b));
-    out[..end].copy_from_slice(&b[..end]);
+    copy(b, end, out);
     put_nodes(b, starts, sizes, order, out, end)
 }

@@ -12,16 +12,19 @@ pub mod counting;
 use crate::counting::count_bytes;
 use call_labels::label_nodes;
 use definitions::refusals::{Reason, Refusal, require};
-use definitions::sizes::{Ends, MOST_FUNCTIONS, MOST_NODES, Owners, Starts};
-use format::sheet::read_sheet;
+use definitions::sizes::{Ends, MOST_FUNCTIONS, MOST_NODES, MOST_RECORDS, Owners, Starts};
+use format::sheet::fill_sheet;
 use tree_classes::class_nodes;
 
 // What translating a sheet into an output of `room` bytes would answer: the translation's length, or the refusal.
 pub fn translated_length(sheet: &[u8], room: usize) -> Result<usize, Refusal>
     ensures { as_written result ≡ translation_answer sheet.now room }
 {
-    let tables = read_sheet(sheet)?;
-    length_accepted(sheet, &tables.starts, &tables.ends, &tables.owners, room)
+    let mut starts = [0u16; MOST_RECORDS];
+    let mut ends = [0u16; MOST_FUNCTIONS];
+    let mut owners = [0u8; MOST_NODES];
+    fill_sheet(sheet, &mut starts, &mut ends, &mut owners)?;
+    length_accepted(sheet, &starts, &ends, &owners, room)
 }
 
 // The same of an accepted sheet: its length, where the output holds the translation.

@@ -21,8 +21,10 @@ use crate::file::{fits, put_file};
 use crate::tables::first_formals;
 use call_labels::label_nodes;
 use definitions::refusals::{Reason, Refusal, require};
-use definitions::sizes::{Ends, MOST_FUNCTIONS, MOST_NODES, OfFunctions, OfNodes, Owners, Starts};
-use format::sheet::read_sheet;
+use definitions::sizes::{
+    Ends, MOST_FUNCTIONS, MOST_NODES, MOST_RECORDS, OfFunctions, OfNodes, Owners, Starts,
+};
+use format::sheet::fill_sheet;
 use tree_classes::class_nodes;
 
 // Translates a sheet into a lent output. The answer is the translation's length, and the output starts with the
@@ -30,8 +32,11 @@ use tree_classes::class_nodes;
 pub fn translate(sheet: &[u8], out: &mut [u8]) -> Result<usize, Refusal>
     ensures { Translates sheet.now out.old (as_written result) out.new }
 {
-    let tables = read_sheet(sheet)?;
-    translate_accepted(sheet, &tables.starts, &tables.ends, &tables.owners, out)
+    let mut starts = [0u16; MOST_RECORDS];
+    let mut ends = [0u16; MOST_FUNCTIONS];
+    let mut owners = [0u8; MOST_NODES];
+    fill_sheet(sheet, &mut starts, &mut ends, &mut owners)?;
+    translate_accepted(sheet, &starts, &ends, &owners, out)
 }
 
 // Translates an accepted sheet.

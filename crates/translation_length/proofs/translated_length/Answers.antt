@@ -5,11 +5,11 @@ use Rattle.call_labels.proofs.CallLabels.{reader_accepts}
 use Rattle.translation_length.proofs.WordCounts.{refused_answer, reader_refuses}
 use Rattle.translation_length.proofs.translated_length.Goals as goal
 
-pub returns-in_err-tables : goal.returns-in_err-tables
+pub returns-in_err-fill_sheet : goal.returns-in_err-fill_sheet
 unfolding translation_answer
-returns-in_err-tables c =
-    let error = c.in_err-tables in
+returns-in_err-fill_sheet c =
+    let error = c.in_err-fill_sheet in
     refused_answer _ c.from_residual.result error.field-0.0 c.from_residual.ensures.1 (reader_refuses _ _ error.ensures.verdict)
 
 pub length_accepted-requires : goal.length_accepted-requires
-length_accepted-requires c = reader_accepts c.in_ok-tables.ensures.tables refl
+length_accepted-requires c = reader_accepts c.in_ok-fill_sheet.ensures refl
