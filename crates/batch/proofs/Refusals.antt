@@ -10,7 +10,7 @@ use lib.ListN.{length}
 use lib.Dec.{leb, eqb}
 use borrow.Author.Tests.{leb-true, eqb-true}
 use Rattle.std.proofs.Common.{Result}
-use Rattle.std.specs.Result.{IsErrAnd}
+use Rattle.std.specs.Result.{IsErrAnd, result_and}
 use Rattle.std.proofs.lemmas.Result.{err_from_is_err_and}
 use Rattle.definitions.specs.Sizes.{most_rows, answer_size}
 use Rattle.definitions.specs.Numbers.{short_output, bad_readings, bad_allowance}
@@ -20,8 +20,9 @@ use Rattle.definitions.specs.Verdicts.{◌and_then◌, require}
 use Rattle.definitions.specs.Output.{written_of, output_of}
 use Rattle.definitions.specs.Run.{allowances_fit, bytes_after}
 use Rattle.definitions.specs.Verdict.{Verdict, Accepted, Refused}
-use Rattle.definitions.specs.Refusals.{number_of, as_written}
+use Rattle.definitions.specs.Refusals.{number_of, as_verdict, as_written}
 use Rattle.definitions.specs.declared.refusals.Refusal.{Refusal}
+use Rattle.answer.proofs.Refusals.{first_of_two}
 use Rattle.laws.proofs.Verdicts.{then_accepted, then_refused, both_accepted, required}
 use Rattle.run.specs.NodeTable.{FileRead}
 use Rattle.definitions.specs.Written as answers
@@ -34,21 +35,15 @@ pub product_fits : {x y : ℕ} → x ≤ 4294967295 → y ≤ 65535 → x * y < 
 product_fits h k = omega (arith, mul-le-mul h k)
 
 -- the three tests in their order
-module _ (b : List ℕ) (rows given nesting cells_allowed lent room : ℕ) {width : ℕ} (width_is : width ≡ readings b) where
-  pub readings_refused : {n p : ℕ} → Refused n p ≡ require (eqb given (rows * width)) bad_readings 0
-      → Refused n p ≡ rows_checks b rows given nesting cells_allowed lent room
-  unfolding rows_checks ◌and_then◌
-  readings_refused e = rw (← width_is, ← e) refl
-
-  module _ (counted : Accepted ≡ require (eqb given (rows * width)) bad_readings 0) {t : Bool} (t_is : t ≡ (leb rows most_rows && allowances_fit nesting cells_allowed lent)) where
-    pub allowance_refused : {n p : ℕ} → Refused n p ≡ require t bad_allowance 0 → Refused n p ≡ rows_checks b rows given nesting cells_allowed lent room
-    unfolding rows_checks ◌and_then◌
-    allowance_refused e = rw (← width_is, ← counted, ← t_is, ← e) refl
-
-    pub room_checked : {r : Verdict} → Accepted ≡ require t bad_allowance 0 → r ≡ require (leb (rows * answer_size) room) short_output 0
-        → r ≡ rows_checks b rows given nesting cells_allowed lent room
-    unfolding rows_checks ◌and_then◌
-    room_checked within e = rw (← width_is, ← counted, ← t_is, ← within) e
+pub checked : (b : List ℕ) (rows given nesting cells_allowed lent room : ℕ) {width : ℕ} {t : Bool} {T : Type 0}
+    (v w u : Result T Refusal) {vw r : Result T Refusal}
+    → width ≡ readings b → t ≡ (leb rows most_rows && allowances_fit nesting cells_allowed lent)
+    → as_verdict v ≡ require (eqb given (rows * width)) bad_readings 0 → as_verdict w ≡ require t bad_allowance 0
+    → as_verdict u ≡ require (leb (rows * answer_size) room) short_output 0
+    → vw ≡ result_and v w → r ≡ result_and vw u → as_verdict r ≡ rows_checks b rows given nesting cells_allowed lent room
+unfolding rows_checks
+checked b rows given nesting cells_allowed lent room v w u {vw} width_is t_is v_is w_is u_is vw_is e =
+    rw (e, first_of_two vw u, vw_is, first_of_two v w, v_is, w_is, u_is, t_is, width_is) refl
 
 -- what their acceptance says
 pub record ChecksHold (b : List ℕ) (rows given nesting cells_allowed lent room : ℕ) : Type 0 where

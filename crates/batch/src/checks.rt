@@ -30,7 +30,8 @@ pub(crate) fn check_rows(
 {
     let count = rows as usize;
     let width = usize::from(layout::readings(file));
-    require(given == count * width, Reason::BadReadings)?;
-    require(rows_allowed(rows, allowances, lent), Reason::BadAllowance)?;
-    require(count * ANSWER_BYTES <= room, Reason::ShortOutput)
+    let counted = require(given == count * width, Reason::BadReadings);
+    let within = require(rows_allowed(rows, allowances, lent), Reason::BadAllowance);
+    let roomy = require(count * ANSWER_BYTES <= room, Reason::ShortOutput);
+    counted.and(within).and(roomy)
 }

@@ -1,13 +1,15 @@
--- Request 11 of document 02, in its words, over what the public calls promise: `ReadSheet` of `format::sheet::read_sheet`, `Translates` of
--- `translator::translate`, `Runs` of `run::run`, `RunsForHirer` of `hirer::run_for_hirer`, `RunsRows` of `batch::run_rows` and `Joins` of
--- `join::translate_and_run`, and for callers in C `TranslatesC`, `RunsC`, `RunsForHirerC`, `RunsRowsC` and `JoinsC`. None of these calls has a
--- `requires`. The demands hold of typed sheets as they stand, since acceptance is the reader's.
+-- Request 11 of document 02, in its words, over what the public calls promise: `ReadSheet` of `format::sheet::fill_sheet`, which `ReadsSheet` of
+-- `format::sheet::read_sheet` gives too (`read_refused`, `read_accepted`), `Translates` of `translator::translate`, `Runs` of `run::run`,
+-- `RunsForHirer` of `hirer::run_for_hirer`, `RunsRows` of `batch::run_rows` and `Joins` of `join::translate_and_run`, and for callers in C
+-- `TranslatesC`, `RunsC`, `RunsForHirerC`, `RunsRowsC` and `JoinsC`. None of the calls that translate or run has a `requires`. The demands hold of
+-- typed sheets as they stand, since acceptance is the reader's.
 use mathlib.Core.Path.{◌≡◌, refl, sym, ◌∙◌}
 use Prim.Native.Nat.{ℕ, ◌+◌, ◌<◌}
 use mathlib.Core.List.{List}
 use mathlib.Core.Bool.{true, false}
 use lib.IntN.{ℤ}
 use lib.ListN.{length, take}
+use Rattle.std.specs.Prelude.{Ok, Err}
 use Rattle.definitions.specs.Numbers.{ill_typed}
 use Rattle.definitions.specs.Layouts.{is_typed, readings, first_node}
 use Rattle.definitions.specs.Checks.{checks_to_six, sheet_verdict}
@@ -26,7 +28,11 @@ use Rattle.typed_sheets.proofs.Own.{own_sound}
 use Rattle.typed_sheets.proofs.Removed.{removed_accepted, removed_untyped, removed_translation, removed_readings}
 use Rattle.typed_sheets.proofs.Unchanged.{untyped_unchanged}
 use Rattle.typed_sheets.proofs.ReadBefore.{read_as_before, accepted_before}
+use Rattle.definitions.specs.Refusals.{number_of}
+use Rattle.definitions.specs.declared.refusals.Refusal.{Refusal}
 use Rattle.format.specs.Readers.{ReadSheet}
+use Rattle.format.specs.Tables.{ReadsSheet}
+use Rattle.format.specs.declared.sheet.SheetTables.{SheetTables}
 use Rattle.translator.specs.Promise.{Translates}
 use Rattle.answer.specs.declared.Answer.{Answer}
 use Rattle.answer.specs.Answers.{answer_of}
@@ -44,6 +50,14 @@ use Rattle.demands.proofs.OwnInC.{run_faithful_in_C, hirer_faithful_in_C, join_f
 use Rattle.demands.proofs.OwnRows.{batch_faithful, batch_faithful_in_C}
 use Rattle.demands.proofs.HiredTrailers.{request_5_own}
 use Rattle.demands.proofs.Typed.{no_type_error, outcome_sound, answer_sound, joined_own, first_ill_typed, same_refusal, same_answer}
+
+-- what `read_sheet` answers, as the reader that fills lent tables says it: a refusal, whatever tables are beside it, and the tables of an accepted sheet
+pub read_refused : {b : List ℕ} {e : Refusal} → ReadsSheet b (Err e) → (starts ends owners : List ℕ)
+    → ReadSheet b (Refused (number_of e.reason) e.place) starts ends owners
+read_refused q starts ends owners = record { verdict = q.verdict; index = λ a. cc; runs = λ a. cc; owned = λ a. cc }
+
+pub read_accepted : {b : List ℕ} {t : SheetTables} → ReadsSheet b (Ok t) → ReadSheet b Accepted t.starts t.ends t.owners
+read_accepted q = q.tables
 
 -- "22 (ill typed), after 6, at the first node in order that breaks a rule"
 pub request_11_refused : (sheet : List ℕ) (v : Verdict) (starts ends owners : List ℕ) → ReadSheet sheet v starts ends owners

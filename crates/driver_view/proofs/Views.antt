@@ -20,12 +20,13 @@ use Rattle.definitions.specs.DriverView.{number_view, empty_view, view_words, vi
 use Rattle.definitions.specs.Verdict.{Verdict, Accepted, Refused}
 use Rattle.definitions.specs.Written as written
 use Rattle.laws.proofs.Stores.{over_front}
-use Rattle.laws.proofs.Verdicts.{then_accepted, then_refused, both_accepted, required}
+use Rattle.answer.proofs.Refusals.{first_of_two}
+use Rattle.laws.proofs.Verdicts.{both_accepted, required}
 use Rattle.operators.proofs.Residues.{residue_read}
 use Rattle.std.specs.Prelude.{Result}
-use Rattle.std.specs.Result.{IsErrAnd}
+use Rattle.std.specs.Result.{IsErrAnd, result_and}
 use Rattle.std.proofs.lemmas.Result.{err_from_is_err_and}
-use Rattle.definitions.specs.Refusals.{number_of, as_written}
+use Rattle.definitions.specs.Refusals.{number_of, as_verdict, as_written}
 use Rattle.definitions.specs.declared.refusals.Refusal.{Refusal}
 use Rattle.driver_view.specs.Promise.{WritesView}
 
@@ -48,15 +49,11 @@ module _ (b : List ℕ) {t : Bool} where
   unfolding is_answer_record
   record_by_kind e h f = rw (← e, h, f) refl
 
--- the refusals in their order
-module _ (b : List ℕ) (room : ℕ) {t : Bool} (is : t ≡ is_answer_record b) where
-  pub no_record : {v : Verdict} {n p : ℕ} → v ≡ require t bad_record 0 → v ≡ Refused n p → v ≡ view_verdict b room
-  unfolding view_verdict
-  no_record {n} {p} e f = f ∙ sym (then_refused _ _ n p (ap (λ (u : Bool). require u bad_record 0) (sym is) ∙ sym e ∙ f))
-
-  pub checked : {v : Verdict} → Accepted ≡ require t bad_record 0 → v ≡ require (leb view_size room) short_output 0 → v ≡ view_verdict b room
-  unfolding view_verdict
-  checked e f = f ∙ sym (then_accepted _ _ (ap (λ (u : Bool). require u bad_record 0) (sym is) ∙ sym e))
+-- the two tests in their order
+pub checked : (b : List ℕ) (room : ℕ) {t : Bool} {T : Type 0} (v w : Result T Refusal) {r : Result T Refusal} → t ≡ is_answer_record b → as_verdict v ≡ require t bad_record 0
+    → as_verdict w ≡ require (leb view_size room) short_output 0 → r ≡ result_and v w → as_verdict r ≡ view_verdict b room
+unfolding view_verdict
+checked b room v w e f g h = rw (h, first_of_two v w, f, g, e) refl
 
 -- what is written
 module _ (b l : List ℕ) {r : List ℕ} {outcome value : ℕ} (e : outcome ≡ word b 4) (f : value ≡ word32 b 6) where

@@ -32,8 +32,9 @@ fn is_answer_record(rec: &[u8]) -> bool
 fn check_view(rec: &[u8], room: usize) -> Result<(), Refusal>
     ensures { as_verdict result ≡ view_verdict rec.now room }
 {
-    require(is_answer_record(rec), Reason::BadRecord)?;
-    require(VIEW_BYTES <= room, Reason::ShortOutput)
+    let recorded = require(is_answer_record(rec), Reason::BadRecord);
+    let roomy = require(VIEW_BYTES <= room, Reason::ShortOutput);
+    recorded.and(roomy)
 }
 
 // Writes the two fields of a view.

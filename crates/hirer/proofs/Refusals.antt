@@ -6,6 +6,8 @@ use mathlib.Core.List.{List}
 use lib.IntN.{ℤ}
 use lib.ListN.{length}
 use lib.Dec.{eqb}
+use Rattle.std.specs.Prelude.{Result}
+use Rattle.std.specs.Result.{result_and}
 use Rattle.definitions.specs.Numbers.{bad_readings}
 use Rattle.definitions.specs.Verdicts.{◌and_then◌, require}
 use Rattle.definitions.specs.Layouts.{readings}
@@ -13,6 +15,9 @@ use Rattle.definitions.specs.Checks.{translation_verdict}
 use Rattle.definitions.specs.Run.{refusal, run_verdict, answer_after, bytes_after}
 use Rattle.definitions.specs.Hirer.{closed_verdict, hirer_verdict, hirer_answer, hirer_cells}
 use Rattle.definitions.specs.Verdict.{Verdict, Accepted, Refused}
+use Rattle.definitions.specs.Refusals.{as_verdict}
+use Rattle.definitions.specs.declared.refusals.Refusal.{Refusal}
+use Rattle.answer.proofs.Refusals.{first_of_two}
 use Rattle.laws.proofs.Verdicts.{then_accepted, then_refused, both_accepted}
 use Rattle.answer.specs.declared.Answer.{Answer}
 use Rattle.answer.specs.Answers.{answer_of}
@@ -60,12 +65,8 @@ module _ {b : List ℕ} (set : ℕ) (rs : List ℤ) {v : Verdict} {tab : List �
   unfolding hirer_verdict ◌and_then◌
   file_refused e t = record { verdict = e ∙ rw (← t.verdict) refl; readable = never e }
 
-  module _ (t : Readable b tab) where
-    pub set_refused : {n p : ℕ} → v ≡ Refused n p → Refused n p ≡ closed_verdict b set → ReadForHirer b set rs v tab
-    unfolding hirer_verdict ◌and_then◌
-    set_refused e f = record { verdict = e ∙ rw (t.accepted, ← f) refl; readable = never e }
-
-    pub readings_checked : Accepted ≡ closed_verdict b set → {width : ℕ} → width ≡ readings b → v ≡ require (eqb (length rs) width) bad_readings 0
-        → ReadForHirer b set rs v tab
-    unfolding hirer_verdict ◌and_then◌
-    readings_checked f w e = record { verdict = e ∙ rw (t.accepted, ← f, w) refl; readable = λ a. t }
+pub readings_checked : {b : List ℕ} (set : ℕ) (rs : List ℤ) {tab : List ℕ} → Readable b tab → {width : ℕ} → width ≡ readings b
+    → {T : Type 0} (o w : Result T Refusal) {r : Result T Refusal} → as_verdict o ≡ closed_verdict b set
+    → as_verdict w ≡ require (eqb (length rs) width) bad_readings 0 → r ≡ result_and o w → ReadForHirer b set rs (as_verdict r) tab
+unfolding hirer_verdict ◌and_then◌
+readings_checked set rs t ew o w f g e = record { verdict = rw (e, first_of_two o w, f, g, ew, t.accepted) refl; readable = λ a. t }

@@ -23,9 +23,10 @@ fn read_for_hirer(file: &[u8], table: &mut Table, set: u32, readings: &[i32]) ->
     ensures { ReadForHirer file.now set readings.now (as_verdict result) table.new }
 {
     read_file(file, table)?;
-    check_readings(file, table, set)?;
+    let open = check_readings(file, table, set);
     let width = usize::from(layout::readings(file));
-    require(readings.len() == width, Reason::BadReadings)
+    let counted = require(readings.len() == width, Reason::BadReadings);
+    open.and(counted)
 }
 
 // Runs a translation for a hirer, whose readings are those that `set` allows: bit i of it is reading i, and the bits past the

@@ -8,7 +8,7 @@ use lib.ListN.{length}
 use lib.Dec.{ltb, eqb}
 use borrow.Author.Tests.{le-leb, ltb-true, eqb-true}
 use Rattle.std.proofs.Common.{Option, Result}
-use Rattle.std.specs.Result.{IsErrAnd}
+use Rattle.std.specs.Result.{IsErrAnd, result_and}
 use Rattle.std.proofs.lemmas.Result.{err_from_is_err_and}
 use Rattle.definitions.specs.Sizes.{most_values}
 use Rattle.definitions.specs.Numbers.{bad_readings, bad_allowance, bad_range}
@@ -19,9 +19,10 @@ use Rattle.definitions.specs.Verdicts.{◌and_then◌, require}
 use Rattle.definitions.specs.Run.{allowances_fit, run_verdict, bytes_after}
 use Rattle.definitions.specs.ReadingSearch.{Query, value_count, range_fits, search_verdict, searched_after, search_answer, search_cells}
 use Rattle.definitions.specs.Verdict.{Verdict, Accepted, Refused}
-use Rattle.definitions.specs.Refusals.{number_of, as_searched}
+use Rattle.definitions.specs.Refusals.{number_of, as_verdict, as_searched}
 use Rattle.definitions.specs.declared.refusals.Refusal.{Refusal}
 use Rattle.definitions.specs.Searched.{Searched}
+use Rattle.answer.proofs.Refusals.{first_of_two}
 use Rattle.laws.proofs.Verdicts.{both_accepted, required}
 use Rattle.laws.proofs.Ranges.{within_by, within_below, within_above}
 use Rattle.run.specs.NodeTable.{FileRead}
@@ -43,23 +44,14 @@ module _ (b : List ℕ) (position : ℕ) (lowest highest : ℤ) where
   by_position h k e = rw (e, le-leb 1 (value_count lowest highest) h, le-leb (value_count lowest highest) most_values k) refl
 
 -- the three tests in their order
-module _ (b : List ℕ) (given : ℕ) (q : Query) (nesting cells_allowed lent : ℕ) {width : ℕ} (width_is : width ≡ readings b) where
-  abbrev checks : Verdict
-  checks = search_checks b given q.position q.lowest q.highest nesting cells_allowed lent
-
-  pub readings_refused : {n p : ℕ} → Refused n p ≡ require (eqb given width) bad_readings 0 → Refused n p ≡ checks
-  unfolding search_checks ◌and_then◌
-  readings_refused e = rw (← width_is, ← e) refl
-
-  module _ (counted : Accepted ≡ require (eqb given width) bad_readings 0) {t : Bool} (t_is : t ≡ allowances_fit nesting cells_allowed lent) where
-    pub allowance_refused : {n p : ℕ} → Refused n p ≡ require t bad_allowance 0 → Refused n p ≡ checks
-    unfolding search_checks ◌and_then◌
-    allowance_refused e = rw (← width_is, ← counted, ← t_is, ← e) refl
-
-    pub range_checked : {s : Bool} {r : Verdict} → Accepted ≡ require t bad_allowance 0 → s ≡ range_fits b q.position q.lowest q.highest
-        → r ≡ require s bad_range 0 → r ≡ checks
-    unfolding search_checks ◌and_then◌
-    range_checked within s_is e = rw (← width_is, ← counted, ← t_is, ← within, ← s_is) e
+pub checked : (b : List ℕ) (given : ℕ) (q : Query) (nesting cells_allowed lent : ℕ) {width : ℕ} {s t : Bool} {T : Type 0}
+    (v w u : Result T Refusal) {vw r : Result T Refusal}
+    → width ≡ readings b → s ≡ allowances_fit nesting cells_allowed lent → t ≡ range_fits b q.position q.lowest q.highest
+    → as_verdict v ≡ require (eqb given width) bad_readings 0 → as_verdict w ≡ require s bad_allowance 0 → as_verdict u ≡ require t bad_range 0
+    → vw ≡ result_and v w → r ≡ result_and vw u → as_verdict r ≡ search_checks b given q.position q.lowest q.highest nesting cells_allowed lent
+unfolding search_checks
+checked b given q nesting cells_allowed lent v w u {vw} width_is s_is t_is v_is w_is u_is vw_is e =
+    rw (e, first_of_two vw u, vw_is, first_of_two v w, v_is, w_is, u_is, s_is, t_is, width_is) refl
 
 checks_verdict : (b : List ℕ) (rs : List ℤ) (q : Query) (nesting cells_allowed lent : ℕ) → translation_verdict b ≡ Accepted
     → search_verdict b rs q nesting cells_allowed lent ≡ search_checks b (length rs) q.position q.lowest q.highest nesting cells_allowed lent

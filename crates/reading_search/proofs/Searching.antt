@@ -1,6 +1,6 @@
 -- Laws of the runs of a search: one value tried, and the loop over the values.
 use mathlib.Core.Path.{◌≡◌, refl, sym, ◌∙◌}
-use Prim.Native.Nat.{ℕ, suc, ◌+◌, ◌≤◌, ◌<◌}
+use Prim.Native.Nat.{ℕ, suc, ◌+◌, ◌-◌, ◌≤◌, ◌<◌}
 use mathlib.Core.List.{List}
 use mathlib.Core.Bool.{Bool, true, false, true≢false}
 use native.Mathlib.Omega.{arith}
@@ -49,6 +49,10 @@ tried_length : (rs : List ℤ) (q : Query) (i : ℕ) → length (readings_tried 
 unfolding readings_tried
 tried_length rs q i = length-set rs q.position (value_at q.lowest i)
 
+-- the number of the value that is next, where some of all values are left
+pub next_value : {all left count : ℕ} → left ≤ all → 0 < left → count ≡ all → (count - 1 - (left - 1) ≡ all - left) × (all - left < all)
+next_value within more e = (omega (arith, within, more, e), omega (arith, within, more))
+
 -- the loop over the values, with the first i tried
 pub record Searching (b tab : List ℕ) (rs : List ℤ) (q : Query) (steps nesting cells_allowed : ℕ) (cells₀ cells : MutBor (List ℕ)) (i : ℕ) : Type 0 where
   pub reached : i ≤ value_count q.lowest q.highest
@@ -60,19 +64,32 @@ pub record Searching (b tab : List ℕ) (rs : List ℤ) (q : Query) (steps nesti
   pub stays : cells.ref_ptr ≡ cells₀.ref_ptr
 
 module _ {b : List ℕ} {rs : List ℤ} {q : Query} {steps nesting cells_allowed : ℕ} {cells₀ : MutBor (List ℕ)} where
-  pub searching_begins : {tab : List ℕ} → SearchFits b rs q nesting cells_allowed (length cells₀.now) → Readable b tab → readings_held b tab ≡ rs
-      → Searching b tab rs q steps nesting cells_allowed cells₀ cells₀ 0
+  -- with all values left
+  pub searching_begins : {tab : List ℕ} {count : ℕ} → SearchFits b rs q nesting cells_allowed (length cells₀.now) → Readable b tab → readings_held b tab ≡ rs
+      → count ≡ value_count q.lowest q.highest
+      → (count ≤ value_count q.lowest q.highest) × Searching b tab rs q steps nesting cells_allowed cells₀ cells₀ (value_count q.lowest q.highest - count)
   unfolding cells_in_turn
-  searching_begins fits readable held =
-      record {
-        reached = omega arith;
-        readable = readable;
-        fits = fits;
-        others = λ z. rw held refl;
-        ran = refl;
-        unfound = λ j h. absurd (omega (arith, h));
-        stays = refl;
-      }
+  searching_begins fits readable held e =
+      let none : value_count q.lowest q.highest - value_count q.lowest q.highest ≡ 0 = omega arith in (
+        omega (arith, e),
+        record {
+          reached = omega arith;
+          readable = readable;
+          fits = fits;
+          others = λ z. rw held refl;
+          ran = rw (e, none) refl;
+          unfound = λ j h. absurd (omega (arith, h, e));
+          stays = refl;
+        },
+      )
+
+  -- one value fewer is left
+  pub more_values : {tab : List ℕ} {cells : MutBor (List ℕ)} {left : ℕ} → left ≤ value_count q.lowest q.highest → 0 < left
+      → Searching b tab rs q steps nesting cells_allowed cells₀ cells (value_count q.lowest q.highest - left + 1)
+      → (left - 1 ≤ value_count q.lowest q.highest) × Searching b tab rs q steps nesting cells_allowed cells₀ cells (value_count q.lowest q.highest - (left - 1))
+  more_values {left = left} within more w =
+      let one : value_count q.lowest q.highest - (left - 1) ≡ value_count q.lowest q.highest - left + 1 = omega (arith, within, more) in
+      (omega (arith, within), rw one w)
 
   module _ {tab : List ℕ} {cells : MutBor (List ℕ)} {i : ℕ} (w : Searching b tab rs q steps nesting cells_allowed cells₀ cells i) where
     abbrev count : ℕ

@@ -19,10 +19,9 @@ pub(crate) fn check_search(
     ensures { as_verdict result
         ≡ search_checks file.now given query.position query.lowest query.highest allowances.nesting allowances.cells lent }
 {
-    require(
-        given == usize::from(layout::readings(file)),
-        Reason::BadReadings,
-    )?;
-    require(allowances.fit(lent), Reason::BadAllowance)?;
-    require(query.range_fits(file), Reason::BadRange)
+    let width = usize::from(layout::readings(file));
+    let counted = require(given == width, Reason::BadReadings);
+    let within = require(allowances.fit(lent), Reason::BadAllowance);
+    let ranged = require(query.range_fits(file), Reason::BadRange);
+    counted.and(within).and(ranged)
 }

@@ -46,7 +46,8 @@ pub(crate) fn search_range(
 {
     set_readings(table, readings);
     let count = query.value_count();
-    for i in 0..count {
+    for left in (0..count).rev() {
+        let i = count - 1 - left;
         let z = query.value_at(i);
         if try_value(file, table, query, z, allowances, cells) {
             return Some(z);

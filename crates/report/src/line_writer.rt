@@ -62,7 +62,7 @@ impl LineWriter {
         self.word(b" steps ");
         self.decimal(a.steps as usize);
         self.word(b" cells ");
-        self.decimal(usize::from(a.cells));
+        self.decimal(a.cells as usize);
         self.word(b"\n");
     }
 

@@ -1,5 +1,5 @@
 -- How a selection, an if and a case go on with the outcome of their operand: to a visit, or to an end.
-use mathlib.Core.Path.{◌≡◌, refl, sym, subst, ◌∙◌}
+use mathlib.Core.Path.{◌≡◌, refl, ◌∙◌}
 use Prim.Native.Nat.{ℕ, zero, suc, ◌+◌, ◌*◌, ◌-◌, ◌≤◌, ◌<◌}
 use mathlib.Core.List.{List}
 use mathlib.Core.Option.{none, some}
@@ -12,7 +12,7 @@ use Rattle.std.specs.Prelude.{Result, Ok, Err, Some, None}
 use Rattle.definitions.specs.Sizes.{most_nodes}
 use Rattle.definitions.specs.Numbers.{no_clause, no_field}
 use Rattle.definitions.specs.Bytes.{word}
-use Rattle.definitions.specs.Records.{kind_of, field}
+use Rattle.definitions.specs.Records.{field}
 use Rattle.definitions.specs.Operators.{is_zero}
 use Rattle.definitions.specs.NodeFields.{fields_from, chosen}
 use Rattle.definitions.specs.Layouts.{nodes, node_record}
@@ -22,10 +22,10 @@ use Rattle.definitions.specs.Rule as Rule
 use Rattle.definitions.specs.Rule.{Visit, reach, value, integer, ended, node_due, selected}
 use Rattle.lent_rule.specs.Lent.{Lent}
 use Rattle.lent_rule.specs.Standing.{TupleAt, Inside}
-use Rattle.run.specs.NodeTable.{kind_part, first_part, second_part, third_part}
+use Rattle.run.specs.NodeTable.{first_part, second_part, third_part}
 use Rattle.run.specs.Packed.{Outcome, outcome_in}
 use Rattle.run.specs.States.{Found, below, above, ending_of, found_of, found_in, clauses_at}
-use Rattle.run.specs.GoingOn.{number_of, constructor_of, goes_on, next_reached, OperandKnown, GoesOn, Chooses, a_select, a_conditional, a_case}
+use Rattle.run.specs.GoingOn.{number_of, constructor_of, goes_on, next_reached, OperandKnown, GoesOn}
 use Rattle.run.proofs.Endings.{number_goes, number_misses, constructor_is, constructor_goes, constructor_misses, node_missing, node_there}
 use Rattle.run.proofs.EntryReads.{plain_select, plain_conditional, second_read, third_read, tag_read, member_room, member_read, clause_read, entry_room}
 use Rattle.run.proofs.Nodes.{branch_child, member_child, clause_child}
@@ -146,20 +146,3 @@ module _ {b tab : List ℕ} {at x : ℕ} (q : OperandKnown b tab at kinds.condit
       let f : k ≡ cond (is_zero z) (field (node_record b (below at)) 2) (field (node_record b (below at)) 1) =
       ek ∙ rw (ey, second_read q.equipped q.node ee plain_conditional es, third_read q.equipped q.node ee plain_conditional et) refl in
       to_visit ep (λ visit s. number_goes _ s _ g ∙ rw f refl) (branch_child q.equipped.accepted z q.node f) (λ most i l. l)
-
--- the kind that was read of the node
-module _ {b tab : List ℕ} {at kind x : ℕ} (q : OperandKnown b tab at (kind_of (node_record b (below at))) x) where
-  pub kind_known : {e : ℕ} → e ≡ get_or tab (below at) 0 → kind ≡ kind_part e → kind_of (node_record b (below at)) ≡ kind
-  kind_known f g = sym (g ∙ rw f (q.equipped.table.entry (below at) q.node.below).kind)
-
-  pub known_as : kind_of (node_record b (below at)) ≡ kind → OperandKnown b tab at kind x
-  known_as e = subst (λ k. OperandKnown b tab at k x) e q
-
-pub goes_as : {b : List ℕ} {at kind x : ℕ} {r : Result ℕ ℕ} → kind_of (node_record b (below at)) ≡ kind → GoesOn b at kind x r
-    → GoesOn b at (kind_of (node_record b (below at))) x r
-goes_as {b} {at} {kind} {x} {r} e g = subst (λ k. GoesOn b at k x r) (sym e) g
-
-pub chooses_last : {k : ℕ} → Chooses k → (k ≡ kinds.select → ⊥) → (k ≡ kinds.conditional → ⊥) → k ≡ kinds.case_of
-chooses_last a_select n m = absurd (n refl)
-chooses_last a_conditional n m = absurd (m refl)
-chooses_last a_case n m = refl

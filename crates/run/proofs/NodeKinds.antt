@@ -1,9 +1,9 @@
 -- The node of an accepted translation, by the kind of its record.
 use mathlib.Core.Path.{◌≡◌, refl, sym, ◌∙◌}
-use Prim.Native.Nat.{ℕ, ◌≤◌, ◌<◌}
+use Prim.Native.Nat.{ℕ, suc, ◌≤◌, ◌<◌}
 use mathlib.Core.List.{List}
 use native.Mathlib.Omega.{arith}
-use native.Mathlib.Decide.{ℕ_discrete}
+use native.Mathlib.Nat.{le_antisymm}
 use Rattle.definitions.specs.TranslationKinds as kinds
 use Rattle.definitions.specs.Bytes.{signed}
 use Rattle.definitions.specs.Records.{kind_of, field}
@@ -16,7 +16,6 @@ use Rattle.definitions.specs.Verdict.{Accepted}
 use Rattle.accepted.proofs.Checks.{translation_shape}
 use Rattle.accepted.proofs.Sections.{node_kind_law}
 use Rattle.run.specs.States.{NodeIs}
-use Rattle.run.specs.GoingOn.{Chooses, a_select, a_conditional, a_case}
 
 -- the node of a kind
 module _ {b rec : List ℕ} {k : ℕ} where
@@ -60,21 +59,21 @@ module _ {b rec : List ℕ} {k : ℕ} where
 pub node_is : {b rec : List ℕ} {k kind n : ℕ} → k < nodes b → rec ≡ node_record b k → kind ≡ kind_of rec → kind ≡ n → NodeIs b rec k n
 node_is h e f g = record { below = h; is = e; of = sym f ∙ g }
 
--- a kind that is none of the others chooses what to visit next
-pub chooses : {k : ℕ} → kinds.number ≤ k → k ≤ kinds.case_of → (k ≡ kinds.number → ⊥) → (k ≡ kinds.reading → ⊥) → (k ≡ kinds.formal → ⊥)
-    → (k ≡ kinds.operator → ⊥) → (k ≡ kinds.call → ⊥) → (k ≡ kinds.tuple → ⊥) → Chooses k
-chooses {k} l g n0 n1 n2 n3 n4 n5 = by (ℕ_discrete k kinds.select) (ℕ_discrete k kinds.conditional)
-  where
-    by : Dec (k ≡ kinds.select) → Dec (k ≡ kinds.conditional) → Chooses k
-    by (yes e) d = rw e a_select
-    by (no n) (yes e) = rw e a_conditional
-    by (no n) (no m) =
-        let e : k ≡ kinds.case_of = omega (arith, n, m, n0, n1, n2, n3, n4, n5) in
-        rw e a_case
+past : (k n : ℕ) → n ≤ k → (k ≡ n → ⊥) → suc n ≤ k
+past k n h e = omega arith
 
-pub node_chooses : (b : List ℕ) (k : ℕ) {kind : ℕ} → translation_verdict b ≡ Accepted → k < nodes b → kind ≡ kind_of (node_record b k)
-    → (kind ≡ kinds.number → ⊥) → (kind ≡ kinds.reading → ⊥) → (kind ≡ kinds.formal → ⊥) → (kind ≡ kinds.operator → ⊥)
-    → (kind ≡ kinds.call → ⊥) → (kind ≡ kinds.tuple → ⊥) → Chooses kind
-node_chooses b k accepted h f =
+last_of : (k : ℕ) → kinds.number ≤ k → k ≤ kinds.case_of → (k ≡ kinds.number → ⊥) → (k ≡ kinds.reading → ⊥) → (k ≡ kinds.formal → ⊥)
+    → (k ≡ kinds.select → ⊥) → (k ≡ kinds.operator → ⊥) → (k ≡ kinds.conditional → ⊥) → (k ≡ kinds.call → ⊥) → (k ≡ kinds.tuple → ⊥)
+    → k ≡ kinds.case_of
+last_of k l g n0 n1 n2 n3 n4 n5 n6 n7 =
+    le_antisymm g (past k kinds.tuple (past k kinds.call (past k kinds.conditional (past k kinds.operator (past k kinds.select (past k kinds.formal
+    (past k kinds.reading (past k kinds.number l n0) n1) n2) n3) n4) n5) n6) n7)
+
+-- the last kind, where the record has none of the others
+pub node_last : {b rec : List ℕ} {k kind : ℕ} → translation_verdict b ≡ Accepted → k < nodes b → rec ≡ node_record b k → kind ≡ kind_of rec
+    → (kind ≡ kinds.number → ⊥) → (kind ≡ kinds.reading → ⊥) → (kind ≡ kinds.formal → ⊥) → (kind ≡ kinds.select → ⊥)
+    → (kind ≡ kinds.operator → ⊥) → (kind ≡ kinds.conditional → ⊥) → (kind ≡ kinds.call → ⊥) → (kind ≡ kinds.tuple → ⊥)
+    → NodeIs b rec k kinds.case_of
+node_last {b} {rec} {k} {kind} accepted h e f n0 n1 n2 n3 n4 n5 n6 n7 =
     let l = node_kind_law Translation b (translation_shape b accepted) k h in
-    chooses (rw f l.least) (rw f l.greatest)
+    node_is h e f (last_of kind (rw (f, e) l.least) (rw (f, e) l.greatest) n0 n1 n2 n3 n4 n5 n6 n7)

@@ -59,10 +59,6 @@ pub record OperandKnown (b tab : List ℕ) (at kind x : ℕ) : Type 0 where
   pub most : ℕ
   pub inside : Inside b most (ending_of (outcome_in x))
 
-abbrev pub ChoosesNext : List ℕ → List ℕ → ℕ → ℕ → Type 0
-ChoosesNext b tab at x =
-    OperandKnown b tab at (kind_of (node_record b (below at))) x × Chooses (kind_of (node_record b (below at)))
-
 -- it goes on to a visit, or ends; and the visit is of a node, under a context of the cells written
 pub record GoesOn (b : List ℕ) (at kind x : ℕ) (r : Result ℕ ℕ) : Type 0 where
   pub same : (visit : Visit ℕ Lent) (s : Rule.State Lent) → goes_on b at (ending_of (outcome_in x)) visit s kind ≡ next_reached visit r s

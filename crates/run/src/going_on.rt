@@ -2,44 +2,48 @@
 // or a case goes on to. An error is the outcome that the visit ends with.
 ghost use Rattle.std.specs.Prelude.{◌≡◌};
 ghost use Rattle.definitions.specs.TranslationKinds as kinds;
-ghost use Rattle.definitions.specs.Records.{kind_of};
-ghost use Rattle.definitions.specs.Layouts.{node_record};
 ghost use Rattle.run.specs.Packed.{outcome_in};
-ghost use Rattle.run.specs.States.{ending_of, below};
-ghost use Rattle.run.specs.GoingOn.{due_of, number_of, constructor_of, OperandKnown, ChoosesNext, GoesOn, OperatorEnds};
+ghost use Rattle.run.specs.States.{ending_of};
+ghost use Rattle.run.specs.GoingOn.{due_of, number_of, constructor_of, OperandKnown, GoesOn, OperatorEnds};
 
 use crate::look_up::{branch, clause, found_at, listed};
-use crate::node_table::{Table, entry, first_in, kind_in, second_in, third_in};
+use crate::node_table::{Table, entry, first_in, second_in, third_in};
 use crate::packed::{outcome_in, packed};
 use crate::state::{Value, ended, given, tag};
 use cells::cell::pair_of;
-use definitions::{numbers, translation_kinds};
+use definitions::numbers;
 use operators::compute;
 
 // The number that an outcome is.
-pub(crate) fn number_due(x: u64) -> Result<i32, u64>
+fn number_due(x: u64) -> Result<i32, u64>
     ensures { due_of result ≡ number_of (ending_of (outcome_in x)) }
 {
-    match outcome_in(x) {
-        Ok(Value::Number(z)) => Ok(z),
-        Ok(Value::Constructor { .. }) => Err(packed(ended(numbers::NUMBER_WANTED))),
-        Err(_) => Err(x),
-    }
+    let outcome = outcome_in(x);
+    let Ok(value) = outcome else {
+        return Err(x);
+    };
+    let Value::Number(z) = value else {
+        return Err(packed(ended(numbers::NUMBER_WANTED)));
+    };
+    Ok(z)
 }
 
 // The node and the context of the constructor that an outcome is.
 fn constructor_due(x: u64) -> Result<(u16, u16), u64>
     ensures { due_of result ≡ constructor_of (ending_of (outcome_in x)) }
 {
-    match outcome_in(x) {
-        Ok(Value::Constructor { node, context }) => Ok((node, context)),
-        Ok(Value::Number(_)) => Err(packed(ended(numbers::CONSTRUCTOR_WANTED))),
-        Err(_) => Err(x),
-    }
+    let outcome = outcome_in(x);
+    let Ok(value) = outcome else {
+        return Err(x);
+    };
+    let Value::Constructor { node, context } = value else {
+        return Err(packed(ended(numbers::CONSTRUCTOR_WANTED)));
+    };
+    Ok((node, context))
 }
 
 // A selection: index 0 is the tag, i is field i - 1 under the tuple's own context.
-fn field_selected(b: &[u8], tab: &Table, at: u32, x: u64) -> Result<u32, u64>
+pub(crate) fn field_selected(b: &[u8], tab: &Table, at: u32, x: u64) -> Result<u32, u64>
     requires { OperandKnown b.now tab.now at kinds.select x }
     ensures { GoesOn b.now at kinds.select x result }
 {
@@ -55,8 +59,19 @@ fn field_selected(b: &[u8], tab: &Table, at: u32, x: u64) -> Result<u32, u64>
     }
 }
 
+// An if: nonzero takes the second node, zero the third, under the if's context.
+pub(crate) fn arm_taken(b: &[u8], tab: &Table, at: u32, x: u64) -> Result<u32, u64>
+    requires { OperandKnown b.now tab.now at kinds.conditional x }
+    ensures { GoesOn b.now at kinds.conditional x result }
+{
+    let z = number_due(x)?;
+    let node = entry(tab, (at % 0x1_0000) as u16);
+    let m = branch(z, second_in(node), third_in(node));
+    Ok(pair_of(m, (at / 0x1_0000) as u16))
+}
+
 // A case: the first clause with the tag, under the case's context.
-fn clause_chosen(b: &[u8], tab: &Table, at: u32, x: u64) -> Result<u32, u64>
+pub(crate) fn clause_chosen(b: &[u8], tab: &Table, at: u32, x: u64) -> Result<u32, u64>
     requires { OperandKnown b.now tab.now at kinds.case_of x }
     ensures { GoesOn b.now at kinds.case_of x result }
 {
@@ -67,24 +82,6 @@ fn clause_chosen(b: &[u8], tab: &Table, at: u32, x: u64) -> Result<u32, u64>
         Some(m) => Ok(pair_of(m, (at / 0x1_0000) as u16)),
         None => Err(packed(ended(numbers::NO_CLAUSE))),
     }
-}
-
-// The visit that a selection, an if or a case goes on to: nonzero takes an if's second node, zero the third.
-pub(crate) fn next_visit(b: &[u8], tab: &Table, at: u32, x: u64) -> Result<u32, u64>
-    requires { ChoosesNext b.now tab.now at x }
-    ensures { GoesOn b.now at (kind_of (node_record b.now (below at))) x result }
-{
-    let node = entry(tab, (at % 0x1_0000) as u16);
-    let kind = kind_in(node);
-    if kind == translation_kinds::SELECT {
-        return field_selected(b, tab, at, x);
-    }
-    if kind == translation_kinds::CONDITIONAL {
-        let z = number_due(x)?;
-        let m = branch(z, second_in(node), third_in(node));
-        return Ok(pair_of(m, (at / 0x1_0000) as u16));
-    }
-    clause_chosen(b, tab, at, x)
 }
 
 // The outcome of the operator with a code, by its left operand and the outcome of its right one.

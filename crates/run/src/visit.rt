@@ -1,19 +1,16 @@
-// The visits of a run: of a node, and by its kind of a formal, an operator, a call and the rest. They call each other while the steps
+// The visits of a run: of a node, and by its kind of a formal, a selection, a case and the rest. They call each other while the steps
 // left fall. `tab` is the table of the run; `counts` has the counts of the run; `limits` has the visits that may still
 // be nested below and the cell allowance above; `at` has the node below and the context above.
 ghost use Rattle.definitions.specs.TranslationKinds as kinds;
-ghost use Rattle.definitions.specs.Records.{kind_of};
-ghost use Rattle.definitions.specs.Layouts.{node_record};
-ghost use Rattle.run.specs.States.{below, Visitable, Evaluable, Visits, Evaluates};
-ghost use Rattle.run.specs.GoingOn.{Chooses};
+ghost use Rattle.run.specs.States.{Visitable, Evaluable, Visits, Evaluates};
 
 use crate::formal_places::POSITIONS;
-use crate::going_on::{next_visit, number_due, operated};
+use crate::going_on::{arm_taken, clause_chosen, field_selected, operated};
 use crate::look_up::{cell_in, listed};
 use crate::memory::{is_own, recall, remember};
 use crate::node_table::{Table, entry, first_in, kind_in, number_in, reading, second_in, third_in};
-use crate::packed::{is_value, packed};
-use crate::state::{constructor, ended, number};
+use crate::packed::{is_value, outcome_in, packed};
+use crate::state::{Value, constructor, ended, number};
 use cells::cell::{add_cell, pair_of};
 use definitions::{numbers, translation_kinds};
 use live_counts::Counts;
@@ -55,13 +52,19 @@ pub(crate) fn visit(
     if kind == translation_kinds::CALL {
         return visit_call(b, tab, cells, counts, limits, at);
     }
+    if kind == translation_kinds::SELECT {
+        return visit_select(b, tab, cells, counts, limits, at);
+    }
     if kind == translation_kinds::OPERATOR {
         return visit_operator(b, tab, cells, counts, limits, at);
     }
     if kind == translation_kinds::READING {
         return packed(number(reading(tab, first_in(node))));
     }
-    visit_operand(b, tab, cells, counts, limits, at)
+    if kind == translation_kinds::CONDITIONAL {
+        return visit_conditional(b, tab, cells, counts, limits, at);
+    }
+    visit_case(b, tab, cells, counts, limits, at)
 }
 
 // A formal: what the head cell remembers of it, where its own function's call made that cell; else visits the actual that the head
@@ -101,9 +104,9 @@ fn visit_formal(
     x
 }
 
-// A selection, an if or a case: the operand, and then the visit that it goes on to.
+// A selection: the tuple, and then the field that it selects.
 #[cycle(visits)]
-fn visit_operand(
+fn visit_select(
     b: &&[u8],
     tab: &Table,
     cells: &mut &mut [u8],
@@ -111,14 +114,13 @@ fn visit_operand(
     limits: u32,
     at: u32,
 ) -> u64
-    requires { Evaluable b.now.now tab.now limits at counts.old cells.old.now (kind_of (node_record b.now.now (below at)))
-        × Chooses (kind_of (node_record b.now.now (below at))) }
+    requires { Evaluable b.now.now tab.now limits at counts.old cells.old.now kinds.select }
     ensures { Evaluates b.now.now tab.now limits at counts.old cells.old result counts.new cells.new }
 {
     let n = first_in(entry(tab, (at % 0x1_0000) as u16));
     let w = (at / 0x1_0000) as u16;
     let x = visit(b, tab, cells, counts, limits, pair_of(n, w));
-    match next_visit(*b, tab, at, x) {
+    match field_selected(*b, tab, at, x) {
         Ok(next) => visit(b, tab, cells, counts, limits, next),
         Err(end) => end,
     }
@@ -141,13 +143,60 @@ fn visit_operator(
     let w = (at / 0x1_0000) as u16;
     let n = second_in(entry(tab, k));
     let first = visit(b, tab, cells, counts, limits, pair_of(n, w));
-    let x = match number_due(first) {
-        Ok(x) => x,
-        Err(end) => return end,
+    let outcome = outcome_in(first);
+    let Ok(value) = outcome else {
+        return first;
+    };
+    let Value::Number(x) = value else {
+        return packed(ended(numbers::NUMBER_WANTED));
     };
     let m = third_in(entry(tab, k));
     let second = visit(b, tab, cells, counts, limits, pair_of(m, w));
     operated(first_in(entry(tab, k)), x, second)
+}
+
+// An if: the condition, and then the arm that it takes.
+#[cycle(visits)]
+fn visit_conditional(
+    b: &&[u8],
+    tab: &Table,
+    cells: &mut &mut [u8],
+    counts: &mut Counts,
+    limits: u32,
+    at: u32,
+) -> u64
+    requires { Evaluable b.now.now tab.now limits at counts.old cells.old.now kinds.conditional }
+    ensures { Evaluates b.now.now tab.now limits at counts.old cells.old result counts.new cells.new }
+{
+    let n = first_in(entry(tab, (at % 0x1_0000) as u16));
+    let w = (at / 0x1_0000) as u16;
+    let x = visit(b, tab, cells, counts, limits, pair_of(n, w));
+    match arm_taken(*b, tab, at, x) {
+        Ok(next) => visit(b, tab, cells, counts, limits, next),
+        Err(end) => end,
+    }
+}
+
+// A case: the scrutinee, and then the clause that it chooses.
+#[cycle(visits)]
+fn visit_case(
+    b: &&[u8],
+    tab: &Table,
+    cells: &mut &mut [u8],
+    counts: &mut Counts,
+    limits: u32,
+    at: u32,
+) -> u64
+    requires { Evaluable b.now.now tab.now limits at counts.old cells.old.now kinds.case_of }
+    ensures { Evaluates b.now.now tab.now limits at counts.old cells.old result counts.new cells.new }
+{
+    let n = first_in(entry(tab, (at % 0x1_0000) as u16));
+    let w = (at / 0x1_0000) as u16;
+    let x = visit(b, tab, cells, counts, limits, pair_of(n, w));
+    match clause_chosen(*b, tab, at, x) {
+        Ok(next) => visit(b, tab, cells, counts, limits, next),
+        Err(end) => end,
+    }
 }
 
 // A call: one cell more alive, and the body under it; then the call is closed, which may give cells back.

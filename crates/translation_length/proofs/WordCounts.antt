@@ -1,11 +1,11 @@
 -- Laws of counting a translation's words: a sum while it is counted, the words of a part, and all parts together.
 use mathlib.Core.Path.{◌≡◌, refl, sym, ◌∙◌}
-use Prim.Native.Nat.{ℕ, ◌+◌, ◌*◌, ◌≤◌, ◌<◌}
+use Prim.Native.Nat.{ℕ, suc, ◌+◌, ◌-◌, ◌*◌, ◌≤◌, ◌<◌}
 use mathlib.Core.List.{List}
 use native.Mathlib.Omega.{arith}
 use native.Mathlib.Nat.{mul-add}
 use lib.ListN.{length, get_or}
-use lib.Dec.{leb}
+use lib.Dec.{ltb, leb}
 use Rattle.std.specs.Prelude.{Result}
 use Rattle.std.specs.Result.{IsErrAnd}
 use Rattle.std.proofs.lemmas.Result.{err_from_is_err_and}
@@ -94,3 +94,13 @@ module _ (b : List ℕ) (room : ℕ) where
   pub room_decides : {v : Verdict} → sheet_verdict b ≡ Accepted → v ≡ require (leb (length (translation b)) room) short_output 0 → v ≡ translation_refusal b room
   unfolding translation_refusal ◌and_then◌
   room_decides accepted e = rw accepted e
+
+  -- by the place of the translation's last byte
+  module _ {n : ℕ} (accepted : sheet_verdict b ≡ Accepted) (e : n ≡ length (translation b)) where
+    pub some_bytes : 2 ≤ n
+    some_bytes = omega (arith, e, bytes_counted b accepted)
+
+    pub last_byte_decides : {v : Verdict} → v ≡ require (ltb (n - 1) room) short_output 0 → v ≡ translation_refusal b room
+    last_byte_decides f =
+        let last : suc (n - 1) ≡ length (translation b) = omega (arith, some_bytes, e) in
+        room_decides accepted (rw last at f)

@@ -23,11 +23,13 @@ pub fn translated_length(sheet: &[u8], room: usize) -> Result<usize, Refusal>
     let mut starts = [0u16; MOST_RECORDS];
     let mut ends = [0u16; MOST_FUNCTIONS];
     let mut owners = [0u8; MOST_NODES];
-    fill_sheet(sheet, &mut starts, &mut ends, &mut owners)?;
-    length_accepted(sheet, &starts, &ends, &owners, room)
+    match fill_sheet(sheet, &mut starts, &mut ends, &mut owners) {
+        Err(refusal) => Err(refusal),
+        Ok(()) => length_accepted(sheet, &starts, &ends, &owners, room),
+    }
 }
 
-// The same of an accepted sheet: its length, where the output holds the translation.
+// The same of an accepted sheet: its length, where the last byte of the translation is inside the output.
 fn length_accepted(
     sheet: &[u8],
     starts: &Starts,
@@ -44,6 +46,6 @@ fn length_accepted(
     let mut counts = [0u16; MOST_FUNCTIONS];
     label_nodes(sheet, starts, &classes, &mut labels, &mut counts);
     let length = count_bytes(sheet, starts, &counts);
-    require(length <= room, Reason::ShortOutput)?;
+    require(length - 1 < room, Reason::ShortOutput)?;
     Ok(length)
 }

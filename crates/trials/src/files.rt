@@ -162,22 +162,15 @@ impl Readings {
         readings
     }
 
-    // Adds one turn of the readings that an entry lists.
+    // Adds one turn of the readings that an entry lists. One past the room has no place, and its digits are not read.
     fn push_row(&mut self, entry: &[u8], turn: u16, printer: &mut Printer) {
         for at in until(entry, b'|')..until(entry, COMMA) {
-            if number_starts(entry, at) {
+            if number_starts(entry, at) && self.count < READINGS_ROOM {
                 let step = word(after(rest(entry, at), b'+'), printer);
                 let grown = i32::from(at_turn(0, step, turn));
-                self.push(signed_at(entry, at, printer).wrapping_add(grown));
+                self.values[self.count] = signed_at(entry, at, printer).wrapping_add(grown);
+                self.count += 1;
             }
-        }
-    }
-
-    // Adds a reading; one past the room has no place.
-    fn push(&mut self, value: i32) {
-        if self.count < READINGS_ROOM {
-            self.values[self.count] = value;
-            self.count += 1;
         }
     }
 

@@ -37,5 +37,5 @@ pub(crate) fn try_length(entry: &[u8], sheet: &Space, printer: &mut Printer) {
         Ok(n) => printer.print(format_args!("length {n}")),
         Err(refusal) => show_refusal(refusal, printer),
     }
-    printer.print("\n");
+    printer.write(b"\n");
 }

@@ -5,7 +5,7 @@
 // their runs; sheets and their canonical forms; translations that no translator writes, and their runs, also on rows, for a hirer
 // and in searches; answer records and their views; cells and their listings. The file `stdout` has what each should answer by
 // document 01, and by document 02 for rows (request 1), products (2), the length that is asked (3), labels (4), hirers (5), what
-// cells remember (7), cells given back (9), the driver's view (10), types (11), searches (12) and canonical forms (13). Written and
+// cells remember (7), cells given back (9), the driver's view (10), types (11), searches (12) and canonical forms (13). Files and
 // translations are worked out by hand from these and document 002, and so are the readers' answers; those for types, the runs with
 // their steps and cells, and of the trials for labels the translations too, were worked out by models written from the documents
 // alone. A record is its length, its kind and its fields; in a change, word 0 of a record is its length, word 1 its kind, and the

@@ -29,8 +29,8 @@ pub(crate) fn try_reader(entry: &[u8], layout: Layout, base: &Space, printer: &m
     show_entry("  ", entry, ": ", printer);
     let size = within(stated, SPACE_BYTES, printer);
     match read(layout, &file[..size]) {
-        Ok(()) => printer.print("accepted"),
+        Ok(()) => printer.write(b"accepted"),
         Err(refusal) => show_refusal(refusal, printer),
     }
-    printer.print("\n");
+    printer.write(b"\n");
 }

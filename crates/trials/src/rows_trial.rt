@@ -97,7 +97,7 @@ fn show_rows(records: &Space, rows: u32, printer: &mut Printer) -> u16 {
     for row in 0..rows {
         let at = record_place(row, printer);
         let record = &records[at..];
-        printer.print("\n    ");
+        printer.write(b"\n    ");
         show_record(record, printer);
         most = most.max(word(record, CELLS_PLACE));
     }

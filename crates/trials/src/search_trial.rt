@@ -98,7 +98,7 @@ fn ran_in_turn(
 fn show_searched(answer: Result<Option<i32>, Refusal>, q: Query, printer: &mut Printer) -> u32 {
     match answer {
         Ok(Some(value)) => {
-            printer.print("found");
+            printer.write(b"found");
             show_value(value, printer);
             value_count(q)
         }

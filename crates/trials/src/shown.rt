@@ -7,9 +7,9 @@ use file_fields::bytes::{word, word32};
 
 // An entry's words between two others.
 pub(crate) fn show_entry(before: &str, entry: &[u8], after: &str, printer: &mut Printer) {
-    printer.print(before);
+    printer.write(before.as_bytes());
     printer.write(entry.get(WORDS..entry_end(entry)).unwrap_or(&[]));
-    printer.print(after);
+    printer.write(after.as_bytes());
 }
 
 pub(crate) fn show_refusal(refusal: Refusal, printer: &mut Printer) {
@@ -20,12 +20,13 @@ pub(crate) fn show_refusal(refusal: Refusal, printer: &mut Printer) {
 
 // A part of the trials' text does not fit: what is shown is then not what is expected.
 pub(crate) fn show_misfit(printer: &mut Printer) {
-    printer.print(" DOES NOT FIT ");
+    printer.write(b" DOES NOT FIT ");
 }
 
 // One of two texts, by whether something holds.
 pub(crate) fn show_whether(holds: bool, good: &str, bad: &str, printer: &mut Printer) {
-    printer.print(if holds { good } else { bad });
+    let text = if holds { good } else { bad };
+    printer.write(text.as_bytes());
 }
 
 pub(crate) fn show_value(value: i32, printer: &mut Printer) {

@@ -1,13 +1,11 @@
--- `file_fields::bytes::word` meets its contract: where the next place is no number, this one is past the end.
-use Rattle.laws.proofs.Bytes.{word_bytes, word_past}
-use mathlib.Core.Path.{ap, ◌∙◌}
-use native.Mathlib.Omega.{arith}
-use lib.ListN.{get_or}
+-- `file_fields::bytes::word` meets its contract: a field that the file ends in has its upper byte past the end.
+use Rattle.laws.proofs.Bytes.{word_last, word_past}
+use mathlib.Core.Path.{◌∙◌}
+use borrow.Author.Rules.{rules}
 use Rattle.file_fields.proofs.bytes.word.Goals as goal
 
-pub returns-in-Some : goal.returns-in-Some
-returns-in-Some c =
-    c.field_of.ensures ∙ word_bytes _ _ _ _ c.byte.ensures (c.byte-in-Some.ensures ∙ ap (λ i. get_or c.args.b.now i 0) c.in-Some.ensures.1)
+pub returns-then-at-b : goal.returns-then-at-b
+returns-then-at-b c = word_last _ _ _ (search rules) (c.from.ensures ∙ c.byte.ensures)
 
-pub returns-in-None : goal.returns-in-None
-returns-in-None c = let past = c.in-None.ensures in word_past _ _ (omega arith)
+pub returns : goal.returns
+returns c = word_past _ _ c.if-at-b.false

@@ -1,18 +1,12 @@
 -- `run::going_on::constructor_due` meets its contract, case by case.
-use mathlib.Core.Path.{refl}
-use Rattle.run.specs.States.{ending_of, value_of}
-use Rattle.run.specs.GoingOn.{constructor_of}
+use Rattle.run.proofs.Endings.{ended_constructor, no_constructor, constructor_taken}
 use Rattle.run.proofs.going_on.constructor_due.Goals as goal
 
-pub returns-in-Ok-Constructor : goal.returns-in-Ok-Constructor
-unfolding ending_of value_of constructor_of
-returns-in-Ok-Constructor c =
-    rw (← c.outcome_in.ensures, c.in-Ok-Constructor.is, c.in-Ok-Constructor.field-0-is) refl
+pub returns-in_default : goal.returns-in_default
+returns-in_default c = ended_constructor _ c.outcome_in-outcome.ensures c.in_default.is
 
-pub returns-in-Ok-Number : goal.returns-in-Ok-Number
-unfolding ending_of value_of constructor_of
-returns-in-Ok-Number c = rw (← c.outcome_in.ensures, c.in-Ok-Number.is, c.in-Ok-Number.field-0-is, c.packed.ensures, c.ended.ensures) refl
+pub returns-in_default-value : goal.returns-in_default-value
+returns-in_default-value c = no_constructor _ c.outcome_in-outcome.ensures c.in-Ok.is _ c.packed.ensures c.in_default-value.is c.ended.ensures
 
-pub returns-in-Err : goal.returns-in-Err
-unfolding ending_of constructor_of
-returns-in-Err c = rw (← c.outcome_in.ensures, c.in-Err.is) refl
+pub returns : goal.returns
+returns c = constructor_taken _ c.outcome_in-outcome.ensures c.in-Ok.is c.in-Constructor.is

@@ -12,6 +12,8 @@ use Rattle.run.proofs.Remains.{visit_asked, visit_returned}
 use Rattle.run.proofs.Operands.{choice_awaits, left_awaits, right_awaits, operand_asked, operand_visited}
 use Rattle.run.proofs.Operands.{choice_known, choice_visits, choice_ends, left_missed, operator_returned}
 use Rattle.run.proofs.FormalSteps.{formal_ends, cell_read, known_returned, formal_seeks, actual_missed, actual_asked, actual_returned}
+use Rattle.run.specs.GoingOn.{a_select, a_conditional, a_case}
+use Rattle.run.proofs.Endings.{number_taken, no_number, ended_number}
 use Rattle.run.proofs.visit.+visits.Goals as goal
 
 -- A visit meets its contract: the two stops, a step counted, and the function of the node's kind.
@@ -55,6 +57,15 @@ visit-returns-then-kind-eq-CALL t c =
     let step_taken = step_counted c.requires c.if-left-eq0.false c.if-limits-eq0.false in
     step_taken.returned c.visit_call.ensures
 
+pub visit-visit_select-requires : goal.visit-visit_select-requires
+visit-visit_select-requires t c =
+    kind_asked (c.decreases, c.requires) c.if-left-eq0.false c.if-limits-eq0.false (kind_read c.requires c.entry-node.ensures c.kind_in-kind.ensures c.if-kind-eq-SELECT.true)
+
+pub visit-returns-then-kind-eq-SELECT : goal.visit-returns-then-kind-eq-SELECT
+visit-returns-then-kind-eq-SELECT t c =
+    let step_taken = step_counted c.requires c.if-left-eq0.false c.if-limits-eq0.false in
+    step_taken.returned c.visit_select.ensures
+
 pub visit-visit_operator-requires : goal.visit-visit_operator-requires
 visit-visit_operator-requires t c =
     kind_asked (c.decreases, c.requires) c.if-left-eq0.false c.if-limits-eq0.false (kind_read c.requires c.entry-node.ensures c.kind_in-kind.ensures c.if-kind-eq-OPERATOR.true)
@@ -78,17 +89,26 @@ visit-returns-then-kind-eq-READING t c =
     c.first_in.ensures (to_z-of_z w32 _ (record { sfits = search rules })) c.reading.ensures
     c.packed-then-kind-eq-READING.ensures c.number-then-kind-eq-READING.ensures)
 
-pub visit-visit_operand-requires : goal.visit-visit_operand-requires
-visit-visit_operand-requires t c =
-    let kind = kind_last c.requires c.entry-node.ensures c.kind_in-kind.ensures c.if-kind-eq-NUMBER.false c.if-kind-eq-READING.false
-    c.if-kind-eq-FORMAL.false c.if-kind-eq-OPERATOR.false c.if-kind-eq-CALL.false c.if-kind-eq-TUPLE.false in
-    let asked = kind_asked (c.decreases, c.requires) c.if-left-eq0.false c.if-limits-eq0.false kind.0 in
-    (asked.0, (asked.1, kind.1))
+pub visit-visit_conditional-requires : goal.visit-visit_conditional-requires
+visit-visit_conditional-requires t c =
+    kind_asked (c.decreases, c.requires) c.if-left-eq0.false c.if-limits-eq0.false (kind_read c.requires c.entry-node.ensures c.kind_in-kind.ensures c.if-kind-eq-CONDITIONAL.true)
+
+pub visit-returns-then-kind-eq-CONDITIONAL : goal.visit-returns-then-kind-eq-CONDITIONAL
+visit-returns-then-kind-eq-CONDITIONAL t c =
+    let step_taken = step_counted c.requires c.if-left-eq0.false c.if-limits-eq0.false in
+    step_taken.returned c.visit_conditional.ensures
+
+pub visit-visit_case-requires : goal.visit-visit_case-requires
+visit-visit_case-requires t c =
+    kind_asked (c.decreases, c.requires) c.if-left-eq0.false c.if-limits-eq0.false
+    (kind_last c.requires c.entry-node.ensures c.kind_in-kind.ensures
+    c.if-kind-eq-NUMBER.false c.if-kind-eq-READING.false c.if-kind-eq-FORMAL.false c.if-kind-eq-SELECT.false c.if-kind-eq-OPERATOR.false
+    c.if-kind-eq-CONDITIONAL.false c.if-kind-eq-CALL.false c.if-kind-eq-TUPLE.false)
 
 pub visit-returns : goal.visit-returns
 visit-returns t c =
     let step_taken = step_counted c.requires c.if-left-eq0.false c.if-limits-eq0.false in
-    step_taken.returned c.visit_operand.ensures
+    step_taken.returned c.visit_case.ensures
 
 -- A call meets its contract: one cell more is alive, the body is visited under it, and the call is closed.
 pub visit_call-returns-then-limits-live : goal.visit_call-returns-then-limits-live
@@ -157,10 +177,16 @@ pub visit_operator-visit-first-requires : goal.visit_operator-visit-first-requir
 visit_operator-visit-first-requires t c =
     operand_asked (left_awaits {cells = c.args.cells.now} (c.decreases, c.requires) c.entry.ensures c.second_in-n.ensures) c.pair_of.ensures
 
-pub visit_operator-returns-in-Err : goal.visit_operator-returns-in-Err
-visit_operator-returns-in-Err t c =
+pub visit_operator-returns-in_default : goal.visit_operator-returns-in_default
+visit_operator-returns-in_default t c =
     let awaits = left_awaits {cells = c.args.cells.now} (c.decreases, c.requires) c.entry.ensures c.second_in-n.ensures in
-    left_missed (operand_visited awaits c.pair_of.ensures c.visit-first.ensures) c.in-Err.ensures
+    left_missed (operand_visited awaits c.pair_of.ensures c.visit-first.ensures) (ended_number _ c.outcome_in-outcome.ensures c.in_default.is)
+
+pub visit_operator-returns-in_default-value : goal.visit_operator-returns-in_default-value
+visit_operator-returns-in_default-value t c =
+    let awaits = left_awaits {cells = c.args.cells.now} (c.decreases, c.requires) c.entry.ensures c.second_in-n.ensures in
+    left_missed (operand_visited awaits c.pair_of.ensures c.visit-first.ensures)
+    (no_number _ c.outcome_in-outcome.ensures c.in-Ok.is _ c.packed.ensures c.in_default-value.is c.ended.ensures)
 
 pub visit_operator-entry-requires-2 : goal.visit_operator-entry-requires-2
 visit_operator-entry-requires-2 t c = node_room c.requires
@@ -169,7 +195,8 @@ pub visit_operator-visit-second-requires : goal.visit_operator-visit-second-requ
 visit_operator-visit-second-requires t c =
     let awaits = left_awaits {cells = c.args.cells.now} (c.decreases, c.requires) c.entry.ensures c.second_in-n.ensures in
     let left = operand_visited awaits c.pair_of.ensures c.visit-first.ensures in
-    operand_asked (right_awaits left c.in-Ok.ensures c.entry-2.ensures c.third_in-m.ensures) c.pair_of-2.ensures
+    let taken = number_taken _ c.outcome_in-outcome.ensures c.in-Ok.is c.in-Number.is in
+    operand_asked (right_awaits left taken c.entry-2.ensures c.third_in-m.ensures) c.pair_of-2.ensures
 
 pub visit_operator-entry-requires-3 : goal.visit_operator-entry-requires-3
 visit_operator-entry-requires-3 t c = node_room c.requires
@@ -178,35 +205,96 @@ pub visit_operator-returns : goal.visit_operator-returns
 visit_operator-returns t c =
     let awaits = left_awaits {cells = c.args.cells.now} (c.decreases, c.requires) c.entry.ensures c.second_in-n.ensures in
     let left = operand_visited awaits c.pair_of.ensures c.visit-first.ensures in
-    let right = operand_visited (right_awaits left c.in-Ok.ensures c.entry-2.ensures c.third_in-m.ensures) c.pair_of-2.ensures c.visit-second.ensures in
+    let taken = number_taken _ c.outcome_in-outcome.ensures c.in-Ok.is c.in-Number.is in
+    let right = operand_visited (right_awaits left taken c.entry-2.ensures c.third_in-m.ensures) c.pair_of-2.ensures c.visit-second.ensures in
     operator_returned right (to_z-of_z w32 _ (record { sfits = search rules })) c.entry-3.ensures c.first_in.ensures c.operated.ensures
 
--- A selection, an if and a case meet their contract: the operand is visited, and then the node that its outcome chooses.
-pub visit_operand-entry-requires : goal.visit_operand-entry-requires
-visit_operand-entry-requires t c = node_room c.requires.0
+-- A selection meets its contract: the tuple is visited, and then the field.
+pub visit_select-entry-requires : goal.visit_select-entry-requires
+visit_select-entry-requires t c = node_room c.requires
 
-pub visit_operand-visit-x-requires : goal.visit_operand-visit-x-requires
-visit_operand-visit-x-requires t c =
-    operand_asked (choice_awaits {cells = c.args.cells.now} (c.decreases, c.requires.0) c.requires.1 c.entry.ensures c.first_in-n.ensures) c.pair_of.ensures
+pub visit_select-visit-x-requires : goal.visit_select-visit-x-requires
+visit_select-visit-x-requires t c =
+    operand_asked (choice_awaits {cells = c.args.cells.now} (c.decreases, c.requires) a_select c.entry.ensures c.first_in-n.ensures) c.pair_of.ensures
 
-pub visit_operand-next_visit-requires : goal.visit_operand-next_visit-requires
-visit_operand-next_visit-requires t c =
-    let awaits = choice_awaits {cells = c.args.cells.now} (c.decreases, c.requires.0) c.requires.1 c.entry.ensures c.first_in-n.ensures in
-    (choice_known (operand_visited awaits c.pair_of.ensures c.visit-x.ensures), c.requires.1)
+pub visit_select-field_selected-requires : goal.visit_select-field_selected-requires
+visit_select-field_selected-requires t c =
+    let awaits = choice_awaits {cells = c.args.cells.now} (c.decreases, c.requires) a_select c.entry.ensures c.first_in-n.ensures in
+    choice_known (operand_visited awaits c.pair_of.ensures c.visit-x.ensures)
 
-pub visit_operand-visit-requires : goal.visit_operand-visit-requires
-visit_operand-visit-requires t c =
-    let awaits = choice_awaits {cells = c.args.cells.now} (c.decreases, c.requires.0) c.requires.1 c.entry.ensures c.first_in-n.ensures in
+pub visit_select-visit-requires : goal.visit_select-visit-requires
+visit_select-visit-requires t c =
+    let awaits = choice_awaits {cells = c.args.cells.now} (c.decreases, c.requires) a_select c.entry.ensures c.first_in-n.ensures in
     let operand = operand_visited awaits c.pair_of.ensures c.visit-x.ensures in
-    visit_asked (choice_visits operand c.next_visit.ensures c.in-Ok.is) (refl, refl)
+    visit_asked (choice_visits operand c.field_selected.ensures c.in-Ok.is) (refl, refl)
 
-pub visit_operand-returns-in-Ok : goal.visit_operand-returns-in-Ok
-visit_operand-returns-in-Ok t c =
-    let awaits = choice_awaits {cells = c.args.cells.now} (c.decreases, c.requires.0) c.requires.1 c.entry.ensures c.first_in-n.ensures in
+pub visit_select-returns-in-Ok : goal.visit_select-returns-in-Ok
+visit_select-returns-in-Ok t c =
+    let awaits = choice_awaits {cells = c.args.cells.now} (c.decreases, c.requires) a_select c.entry.ensures c.first_in-n.ensures in
     let operand = operand_visited awaits c.pair_of.ensures c.visit-x.ensures in
-    visit_returned (choice_visits operand c.next_visit.ensures c.in-Ok.is) (refl, refl) c.visit.ensures
+    visit_returned (choice_visits operand c.field_selected.ensures c.in-Ok.is) (refl, refl) c.visit.ensures
 
-pub visit_operand-returns-in-Err : goal.visit_operand-returns-in-Err
-visit_operand-returns-in-Err t c =
-    let awaits = choice_awaits {cells = c.args.cells.now} (c.decreases, c.requires.0) c.requires.1 c.entry.ensures c.first_in-n.ensures in
-    choice_ends (operand_visited awaits c.pair_of.ensures c.visit-x.ensures) c.next_visit.ensures c.in-Err.is
+pub visit_select-returns-in-Err : goal.visit_select-returns-in-Err
+visit_select-returns-in-Err t c =
+    let awaits = choice_awaits {cells = c.args.cells.now} (c.decreases, c.requires) a_select c.entry.ensures c.first_in-n.ensures in
+    choice_ends (operand_visited awaits c.pair_of.ensures c.visit-x.ensures) c.field_selected.ensures c.in-Err.is
+
+-- An if meets its contract: the condition is visited, and then the arm.
+pub visit_conditional-entry-requires : goal.visit_conditional-entry-requires
+visit_conditional-entry-requires t c = node_room c.requires
+
+pub visit_conditional-visit-x-requires : goal.visit_conditional-visit-x-requires
+visit_conditional-visit-x-requires t c =
+    operand_asked (choice_awaits {cells = c.args.cells.now} (c.decreases, c.requires) a_conditional c.entry.ensures c.first_in-n.ensures) c.pair_of.ensures
+
+pub visit_conditional-arm_taken-requires : goal.visit_conditional-arm_taken-requires
+visit_conditional-arm_taken-requires t c =
+    let awaits = choice_awaits {cells = c.args.cells.now} (c.decreases, c.requires) a_conditional c.entry.ensures c.first_in-n.ensures in
+    choice_known (operand_visited awaits c.pair_of.ensures c.visit-x.ensures)
+
+pub visit_conditional-visit-requires : goal.visit_conditional-visit-requires
+visit_conditional-visit-requires t c =
+    let awaits = choice_awaits {cells = c.args.cells.now} (c.decreases, c.requires) a_conditional c.entry.ensures c.first_in-n.ensures in
+    let operand = operand_visited awaits c.pair_of.ensures c.visit-x.ensures in
+    visit_asked (choice_visits operand c.arm_taken.ensures c.in-Ok.is) (refl, refl)
+
+pub visit_conditional-returns-in-Ok : goal.visit_conditional-returns-in-Ok
+visit_conditional-returns-in-Ok t c =
+    let awaits = choice_awaits {cells = c.args.cells.now} (c.decreases, c.requires) a_conditional c.entry.ensures c.first_in-n.ensures in
+    let operand = operand_visited awaits c.pair_of.ensures c.visit-x.ensures in
+    visit_returned (choice_visits operand c.arm_taken.ensures c.in-Ok.is) (refl, refl) c.visit.ensures
+
+pub visit_conditional-returns-in-Err : goal.visit_conditional-returns-in-Err
+visit_conditional-returns-in-Err t c =
+    let awaits = choice_awaits {cells = c.args.cells.now} (c.decreases, c.requires) a_conditional c.entry.ensures c.first_in-n.ensures in
+    choice_ends (operand_visited awaits c.pair_of.ensures c.visit-x.ensures) c.arm_taken.ensures c.in-Err.is
+
+-- A case meets its contract: the scrutinee is visited, and then the clause.
+pub visit_case-entry-requires : goal.visit_case-entry-requires
+visit_case-entry-requires t c = node_room c.requires
+
+pub visit_case-visit-x-requires : goal.visit_case-visit-x-requires
+visit_case-visit-x-requires t c =
+    operand_asked (choice_awaits {cells = c.args.cells.now} (c.decreases, c.requires) a_case c.entry.ensures c.first_in-n.ensures) c.pair_of.ensures
+
+pub visit_case-clause_chosen-requires : goal.visit_case-clause_chosen-requires
+visit_case-clause_chosen-requires t c =
+    let awaits = choice_awaits {cells = c.args.cells.now} (c.decreases, c.requires) a_case c.entry.ensures c.first_in-n.ensures in
+    choice_known (operand_visited awaits c.pair_of.ensures c.visit-x.ensures)
+
+pub visit_case-visit-requires : goal.visit_case-visit-requires
+visit_case-visit-requires t c =
+    let awaits = choice_awaits {cells = c.args.cells.now} (c.decreases, c.requires) a_case c.entry.ensures c.first_in-n.ensures in
+    let operand = operand_visited awaits c.pair_of.ensures c.visit-x.ensures in
+    visit_asked (choice_visits operand c.clause_chosen.ensures c.in-Ok.is) (refl, refl)
+
+pub visit_case-returns-in-Ok : goal.visit_case-returns-in-Ok
+visit_case-returns-in-Ok t c =
+    let awaits = choice_awaits {cells = c.args.cells.now} (c.decreases, c.requires) a_case c.entry.ensures c.first_in-n.ensures in
+    let operand = operand_visited awaits c.pair_of.ensures c.visit-x.ensures in
+    visit_returned (choice_visits operand c.clause_chosen.ensures c.in-Ok.is) (refl, refl) c.visit.ensures
+
+pub visit_case-returns-in-Err : goal.visit_case-returns-in-Err
+visit_case-returns-in-Err t c =
+    let awaits = choice_awaits {cells = c.args.cells.now} (c.decreases, c.requires) a_case c.entry.ensures c.first_in-n.ensures in
+    choice_ends (operand_visited awaits c.pair_of.ensures c.visit-x.ensures) c.clause_chosen.ensures c.in-Err.is

@@ -14,5 +14,11 @@ decreases-visit_formal l = 2 * l.counts.now.left + 1
 abbrev pub decreases-visit_operator : goal.decreases-visit_operator
 decreases-visit_operator l = 2 * l.counts.now.left + 1
 
-abbrev pub decreases-visit_operand : goal.decreases-visit_operand
-decreases-visit_operand l = 2 * l.counts.now.left + 1
+abbrev pub decreases-visit_select : goal.decreases-visit_select
+decreases-visit_select l = 2 * l.counts.now.left + 1
+
+abbrev pub decreases-visit_conditional : goal.decreases-visit_conditional
+decreases-visit_conditional l = 2 * l.counts.now.left + 1
+
+abbrev pub decreases-visit_case : goal.decreases-visit_case
+decreases-visit_case l = 2 * l.counts.now.left + 1

@@ -5,4 +5,4 @@ use Rattle.report.proofs.line_writer.LineWriter.counts.Goals as goal
 
 pub returns : goal.returns
 unfolding counts steps_word cells_word line_end
-returns c = wrote_five c.word.ensures c.decimal.ensures c.word-2.ensures (rw c.from.ensures at c.decimal-2.ensures) c.word-3.ensures
+returns c = wrote_five c.word.ensures c.decimal.ensures c.word-2.ensures c.decimal-2.ensures c.word-3.ensures
