@@ -1,8 +1,8 @@
--- Request 11 of document 02, in its words, over what the public calls promise: `ReadSheet` of `format::sheet::fill_sheet`, which `ReadsSheet` of
--- `format::sheet::read_sheet` gives too (`read_refused`, `read_accepted`), `Translates` of `translator::translate`, `Runs` of `run::run`,
+-- Request 11 of document 02, in its words, over what the public calls promise: `ReadSheet`, which `ReadsSheet` of
+-- `format::sheet::read_sheet` gives (`read_refused`, `read_accepted`), `Translates` of `translator::translate`, `Runs` of `run::run`,
 -- `RunsForHirer` of `hirer::run_for_hirer`, `RunsRows` of `batch::run_rows` and `Joins` of `join::translate_and_run`, and for callers in C
--- `TranslatesC`, `RunsC`, `RunsForHirerC`, `RunsRowsC` and `JoinsC`. None of the calls that translate or run has a `requires`. The demands hold of
--- typed sheets as they stand, since acceptance is the reader's.
+-- `TranslatesC`, `RunsC`, `RunsForHirerC`, `RunsRowsC` and `JoinsC`. None of these calls has a `requires`. The demands hold of typed sheets as they stand, since
+-- acceptance is the reader's.
 use mathlib.Core.Path.{◌≡◌, refl, sym, ◌∙◌}
 use Prim.Native.Nat.{ℕ, ◌+◌, ◌<◌}
 use mathlib.Core.List.{List}
