@@ -104,8 +104,9 @@ module _ {b : List ℕ} {rs : List ℤ} {q : Query} {steps nesting cells_allowed
         }
 
     -- the value of the next run is one of the range
-    pub value_fits : SFits w32 q.lowest → SFits w32 q.highest → i < count → (i ≤ most_values) × SFits w32 (value_at q.lowest i)
-    value_fits f g inside = (omega (arith, inside, w.fits.few), record { sfits = value_size 2147483648 q.lowest q.highest f.sfits g.sfits i inside })
+    pub value_fits : SFits w32 q.lowest → SFits w32 q.highest → i < count → {n : ℕ} → n ≡ i → (n ≤ most_values) × SFits w32 (value_at q.lowest n)
+    value_fits f g inside e =
+        rw e (omega (arith, inside, w.fits.few), record { sfits = value_size 2147483648 q.lowest q.highest f.sfits g.sfits i inside })
 
     module _ {z : ℤ} (inside : i < count) (value : z ≡ value_at q.lowest i) {r : Bool} {tab' after : List ℕ}
         (t : Tried b tab q.position z q.wanted steps nesting cells_allowed cells.now r tab' after) where

@@ -23,7 +23,7 @@ loop-left-init c =
 pub value_at-z-requires : goal.value_at-z-requires
 value_at-z-requires c =
     let next = next_value c.loop-left.invariant.0 c.loop-left-test.true c.value_count-count.ensures in
-    rw next.0 (value_fits c.loop-left.invariant.1 (record { sfits = search rules }) (record { sfits = search rules }) next.1)
+    value_fits c.loop-left.invariant.1 (record { sfits = search rules }) (record { sfits = search rules }) next.1 next.0
 
 pub try_value-requires : goal.try_value-requires
 try_value-requires c = triable c.loop-left.invariant.1
