@@ -16,10 +16,10 @@ use Rattle.definitions.specs.Sizes.{most_rows, answer_size}
 use Rattle.definitions.specs.Numbers.{short_output, bad_readings, bad_allowance}
 use Rattle.definitions.specs.Layouts.{readings}
 use Rattle.definitions.specs.Checks.{translation_verdict}
-use Rattle.definitions.specs.Verdicts.{◌and_then◌, require}
+use Rattle.definitions.specs.Verdicts.{require}
 use Rattle.definitions.specs.Output.{written_of, output_of}
 use Rattle.definitions.specs.Run.{allowances_fit, bytes_after}
-use Rattle.definitions.specs.Verdict.{Verdict, Accepted, Refused}
+use Rattle.definitions.specs.Verdict.{Accepted, Refused}
 use Rattle.definitions.specs.Refusals.{number_of, as_verdict, as_written}
 use Rattle.definitions.specs.declared.refusals.Refusal.{Refusal}
 use Rattle.answer.proofs.Refusals.{first_of_two}

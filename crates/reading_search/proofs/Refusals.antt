@@ -18,7 +18,7 @@ use Rattle.definitions.specs.Checks.{translation_verdict}
 use Rattle.definitions.specs.Verdicts.{◌and_then◌, require}
 use Rattle.definitions.specs.Run.{allowances_fit, run_verdict, bytes_after}
 use Rattle.definitions.specs.ReadingSearch.{Query, value_count, range_fits, search_verdict, searched_after, search_answer, search_cells}
-use Rattle.definitions.specs.Verdict.{Verdict, Accepted, Refused}
+use Rattle.definitions.specs.Verdict.{Accepted, Refused}
 use Rattle.definitions.specs.Refusals.{number_of, as_verdict, as_searched}
 use Rattle.definitions.specs.declared.refusals.Refusal.{Refusal}
 use Rattle.definitions.specs.Searched.{Searched}

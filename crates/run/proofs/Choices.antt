@@ -8,7 +8,7 @@ use native.Mathlib.Numerals.{sub-one}
 use lib.IntN.{ℤ, pos}
 use lib.ListN.{length, get_or, get_elem?}
 use lib.Dec.{ltb}
-use Rattle.std.specs.Prelude.{Result, Ok, Err, Some, None}
+use Rattle.std.specs.Prelude.{Ok, Err, Some, None}
 use Rattle.definitions.specs.Sizes.{most_nodes}
 use Rattle.definitions.specs.Numbers.{no_clause, no_field}
 use Rattle.definitions.specs.Bytes.{word}
