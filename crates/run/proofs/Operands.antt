@@ -14,7 +14,7 @@ use Rattle.definitions.specs.Operators.{computed}
 use Rattle.definitions.specs.Layouts.{nodes, node_record}
 use Rattle.definitions.specs.TranslationNodes.{TranslationNode, translation_node_of}
 use Rattle.definitions.specs.Rule as Rule
-use Rattle.definitions.specs.Rule.{Ending, Reached, reach, number_due, result_of, evaluated}
+use Rattle.definitions.specs.Rule.{Ending, Reached, value, integer, reach, number_due, result_of, evaluated}
 use Rattle.accepted.specs.Mention as Mention
 use Rattle.accepted.proofs.TranslationNames.{mention_below}
 use Rattle.live_counts.specs.declared.Counts.{Counts}
@@ -23,8 +23,8 @@ use Rattle.lent_rule.specs.Standing.{Inside}
 use Rattle.run.specs.NodeTable.{first_part, second_part, third_part}
 use Rattle.run.specs.Packed.{outcome_in}
 use Rattle.run.specs.States.{below, above, ending_of, reached_of, counted_state, visits, evaluates, NodeIs, Visitable, Evaluable, Visits, Evaluates}
-use Rattle.run.specs.GoingOn.{Chooses, a_select, a_conditional, a_case, number_of, goes_on, next_reached, OperandKnown, GoesOn, OperatorEnds}
-use Rattle.run.proofs.Endings.{number_goes, number_misses}
+use Rattle.run.specs.GoingOn.{Chooses, a_select, a_conditional, a_case, goes_on, next_reached, OperandKnown, GoesOn, OperatorEnds}
+use Rattle.run.proofs.Endings.{number_goes}
 use Rattle.run.proofs.NodeKinds.{is_select, is_operator, is_conditional, is_case_law}
 use Rattle.run.proofs.EntryReads.{plain_operator, first_read, second_read, third_read}
 use Rattle.run.proofs.Steps.{worked_out_law}
@@ -155,43 +155,59 @@ module _ {b tab : List ℕ} {t limits at : ℕ} {counts : Counts} {cells : MutBo
       }
 
 module _ {b tab : List ℕ} {t limits at : ℕ} {counts : Counts} {cells : MutBor (List ℕ)} {x : ℕ} {counts' : Counts} {cells' : MutBor (List ℕ)} where
-  -- a node that chooses: what it chooses by, and the visit that it goes on to, or its end
-  module _ {kind : ℕ} (v : OperandVisited b tab t limits at counts cells x counts' cells' kind (λ rs. choice b rs limits at kind)) where
-    pub choice_known : OperandKnown b tab at kind x
-    choice_known = record { equipped = v.node.equipped; node = v.node.node; most = counts'.most; inside = v.inside }
+  -- the operand that is visited first, once it was
+  pub choice_visited : {kind e k p : ℕ} → Asked b tab t limits at counts cells.now kind → Chooses kind → e ≡ get_or tab (below at) 0 → k ≡ first_part e
+      → (below p ≡ k) × (above p ≡ above at) → Visits b tab limits p counts cells x counts' cells'
+      → OperandVisited b tab t limits at counts cells x counts' cells' kind (λ rs. choice b rs limits at kind)
+  choice_visited a c f g q v = operand_visited (choice_awaits a c f g) q v
 
-    module _ {r : Result ℕ ℕ} (g : GoesOn b at kind x r) where
+  pub left_visited : {e k p : ℕ} → Asked b tab t limits at counts cells.now kinds.operator → e ≡ get_or tab (below at) 0 → k ≡ second_part e
+      → (below p ≡ k) × (above p ≡ above at) → Visits b tab limits p counts cells x counts' cells'
+      → OperandVisited b tab t limits at counts cells x counts' cells' kinds.operator (λ rs. operation b rs limits at)
+  left_visited a f g q v = operand_visited (left_awaits a f g) q v
+
+  -- a node that chooses: what it chooses by, and the visit that it goes on to, or its end
+  module _ {kind : ℕ} {e : Ending ℕ} (v : OperandVisited b tab t limits at counts cells x counts' cells' kind (λ rs. choice b rs limits at kind))
+      (f : ending_of (outcome_in x) ≡ e) where
+    pub choice_known : OperandKnown b tab at kind e
+    choice_known = record { equipped = v.node.equipped; node = v.node.node; most = counts'.most; inside = rw f at v.inside }
+
+    module _ {r : Result ℕ ℕ} (g : GoesOn b at kind e r) where
       chosen_next : (rs : List ℤ) → choice b rs limits at kind (ending_of (outcome_in x)) (counted_state counts' cells'.now)
           ≡ next_reached (visits b rs (above limits) (below limits)) r (counted_state counts' cells'.now)
-      chosen_next rs = g.same (visits b rs (above limits) (below limits)) (counted_state counts' cells'.now)
+      chosen_next rs = rw f (g.same (visits b rs (above limits) (below limits)) (counted_state counts' cells'.now))
 
       pub choice_visits : {p : ℕ} → r ≡ Ok p → Onward b tab t limits at counts cells counts' cells' (below p) (above p)
       unfolding next_reached
-      choice_visits e =
+      choice_visits h =
           record {
-            remains = remains_as v.remains (λ rs. chosen_next rs ∙ rw e refl);
-            there = g.there e;
-            written = g.written e v.inside v.remains.context.written;
+            remains = remains_as v.remains (λ rs. chosen_next rs ∙ rw h refl);
+            there = g.there h;
+            written = g.written h (rw f at v.inside) v.remains.context.written;
           }
 
       pub choice_ends : {y : ℕ} → r ≡ Err y → Evaluates b tab limits at counts cells y counts' cells'
       unfolding next_reached
-      choice_ends e = remains_ends (remains_as v.remains (λ rs. chosen_next rs ∙ rw e refl)) refl refl
+      choice_ends h = remains_ends (remains_as v.remains (λ rs. chosen_next rs ∙ rw h refl)) refl refl
 
-  -- an operator: its right operand after the left, and its end
-  module _ (v : OperandVisited b tab t limits at counts cells x counts' cells' kinds.operator (λ rs. operation b rs limits at)) where
-    pub left_missed : {y : ℕ} → Err (ending_of (outcome_in y)) ≡ number_of (ending_of (outcome_in x)) → Evaluates b tab limits at counts cells y counts' cells'
-    left_missed h = remains_ends (remains_as v.remains (λ rs. number_misses _ _ _ h)) refl refl
+  -- what the visit of an operand ended with ends its node, or another ending in its place
+  pub operand_ends : {kind y : ℕ} {d : List ℤ → Way} → OperandVisited b tab t limits at counts cells x counts' cells' kind d
+      → ((rs : List ℤ) (s : Rule.State Lent) → d rs (ending_of (outcome_in x)) s ≡ reach (ending_of (outcome_in y)) s)
+      → Evaluates b tab limits at counts cells y counts' cells'
+  operand_ends v h = remains_ends (remains_as v.remains (λ rs. h rs _)) refl refl
 
-    pub right_awaits : {i : ℤ} {e k : ℕ} → Ok i ≡ number_of (ending_of (outcome_in x)) → e ≡ get_or tab (below at) 0 → k ≡ third_part e
-        → Awaits b tab t limits at counts cells counts' cells' kinds.operator k (λ rs. result b rs limits at i)
-    right_awaits h ee ek =
-        let n = right_named v.node ee ek in
-        record { node = v.node; remains = remains_as v.remains (λ rs. number_goes _ _ _ h ∙ rw n.is refl); there = n.there }
+  -- an operator: its right operand after the left, and its result
+  pub right_awaits : {i : ℤ} {e k : ℕ} → OperandVisited b tab t limits at counts cells x counts' cells' kinds.operator (λ rs. operation b rs limits at)
+      → ending_of (outcome_in x) ≡ value (integer i) → e ≡ get_or tab (below at) 0 → k ≡ third_part e
+      → Awaits b tab t limits at counts cells counts' cells' kinds.operator k (λ rs. result b rs limits at i)
+  right_awaits v h ee ek =
+      let n = right_named v.node ee ek in
+      record { node = v.node; remains = remains_as v.remains (λ rs. number_goes _ _ h ∙ rw n.is refl); there = n.there }
 
-  pub operator_returned : {i u : ℤ} {e code y : ℕ}
+  pub operator_returned : {i j : ℤ} {e code y : ℕ}
       → OperandVisited b tab t limits at counts cells x counts' cells' kinds.operator (λ rs. result b rs limits at i)
-      → u ≡ i → e ≡ get_or tab (below at) 0 → code ≡ first_part e → OperatorEnds code u x y → Evaluates b tab limits at counts cells y counts' cells'
-  operator_returned v eu ee ec o =
+      → ending_of (outcome_in x) ≡ value (integer j) → e ≡ get_or tab (below at) 0 → code ≡ first_part e → OperatorEnds code i j y
+      → Evaluates b tab limits at counts cells y counts' cells'
+  operator_returned v h ee ec o =
       let c = first_read v.node.equipped v.node.node ee (λ q. omega (arith, q)) ec in
-      remains_ends (remains_as v.remains (λ rs. rw (← c, ← eu) (o.same _))) refl refl
+      operand_ends v (λ rs s. number_goes _ _ h ∙ rw (← c) (o.same s))

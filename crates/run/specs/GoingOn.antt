@@ -1,8 +1,8 @@
 -- What a visit does with the outcome of an operand.
 use Rattle.std.specs.Prelude.{◌≡◌, ℕ, ◌≤◌, ◌<◌, List, ℤ, cond, eqb, Result, Ok, Err}
-use Rattle.definitions.specs.Numbers.{number_wanted, constructor_wanted, no_clause}
+use Rattle.definitions.specs.Numbers.{no_clause}
 use Rattle.definitions.specs.TranslationKinds as kinds
-use Rattle.definitions.specs.Records.{kind_of, field}
+use Rattle.definitions.specs.Records.{field}
 use Rattle.definitions.specs.Operators.{computed, is_zero}
 use Rattle.definitions.specs.NodeFields.{clause_list, chosen}
 use Rattle.definitions.specs.Layouts.{nodes, node_record}
@@ -13,22 +13,6 @@ use Rattle.lent_rule.specs.Lent.{Lent}
 use Rattle.lent_rule.specs.Standing.{Inside}
 use Rattle.run.specs.Packed.{outcome_in}
 use Rattle.run.specs.States.{below, above, ending_of, Equipped, NodeIs}
-
--- the number, or the node and the context of the constructor, that an ending is where it is due; else the ending of the visit that it is due to
-unfoldable pub number_of : Ending ℕ → Result ℤ (Ending ℕ)
-number_of (Rule.value (Rule.integer z)) = Ok z
-number_of (Rule.value (Rule.constructor k w)) = Err (Rule.ended number_wanted)
-number_of (Rule.ended n) = Err (Rule.ended n)
-
-unfoldable pub constructor_of : Ending ℕ → Result (ℕ × ℕ) (Ending ℕ)
-constructor_of (Rule.value (Rule.integer z)) = Err (Rule.ended constructor_wanted)
-constructor_of (Rule.value (Rule.constructor k w)) = Ok (k, w)
-constructor_of (Rule.ended n) = Err (Rule.ended n)
-
--- what is due, or the ending of an outcome in one number
-abbrev pub due_of : {T : Type 0} → Result T ℕ → Result T (Ending ℕ)
-due_of (Ok v) = Ok v
-due_of (Err x) = Err (ending_of (outcome_in x))
 
 -- the kinds of nodes that choose the node to visit after that of their first field
 pub data Chooses : ℕ → Type 0 where
@@ -52,19 +36,19 @@ unfoldable pub next_reached : Visit ℕ Lent → Result ℕ ℕ → Rule.State L
 next_reached visit (Ok p) s = visit (below p) (above p) s
 next_reached visit (Err x) s = reach (ending_of (outcome_in x)) s
 
--- a node of a kind, of which an operand was visited, which returned x
-pub record OperandKnown (b tab : List ℕ) (at kind x : ℕ) : Type 0 where
+-- a node of a kind, of which an operand was visited, whose visit ended so
+pub record OperandKnown (b tab : List ℕ) (at kind : ℕ) (e : Ending ℕ) : Type 0 where
   pub equipped : Equipped b tab
   pub node : NodeIs b (node_record b (below at)) (below at) kind
   pub most : ℕ
-  pub inside : Inside b most (ending_of (outcome_in x))
+  pub inside : Inside b most e
 
 -- it goes on to a visit, or ends; and the visit is of a node, under a context of the cells written
-pub record GoesOn (b : List ℕ) (at kind x : ℕ) (r : Result ℕ ℕ) : Type 0 where
-  pub same : (visit : Visit ℕ Lent) (s : Rule.State Lent) → goes_on b at (ending_of (outcome_in x)) visit s kind ≡ next_reached visit r s
+pub record GoesOn (b : List ℕ) (at kind : ℕ) (e : Ending ℕ) (r : Result ℕ ℕ) : Type 0 where
+  pub same : (visit : Visit ℕ Lent) (s : Rule.State Lent) → goes_on b at e visit s kind ≡ next_reached visit r s
   pub there : {p : ℕ} → r ≡ Ok p → below p < nodes b
-  pub written : {p most : ℕ} → r ≡ Ok p → Inside b most (ending_of (outcome_in x)) → above at ≤ most → above p ≤ most
+  pub written : {p most : ℕ} → r ≡ Ok p → Inside b most e → above at ≤ most → above p ≤ most
 
--- how an operator ends, by its left operand and the outcome of its right one
-pub record OperatorEnds (code : ℕ) (x : ℤ) (right r : ℕ) : Type 0 where
-  pub same : (s : Rule.State Lent) → number_due (ending_of (outcome_in right)) s (λ y u. result_of (computed code x y) u) ≡ reach (ending_of (outcome_in r)) s
+-- how an operator ends, by its operands
+pub record OperatorEnds (code : ℕ) (x y : ℤ) (r : ℕ) : Type 0 where
+  pub same : (s : Rule.State Lent) → result_of (computed code x y) s ≡ reach (ending_of (outcome_in r)) s

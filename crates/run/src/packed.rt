@@ -49,7 +49,7 @@ pub(crate) fn is_value(x: u64) -> bool
 }
 
 // The outcome of a number.
-pub(crate) fn outcome_in(x: u64) -> Outcome
+fn outcome_in(x: u64) -> Outcome
     ensures { result ≡ outcome_in x }
 {
     match kind_in(x) {

@@ -9,7 +9,7 @@ use crate::going_on::{arm_taken, clause_chosen, field_selected, operated};
 use crate::look_up::{cell_in, listed};
 use crate::memory::{is_own, recall, remember};
 use crate::node_table::{Table, entry, first_in, kind_in, number_in, reading, second_in, third_in};
-use crate::packed::{is_value, outcome_in, packed};
+use crate::packed::{is_value, opened, packed};
 use crate::state::{Value, constructor, ended, number};
 use cells::cell::{add_cell, pair_of};
 use definitions::{numbers, translation_kinds};
@@ -119,8 +119,15 @@ fn visit_select(
 {
     let n = first_in(entry(tab, (at % 0x1_0000) as u16));
     let w = (at / 0x1_0000) as u16;
-    let x = visit(b, tab, cells, counts, limits, pair_of(n, w));
-    match field_selected(*b, tab, at, x) {
+    let tuple = visit(b, tab, cells, counts, limits, pair_of(n, w));
+    let state = opened(tuple, counts.left, counts.most);
+    let Ok(value) = state.outcome else {
+        return tuple;
+    };
+    let Value::Constructor { node, context } = value else {
+        return packed(ended(numbers::CONSTRUCTOR_WANTED));
+    };
+    match field_selected(*b, tab, at, (node, context)) {
         Ok(next) => visit(b, tab, cells, counts, limits, next),
         Err(end) => end,
     }
@@ -143,8 +150,8 @@ fn visit_operator(
     let w = (at / 0x1_0000) as u16;
     let n = second_in(entry(tab, k));
     let first = visit(b, tab, cells, counts, limits, pair_of(n, w));
-    let outcome = outcome_in(first);
-    let Ok(value) = outcome else {
+    let state = opened(first, counts.left, counts.most);
+    let Ok(value) = state.outcome else {
         return first;
     };
     let Value::Number(x) = value else {
@@ -152,7 +159,14 @@ fn visit_operator(
     };
     let m = third_in(entry(tab, k));
     let second = visit(b, tab, cells, counts, limits, pair_of(m, w));
-    operated(first_in(entry(tab, k)), x, second)
+    let state = opened(second, counts.left, counts.most);
+    let Ok(value) = state.outcome else {
+        return second;
+    };
+    let Value::Number(y) = value else {
+        return packed(ended(numbers::NUMBER_WANTED));
+    };
+    operated(first_in(entry(tab, k)), x, y)
 }
 
 // An if: the condition, and then the arm that it takes.
@@ -170,11 +184,16 @@ fn visit_conditional(
 {
     let n = first_in(entry(tab, (at % 0x1_0000) as u16));
     let w = (at / 0x1_0000) as u16;
-    let x = visit(b, tab, cells, counts, limits, pair_of(n, w));
-    match arm_taken(*b, tab, at, x) {
-        Ok(next) => visit(b, tab, cells, counts, limits, next),
-        Err(end) => end,
-    }
+    let condition = visit(b, tab, cells, counts, limits, pair_of(n, w));
+    let state = opened(condition, counts.left, counts.most);
+    let Ok(value) = state.outcome else {
+        return condition;
+    };
+    let Value::Number(z) = value else {
+        return packed(ended(numbers::NUMBER_WANTED));
+    };
+    let arm = arm_taken(*b, tab, at, z);
+    visit(b, tab, cells, counts, limits, arm)
 }
 
 // A case: the scrutinee, and then the clause that it chooses.
@@ -192,8 +211,15 @@ fn visit_case(
 {
     let n = first_in(entry(tab, (at % 0x1_0000) as u16));
     let w = (at / 0x1_0000) as u16;
-    let x = visit(b, tab, cells, counts, limits, pair_of(n, w));
-    match clause_chosen(*b, tab, at, x) {
+    let scrutinee = visit(b, tab, cells, counts, limits, pair_of(n, w));
+    let state = opened(scrutinee, counts.left, counts.most);
+    let Ok(value) = state.outcome else {
+        return scrutinee;
+    };
+    let Value::Constructor { node, context } = value else {
+        return packed(ended(numbers::CONSTRUCTOR_WANTED));
+    };
+    match clause_chosen(*b, tab, at, (node, context)) {
         Ok(next) => visit(b, tab, cells, counts, limits, next),
         Err(end) => end,
     }

@@ -1,15 +1,10 @@
 -- `run::going_on::clause_chosen` meets its contract: the first clause with the tag, where there is one.
-use Rattle.run.proofs.Choices.{tuple_room, case_misses, clause_found, clause_missed}
-use Rattle.run.proofs.Endings.{passed}
+use Rattle.run.proofs.Choices.{tuple_room, clause_found, clause_missed}
 use Rattle.run.proofs.EntryReads.{entry_room, clauses_fit}
 use Rattle.run.proofs.going_on.clause_chosen.Goals as goal
 
-pub returns-in_err-node : goal.returns-in_err-node
-returns-in_err-node c =
-    rw (passed c.from_residual.result c.in_err-node.field-0.0 c.from_residual.ensures.1) (case_misses c.requires c.in_err-node.ensures)
-
 pub entry-requires : goal.entry-requires
-entry-requires c = tuple_room c.requires c.in_ok-node.ensures
+entry-requires c = tuple_room c.requires
 
 pub entry-list-requires : goal.entry-list-requires
 entry-list-requires c = entry_room c.requires.equipped c.requires.node.below
@@ -19,10 +14,10 @@ clause-requires c = clauses_fit c.requires.equipped c.requires.node c.entry-list
 
 pub returns-in-Some : goal.returns-in-Some
 returns-in-Some c =
-    clause_found c.requires _ _ c.in_ok-node.ensures c.entry.ensures c.first_in-tag.ensures c.entry-list.ensures
+    clause_found c.requires _ _ c.entry.ensures c.first_in-tag.ensures c.entry-list.ensures
     c.second_in.ensures c.third_in.ensures c.clause.ensures c.found_at.ensures c.in-Some.is c.pair_of.ensures
 
 pub returns-in-None : goal.returns-in-None
 returns-in-None c =
-    clause_missed c.requires _ _ c.in_ok-node.ensures c.entry.ensures c.first_in-tag.ensures c.entry-list.ensures
+    clause_missed c.requires _ _ c.entry.ensures c.first_in-tag.ensures c.entry-list.ensures
     c.second_in.ensures c.third_in.ensures c.clause.ensures c.found_at.ensures c.in-None.is c.packed.ensures c.ended.ensures

@@ -9,11 +9,12 @@ use Rattle.run.proofs.SimpleSteps.{number_ends, reading_ends, tuple_ends}
 use Rattle.run.proofs.Visiting.{no_step_left, no_nesting_left, kind_asked, step_counted}
 use Rattle.run.proofs.CallSteps.{call_ends, live_below, body_due, body_asked, body_returned}
 use Rattle.run.proofs.Remains.{visit_asked, visit_returned}
-use Rattle.run.proofs.Operands.{choice_awaits, left_awaits, right_awaits, operand_asked, operand_visited}
-use Rattle.run.proofs.Operands.{choice_known, choice_visits, choice_ends, left_missed, operator_returned}
+use Rattle.run.proofs.Operands.{choice_awaits, left_awaits, right_awaits, operand_asked, operand_visited, choice_visited, left_visited, operand_ends}
+use Rattle.run.proofs.Operands.{choice_known, choice_visits, choice_ends, operator_returned}
+use Rattle.run.proofs.Choices.{select_misses, branch_misses, case_misses}
 use Rattle.run.proofs.FormalSteps.{formal_ends, cell_read, known_returned, formal_seeks, actual_missed, actual_asked, actual_returned}
 use Rattle.run.specs.GoingOn.{a_select, a_conditional, a_case}
-use Rattle.run.proofs.Endings.{number_taken, no_number, ended_number}
+use Rattle.run.proofs.Endings.{number_misses, number_taken, no_number, ended_number, constructor_taken, no_constructor, ended_constructor}
 use Rattle.run.proofs.visit.+visits.Goals as goal
 
 -- A visit meets its contract: the two stops, a step counted, and the function of the node's kind.
@@ -179,122 +180,161 @@ visit_operator-visit-first-requires t c =
 
 pub visit_operator-returns-in_default : goal.visit_operator-returns-in_default
 visit_operator-returns-in_default t c =
-    let awaits = left_awaits {cells = c.args.cells.now} (c.decreases, c.requires) c.entry.ensures c.second_in-n.ensures in
-    left_missed (operand_visited awaits c.pair_of.ensures c.visit-first.ensures) (ended_number _ c.outcome_in-outcome.ensures c.in_default.is)
+    let left = left_visited (c.decreases, c.requires) c.entry.ensures c.second_in-n.ensures c.pair_of.ensures c.visit-first.ensures in
+    operand_ends left (λ rs s. number_misses _ s _ (ended_number _ c.opened-state.ensures.0 c.in_default.is))
 
 pub visit_operator-returns-in_default-value : goal.visit_operator-returns-in_default-value
 visit_operator-returns-in_default-value t c =
-    let awaits = left_awaits {cells = c.args.cells.now} (c.decreases, c.requires) c.entry.ensures c.second_in-n.ensures in
-    left_missed (operand_visited awaits c.pair_of.ensures c.visit-first.ensures)
-    (no_number _ c.outcome_in-outcome.ensures c.in-Ok.is _ c.packed.ensures c.in_default-value.is c.ended.ensures)
+    let left = left_visited (c.decreases, c.requires) c.entry.ensures c.second_in-n.ensures c.pair_of.ensures c.visit-first.ensures in
+    operand_ends left (λ rs s. number_misses _ s _ (no_number _ c.opened-state.ensures.0 c.in-Ok.is _ c.packed.ensures c.in_default-value.is c.ended.ensures))
 
 pub visit_operator-entry-requires-2 : goal.visit_operator-entry-requires-2
 visit_operator-entry-requires-2 t c = node_room c.requires
 
 pub visit_operator-visit-second-requires : goal.visit_operator-visit-second-requires
 visit_operator-visit-second-requires t c =
-    let awaits = left_awaits {cells = c.args.cells.now} (c.decreases, c.requires) c.entry.ensures c.second_in-n.ensures in
-    let left = operand_visited awaits c.pair_of.ensures c.visit-first.ensures in
-    let taken = number_taken _ c.outcome_in-outcome.ensures c.in-Ok.is c.in-Number.is in
+    let left = left_visited (c.decreases, c.requires) c.entry.ensures c.second_in-n.ensures c.pair_of.ensures c.visit-first.ensures in
+    let taken = number_taken _ c.opened-state.ensures.0 c.in-Ok.is c.in-Number.is refl in
     operand_asked (right_awaits left taken c.entry-2.ensures c.third_in-m.ensures) c.pair_of-2.ensures
+
+pub visit_operator-returns-in_default-outcome : goal.visit_operator-returns-in_default-outcome
+visit_operator-returns-in_default-outcome t c =
+    let left = left_visited (c.decreases, c.requires) c.entry.ensures c.second_in-n.ensures c.pair_of.ensures c.visit-first.ensures in
+    let taken = number_taken _ c.opened-state.ensures.0 c.in-Ok.is c.in-Number.is refl in
+    let right = operand_visited (right_awaits left taken c.entry-2.ensures c.third_in-m.ensures) c.pair_of-2.ensures c.visit-second.ensures in
+    operand_ends right (λ rs s. number_misses _ s _ (ended_number _ c.opened-state-2.ensures.0 c.in_default-outcome.is))
+
+pub visit_operator-returns-in_default-value-2 : goal.visit_operator-returns-in_default-value-2
+visit_operator-returns-in_default-value-2 t c =
+    let left = left_visited (c.decreases, c.requires) c.entry.ensures c.second_in-n.ensures c.pair_of.ensures c.visit-first.ensures in
+    let taken = number_taken _ c.opened-state.ensures.0 c.in-Ok.is c.in-Number.is refl in
+    let right = operand_visited (right_awaits left taken c.entry-2.ensures c.third_in-m.ensures) c.pair_of-2.ensures c.visit-second.ensures in
+    operand_ends right
+    (λ rs s. number_misses _ s _ (no_number _ c.opened-state-2.ensures.0 c.in-Ok-outcome.is _ c.packed-in_default-value-2.ensures
+    c.in_default-value-2.is c.ended-in_default-value-2.ensures))
 
 pub visit_operator-entry-requires-3 : goal.visit_operator-entry-requires-3
 visit_operator-entry-requires-3 t c = node_room c.requires
 
 pub visit_operator-returns : goal.visit_operator-returns
 visit_operator-returns t c =
-    let awaits = left_awaits {cells = c.args.cells.now} (c.decreases, c.requires) c.entry.ensures c.second_in-n.ensures in
-    let left = operand_visited awaits c.pair_of.ensures c.visit-first.ensures in
-    let taken = number_taken _ c.outcome_in-outcome.ensures c.in-Ok.is c.in-Number.is in
+    let left = left_visited (c.decreases, c.requires) c.entry.ensures c.second_in-n.ensures c.pair_of.ensures c.visit-first.ensures in
+    let taken = number_taken _ c.opened-state.ensures.0 c.in-Ok.is c.in-Number.is (to_z-of_z w32 _ (record { sfits = search rules })) in
     let right = operand_visited (right_awaits left taken c.entry-2.ensures c.third_in-m.ensures) c.pair_of-2.ensures c.visit-second.ensures in
-    operator_returned right (to_z-of_z w32 _ (record { sfits = search rules })) c.entry-3.ensures c.first_in.ensures c.operated.ensures
+    let right_taken = number_taken _ c.opened-state-2.ensures.0 c.in-Ok-outcome.is c.in-Number-value.is (to_z-of_z w32 _ (record { sfits = search rules })) in
+    operator_returned right right_taken c.entry-3.ensures c.first_in.ensures c.operated.ensures
 
 -- A selection meets its contract: the tuple is visited, and then the field.
 pub visit_select-entry-requires : goal.visit_select-entry-requires
 visit_select-entry-requires t c = node_room c.requires
 
-pub visit_select-visit-x-requires : goal.visit_select-visit-x-requires
-visit_select-visit-x-requires t c =
+pub visit_select-visit-tuple-requires : goal.visit_select-visit-tuple-requires
+visit_select-visit-tuple-requires t c =
     operand_asked (choice_awaits {cells = c.args.cells.now} (c.decreases, c.requires) a_select c.entry.ensures c.first_in-n.ensures) c.pair_of.ensures
+
+pub visit_select-returns-in_default : goal.visit_select-returns-in_default
+visit_select-returns-in_default t c =
+    let operand = choice_visited (c.decreases, c.requires) a_select c.entry.ensures c.first_in-n.ensures c.pair_of.ensures c.visit-tuple.ensures in
+    choice_ends operand refl (select_misses (ended_constructor _ c.opened-state.ensures.0 c.in_default.is)) refl
+
+pub visit_select-returns-in_default-value : goal.visit_select-returns-in_default-value
+visit_select-returns-in_default-value t c =
+    let operand = choice_visited (c.decreases, c.requires) a_select c.entry.ensures c.first_in-n.ensures c.pair_of.ensures c.visit-tuple.ensures in
+    choice_ends operand refl (select_misses (no_constructor _ c.opened-state.ensures.0 c.in-Ok.is _ c.packed.ensures c.in_default-value.is c.ended.ensures)) refl
 
 pub visit_select-field_selected-requires : goal.visit_select-field_selected-requires
 visit_select-field_selected-requires t c =
-    let awaits = choice_awaits {cells = c.args.cells.now} (c.decreases, c.requires) a_select c.entry.ensures c.first_in-n.ensures in
-    choice_known (operand_visited awaits c.pair_of.ensures c.visit-x.ensures)
+    let operand = choice_visited (c.decreases, c.requires) a_select c.entry.ensures c.first_in-n.ensures c.pair_of.ensures c.visit-tuple.ensures in
+    choice_known operand (constructor_taken _ c.opened-state.ensures.0 c.in-Ok.is c.in-Constructor.is)
 
 pub visit_select-visit-requires : goal.visit_select-visit-requires
 visit_select-visit-requires t c =
-    let awaits = choice_awaits {cells = c.args.cells.now} (c.decreases, c.requires) a_select c.entry.ensures c.first_in-n.ensures in
-    let operand = operand_visited awaits c.pair_of.ensures c.visit-x.ensures in
-    visit_asked (choice_visits operand c.field_selected.ensures c.in-Ok.is) (refl, refl)
+    let operand = choice_visited (c.decreases, c.requires) a_select c.entry.ensures c.first_in-n.ensures c.pair_of.ensures c.visit-tuple.ensures in
+    let taken = constructor_taken _ c.opened-state.ensures.0 c.in-Ok.is c.in-Constructor.is in
+    visit_asked (choice_visits operand taken c.field_selected.ensures c.in-Ok-field_selected.is) (refl, refl)
 
-pub visit_select-returns-in-Ok : goal.visit_select-returns-in-Ok
-visit_select-returns-in-Ok t c =
-    let awaits = choice_awaits {cells = c.args.cells.now} (c.decreases, c.requires) a_select c.entry.ensures c.first_in-n.ensures in
-    let operand = operand_visited awaits c.pair_of.ensures c.visit-x.ensures in
-    visit_returned (choice_visits operand c.field_selected.ensures c.in-Ok.is) (refl, refl) c.visit.ensures
+pub visit_select-returns-in-Ok-field_selected : goal.visit_select-returns-in-Ok-field_selected
+visit_select-returns-in-Ok-field_selected t c =
+    let operand = choice_visited (c.decreases, c.requires) a_select c.entry.ensures c.first_in-n.ensures c.pair_of.ensures c.visit-tuple.ensures in
+    let taken = constructor_taken _ c.opened-state.ensures.0 c.in-Ok.is c.in-Constructor.is in
+    visit_returned (choice_visits operand taken c.field_selected.ensures c.in-Ok-field_selected.is) (refl, refl) c.visit.ensures
 
 pub visit_select-returns-in-Err : goal.visit_select-returns-in-Err
 visit_select-returns-in-Err t c =
-    let awaits = choice_awaits {cells = c.args.cells.now} (c.decreases, c.requires) a_select c.entry.ensures c.first_in-n.ensures in
-    choice_ends (operand_visited awaits c.pair_of.ensures c.visit-x.ensures) c.field_selected.ensures c.in-Err.is
+    let operand = choice_visited (c.decreases, c.requires) a_select c.entry.ensures c.first_in-n.ensures c.pair_of.ensures c.visit-tuple.ensures in
+    choice_ends operand (constructor_taken _ c.opened-state.ensures.0 c.in-Ok.is c.in-Constructor.is) c.field_selected.ensures c.in-Err.is
 
 -- An if meets its contract: the condition is visited, and then the arm.
 pub visit_conditional-entry-requires : goal.visit_conditional-entry-requires
 visit_conditional-entry-requires t c = node_room c.requires
 
-pub visit_conditional-visit-x-requires : goal.visit_conditional-visit-x-requires
-visit_conditional-visit-x-requires t c =
+pub visit_conditional-visit-condition-requires : goal.visit_conditional-visit-condition-requires
+visit_conditional-visit-condition-requires t c =
     operand_asked (choice_awaits {cells = c.args.cells.now} (c.decreases, c.requires) a_conditional c.entry.ensures c.first_in-n.ensures) c.pair_of.ensures
 
-pub visit_conditional-arm_taken-requires : goal.visit_conditional-arm_taken-requires
-visit_conditional-arm_taken-requires t c =
-    let awaits = choice_awaits {cells = c.args.cells.now} (c.decreases, c.requires) a_conditional c.entry.ensures c.first_in-n.ensures in
-    choice_known (operand_visited awaits c.pair_of.ensures c.visit-x.ensures)
+pub visit_conditional-returns-in_default : goal.visit_conditional-returns-in_default
+visit_conditional-returns-in_default t c =
+    let operand = choice_visited (c.decreases, c.requires) a_conditional c.entry.ensures c.first_in-n.ensures c.pair_of.ensures c.visit-condition.ensures in
+    choice_ends operand refl (branch_misses (ended_number _ c.opened-state.ensures.0 c.in_default.is)) refl
+
+pub visit_conditional-returns-in_default-value : goal.visit_conditional-returns-in_default-value
+visit_conditional-returns-in_default-value t c =
+    let operand = choice_visited (c.decreases, c.requires) a_conditional c.entry.ensures c.first_in-n.ensures c.pair_of.ensures c.visit-condition.ensures in
+    choice_ends operand refl (branch_misses (no_number _ c.opened-state.ensures.0 c.in-Ok.is _ c.packed.ensures c.in_default-value.is c.ended.ensures)) refl
+
+pub visit_conditional-arm_taken-arm-requires : goal.visit_conditional-arm_taken-arm-requires
+visit_conditional-arm_taken-arm-requires t c =
+    let operand = choice_visited (c.decreases, c.requires) a_conditional c.entry.ensures c.first_in-n.ensures c.pair_of.ensures c.visit-condition.ensures in
+    choice_known operand (number_taken _ c.opened-state.ensures.0 c.in-Ok.is c.in-Number.is (to_z-of_z w32 _ (record { sfits = search rules })))
 
 pub visit_conditional-visit-requires : goal.visit_conditional-visit-requires
 visit_conditional-visit-requires t c =
-    let awaits = choice_awaits {cells = c.args.cells.now} (c.decreases, c.requires) a_conditional c.entry.ensures c.first_in-n.ensures in
-    let operand = operand_visited awaits c.pair_of.ensures c.visit-x.ensures in
-    visit_asked (choice_visits operand c.arm_taken.ensures c.in-Ok.is) (refl, refl)
+    let operand = choice_visited (c.decreases, c.requires) a_conditional c.entry.ensures c.first_in-n.ensures c.pair_of.ensures c.visit-condition.ensures in
+    let taken = number_taken _ c.opened-state.ensures.0 c.in-Ok.is c.in-Number.is (to_z-of_z w32 _ (record { sfits = search rules })) in
+    visit_asked (choice_visits operand taken c.arm_taken-arm.ensures refl) (refl, refl)
 
-pub visit_conditional-returns-in-Ok : goal.visit_conditional-returns-in-Ok
-visit_conditional-returns-in-Ok t c =
-    let awaits = choice_awaits {cells = c.args.cells.now} (c.decreases, c.requires) a_conditional c.entry.ensures c.first_in-n.ensures in
-    let operand = operand_visited awaits c.pair_of.ensures c.visit-x.ensures in
-    visit_returned (choice_visits operand c.arm_taken.ensures c.in-Ok.is) (refl, refl) c.visit.ensures
-
-pub visit_conditional-returns-in-Err : goal.visit_conditional-returns-in-Err
-visit_conditional-returns-in-Err t c =
-    let awaits = choice_awaits {cells = c.args.cells.now} (c.decreases, c.requires) a_conditional c.entry.ensures c.first_in-n.ensures in
-    choice_ends (operand_visited awaits c.pair_of.ensures c.visit-x.ensures) c.arm_taken.ensures c.in-Err.is
+pub visit_conditional-returns : goal.visit_conditional-returns
+visit_conditional-returns t c =
+    let operand = choice_visited (c.decreases, c.requires) a_conditional c.entry.ensures c.first_in-n.ensures c.pair_of.ensures c.visit-condition.ensures in
+    let taken = number_taken _ c.opened-state.ensures.0 c.in-Ok.is c.in-Number.is (to_z-of_z w32 _ (record { sfits = search rules })) in
+    visit_returned (choice_visits operand taken c.arm_taken-arm.ensures refl) (refl, refl) c.visit.ensures
 
 -- A case meets its contract: the scrutinee is visited, and then the clause.
 pub visit_case-entry-requires : goal.visit_case-entry-requires
 visit_case-entry-requires t c = node_room c.requires
 
-pub visit_case-visit-x-requires : goal.visit_case-visit-x-requires
-visit_case-visit-x-requires t c =
+pub visit_case-visit-scrutinee-requires : goal.visit_case-visit-scrutinee-requires
+visit_case-visit-scrutinee-requires t c =
     operand_asked (choice_awaits {cells = c.args.cells.now} (c.decreases, c.requires) a_case c.entry.ensures c.first_in-n.ensures) c.pair_of.ensures
+
+pub visit_case-returns-in_default : goal.visit_case-returns-in_default
+visit_case-returns-in_default t c =
+    let operand = choice_visited (c.decreases, c.requires) a_case c.entry.ensures c.first_in-n.ensures c.pair_of.ensures c.visit-scrutinee.ensures in
+    choice_ends operand refl (case_misses (ended_constructor _ c.opened-state.ensures.0 c.in_default.is)) refl
+
+pub visit_case-returns-in_default-value : goal.visit_case-returns-in_default-value
+visit_case-returns-in_default-value t c =
+    let operand = choice_visited (c.decreases, c.requires) a_case c.entry.ensures c.first_in-n.ensures c.pair_of.ensures c.visit-scrutinee.ensures in
+    choice_ends operand refl (case_misses (no_constructor _ c.opened-state.ensures.0 c.in-Ok.is _ c.packed.ensures c.in_default-value.is c.ended.ensures)) refl
 
 pub visit_case-clause_chosen-requires : goal.visit_case-clause_chosen-requires
 visit_case-clause_chosen-requires t c =
-    let awaits = choice_awaits {cells = c.args.cells.now} (c.decreases, c.requires) a_case c.entry.ensures c.first_in-n.ensures in
-    choice_known (operand_visited awaits c.pair_of.ensures c.visit-x.ensures)
+    let operand = choice_visited (c.decreases, c.requires) a_case c.entry.ensures c.first_in-n.ensures c.pair_of.ensures c.visit-scrutinee.ensures in
+    choice_known operand (constructor_taken _ c.opened-state.ensures.0 c.in-Ok.is c.in-Constructor.is)
 
 pub visit_case-visit-requires : goal.visit_case-visit-requires
 visit_case-visit-requires t c =
-    let awaits = choice_awaits {cells = c.args.cells.now} (c.decreases, c.requires) a_case c.entry.ensures c.first_in-n.ensures in
-    let operand = operand_visited awaits c.pair_of.ensures c.visit-x.ensures in
-    visit_asked (choice_visits operand c.clause_chosen.ensures c.in-Ok.is) (refl, refl)
+    let operand = choice_visited (c.decreases, c.requires) a_case c.entry.ensures c.first_in-n.ensures c.pair_of.ensures c.visit-scrutinee.ensures in
+    let taken = constructor_taken _ c.opened-state.ensures.0 c.in-Ok.is c.in-Constructor.is in
+    visit_asked (choice_visits operand taken c.clause_chosen.ensures c.in-Ok-clause_chosen.is) (refl, refl)
 
-pub visit_case-returns-in-Ok : goal.visit_case-returns-in-Ok
-visit_case-returns-in-Ok t c =
-    let awaits = choice_awaits {cells = c.args.cells.now} (c.decreases, c.requires) a_case c.entry.ensures c.first_in-n.ensures in
-    let operand = operand_visited awaits c.pair_of.ensures c.visit-x.ensures in
-    visit_returned (choice_visits operand c.clause_chosen.ensures c.in-Ok.is) (refl, refl) c.visit.ensures
+pub visit_case-returns-in-Ok-clause_chosen : goal.visit_case-returns-in-Ok-clause_chosen
+visit_case-returns-in-Ok-clause_chosen t c =
+    let operand = choice_visited (c.decreases, c.requires) a_case c.entry.ensures c.first_in-n.ensures c.pair_of.ensures c.visit-scrutinee.ensures in
+    let taken = constructor_taken _ c.opened-state.ensures.0 c.in-Ok.is c.in-Constructor.is in
+    visit_returned (choice_visits operand taken c.clause_chosen.ensures c.in-Ok-clause_chosen.is) (refl, refl) c.visit.ensures
 
 pub visit_case-returns-in-Err : goal.visit_case-returns-in-Err
 visit_case-returns-in-Err t c =
-    let awaits = choice_awaits {cells = c.args.cells.now} (c.decreases, c.requires) a_case c.entry.ensures c.first_in-n.ensures in
-    choice_ends (operand_visited awaits c.pair_of.ensures c.visit-x.ensures) c.clause_chosen.ensures c.in-Err.is
+    let operand = choice_visited (c.decreases, c.requires) a_case c.entry.ensures c.first_in-n.ensures c.pair_of.ensures c.visit-scrutinee.ensures in
+    choice_ends operand (constructor_taken _ c.opened-state.ensures.0 c.in-Ok.is c.in-Constructor.is) c.clause_chosen.ensures c.in-Err.is
