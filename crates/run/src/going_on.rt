@@ -13,6 +13,7 @@ use definitions::numbers;
 use operators::compute;
 
 // A selection: index 0 is the tag, i is field i - 1 under the tuple's own context.
+#[inline(always)]
 pub(crate) fn field_selected(b: &[u8], tab: &Table, at: u32, tuple: (u16, u16)) -> Result<u32, u64>
     requires { OperandKnown b.now tab.now at kinds.select (value (constructor tuple.0 tuple.1)) }
     ensures { GoesOn b.now at kinds.select (value (constructor tuple.0 tuple.1)) result }
@@ -40,6 +41,7 @@ pub(crate) fn arm_taken(b: &[u8], tab: &Table, at: u32, z: i32) -> u32
 }
 
 // A case: the first clause with the tag, under the case's context.
+#[inline(always)]
 pub(crate) fn clause_chosen(
     b: &[u8],
     tab: &Table,
