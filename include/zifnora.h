@@ -10,9 +10,9 @@
  *
  * Stack: a run takes less than 124 KiB, for an owner or a hirer, on one row of readings or on several, in a search and in the joined
  * call, the other calls less than 32 KiB. These bounds are measured, not proved. `bench` measures on files that nest in each way in which
- * visits can nest, to 1,024 open visits, and prints for the archive as rattle-kit-13f builds it: a run 13,744 bytes, 112 more for each visit
- * that stays open, 123,672 at nesting 1,024, for an owner, for a hirer and on several rows; a search 13,776 and 123,640; the
- * joined call 30,112 and 123,736; translating 21,312; asking for a translation's length 18,640; writing a canonical form 18,512, however deep
+ * visits can nest, to 1,024 open visits, and prints for the archive as rattle-kit-13f builds it: a run 13,744 bytes, 96 more for each visit
+ * that stays open, 107,272 at nesting 1,024, for an owner, for a hirer and on several rows; a search 13,776 and 107,240; the
+ * joined call 30,112 and 107,336; translating 21,312; asking for a translation's length 18,640; writing a canonical form 18,512, however deep
  * the trees; listing a context 24, of one cell as of 960; a driver's view 0. Another build of the archive has to be measured again.
  */
 #ifndef ZIFNORA_H
